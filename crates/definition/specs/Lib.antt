@@ -1,0 +1,12 @@
+pub mod Rows
+pub mod Names
+pub mod Chart
+pub mod Tables
+pub mod Tree
+pub mod Rules
+pub mod Selection
+pub mod Microstep
+pub mod Follower
+pub mod Legal
+pub mod Compiled
+pub mod Marked
