@@ -151,13 +151,8 @@ unfoldable pub firstEffects : Chart → List Effect
 firstEffects c = entering c [] (firstEntry c) []
 
 unfoldable pub firstFollower : Chart → NameTable → Follower
-firstFollower c names = record {
-  configuration = (firstEntry c) .set;
-  history = noHistory c;
-  internal = flat (queued c names) (firstEffects c);
-  external = [];
-  mode = modeOf c ((firstEntry c) .set);
-}
+firstFollower c names =
+    record { configuration = (firstEntry c) .set; history = noHistory c; internal = flat (queued c names) (firstEffects c); external = []; mode = modeOf c ((firstEntry c) .set) }
 
 pub record Started : Type 0 where
   pub answer : Answer
@@ -184,13 +179,8 @@ postAnswer s name =
     cond (not (isName name)) NotAName (cond (isEnded (s .mode)) SessionEnded (cond (leb mostQueued (length (s .external))) Full Done))
 
 unfoldable pub withExternal : Follower → Name → Follower
-withExternal s name = record {
-  configuration = s .configuration;
-  history = s .history;
-  internal = s .internal;
-  external = s .external ++ (name ∷ []);
-  mode = s .mode;
-}
+withExternal s name =
+    record { configuration = s .configuration; history = s .history; internal = s .internal; external = s .external ++ (name ∷ []); mode = s .mode }
 
 unfoldable pub post : Follower → Name → Follower
 post s name = cond (eqb (answerNo (postAnswer s name)) 0) (withExternal s name) s
@@ -245,20 +235,16 @@ pub record Outcome : Type 0 where
   pub trace : List ℕ
   pub after : Follower
 
+unfoldable pub startedOutcome : Started → Outcome
+startedOutcome r = record { number = answerNo (r .answer); rounds = 0; trace = map traceNo (r .effects); after = r .follower }
+
+unfoldable pub ranOutcome : Ran → Outcome
+ranOutcome r = record { number = statusNo (r .status); rounds = r .rounds; trace = map traceNo (r .effects); after = r .follower }
+
 unfoldable pub follow : Chart → NameTable → Follower → Call → Outcome
-follow c names s (starts room) = record {
-  number = answerNo ((start c names room) .answer);
-  rounds = 0;
-  trace = map traceNo ((start c names room) .effects);
-  after = (start c names room) .follower;
-}
+follow c names s (starts room) = startedOutcome (start c names room)
 follow c names s (posts name) = record { number = answerNo (postAnswer s name); rounds = 0; trace = []; after = post s name }
-follow c names s (runs k room) = record {
-  number = statusNo ((run c names k s room) .status);
-  rounds = (run c names k s room) .rounds;
-  trace = map traceNo ((run c names k s room) .effects);
-  after = (run c names k s room) .follower;
-}
+follow c names s (runs k room) = ranOutcome (run c names k s room)
 
 unfoldable pub followAll : Chart → NameTable → Follower → List Call → List Outcome
 followAll c names s [] = []

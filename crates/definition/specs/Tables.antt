@@ -176,38 +176,20 @@ internalAt numbers t = eqb (transitionCell numbers t 4) 1
 unfoldable pub targetsAt : List ℕ → ℕ → List ℕ
 targetsAt numbers t = referencesAt numbers (transitionCell numbers t 5) (transitionCell numbers t 6)
 
-unfoldable pub effectsAt : List ℕ → ℕ → List Action
-effectsAt numbers t = blockAt numbers (transitionCell numbers t 7) (transitionCell numbers t 8)
+unfoldable pub transitionBlockAt : List ℕ → ℕ → List Action
+transitionBlockAt numbers t = blockAt numbers (transitionCell numbers t 7) (transitionCell numbers t 8)
 
 -- the chart that the numbers mean
 abbrev pub rowAt : List ℕ → ℕ → Row
-rowAt numbers i = record {
-  kind = kindAt numbers i;
-  parent = parentAt numbers i;
-  id = idAt numbers i;
-  entry = entryAt numbers i;
-  exit = exitAt numbers i;
-  list = listAt numbers i;
-  block = listBlockAt numbers i;
-}
+rowAt numbers i =
+    record { kind = kindAt numbers i; parent = parentAt numbers i; id = idAt numbers i; entry = entryAt numbers i; exit = exitAt numbers i; list = listAt numbers i; block = listBlockAt numbers i }
 
 abbrev pub transitionAt : List ℕ → ℕ → Transition
-transitionAt numbers t = record {
-  source = sourceAt numbers t;
-  descriptors = eventsAt numbers t;
-  condition = conditionAt numbers t;
-  internal = internalAt numbers t;
-  targets = targetsAt numbers t;
-  block = effectsAt numbers t;
-}
+transitionAt numbers t =
+    record { source = sourceAt numbers t; descriptors = eventsAt numbers t; condition = conditionAt numbers t; internal = internalAt numbers t; targets = targetsAt numbers t; block = transitionBlockAt numbers t }
 
 abbrev pub chartOf : List ℕ → Chart
-chartOf numbers = record {
-  rows = rowCount numbers;
-  row = rowAt numbers;
-  transitions = transitionCount numbers;
-  transition = transitionAt numbers;
-}
+chartOf numbers = record { rows = rowCount numbers; row = rowAt numbers; transitions = transitionCount numbers; transition = transitionAt numbers }
 
 -- ---- names
 

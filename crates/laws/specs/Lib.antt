@@ -1,0 +1,5 @@
+pub mod Bools
+pub mod Sets
+pub mod Lists
+pub mod Passes
+pub mod Ways

@@ -1,0 +1,159 @@
+-- Tests over lists, read as facts.
+use mathlib.Core.Path.{_≡_, refl, ap, sym, _∙_, subst}
+use mathlib.Core.Bool.{Bool, true, false, not, _&&_, _||_, cond}
+use mathlib.Core.List.{List, [], _∷_, _++_}
+use mathlib.Core.Option.{Option, none, some}
+use mathlib.Core.Logic.{_⊎_, inl, inr, ⊎-elim}
+use Prim.Native.Nat.{ℕ, zero, suc, _+_, _<_, _≤_}
+use native.Mathlib.Omega.{arith}
+use lib.Dec.{eqb}
+use borrow.Author.Tests.{eqb-true, eqb-false, eq-eqb, ne-eqb, not-true}
+use Rattle.definition.specs.Rows.{mem, isIn, intersection, minus, any, all, isEmpty, flat, first, keep, those, meets, subset, same, isSet}
+use Rattle.laws.specs.Bools.{no, clash, bool-case, or-elim, or-left, or-right, not-so, and-left, and-right, and-true}
+use Rattle.laws.specs.Sets.{mem-keep, mem-head, mem-intersection, mem-minus, empty-none, empty-some}
+
+pub mem-tail : (x a : ℕ) (xs : List ℕ) → mem a xs ≡ true → mem a (x ∷ xs) ≡ true
+unfolding mem any all flat first
+mem-tail x a xs h = or-right (eqb a x) (mem a xs) h
+
+pub mem-cases {ℓ} : {A : Type ℓ} (a x : ℕ) (xs : List ℕ) → (a ≡ x → A) → (mem a xs ≡ true → A) → mem a (x ∷ xs) ≡ true → A
+unfolding mem any all flat first
+mem-cases a x xs f g h = or-elim (eqb a x) (mem a xs) (λ e. f (eqb-true a x e)) g h
+
+pub any-true : (p : ℕ → Bool) (xs : List ℕ) → any p xs ≡ true → (x : ℕ) × (mem x xs ≡ true) × (p x ≡ true)
+unfolding mem any all flat first
+any-true p [] h = absurd (no h)
+any-true p (x ∷ xs) h =
+    or-elim (p x) (any p xs) (λ e. (x, mem-head x xs, e))
+    (λ e. let r : (x : ℕ) × (mem x xs ≡ true) × (p x ≡ true) = any-true p xs e in (r .0, mem-tail x (r .0) xs (r .1), r .2)) h
+
+pub any-mem : (p : ℕ → Bool) (xs : List ℕ) (x : ℕ) → mem x xs ≡ true → p x ≡ true → any p xs ≡ true
+unfolding mem any all flat first
+any-mem p [] x h q = h
+any-mem p (y ∷ ys) x h q =
+    mem-cases x y ys (λ e. or-left (p y) (any p ys) (rw (← e) q)) (λ e. or-right (p y) (any p ys) (any-mem p ys x e q)) h
+
+pub all-mem : (p : ℕ → Bool) (xs : List ℕ) → all p xs ≡ true → (x : ℕ) → mem x xs ≡ true → p x ≡ true
+unfolding mem any all flat first
+all-mem p [] h x m = absurd (no m)
+all-mem p (y ∷ ys) h x m =
+    mem-cases x y ys (λ e. rw e (and-left (p y) (all p ys) h)) (λ e. all-mem p ys (and-right (p y) (all p ys) h) x e) m
+
+pub mem-all : (p : ℕ → Bool) (xs : List ℕ) → ((x : ℕ) → mem x xs ≡ true → p x ≡ true) → all p xs ≡ true
+unfolding mem any all flat first
+mem-all p [] f = refl
+mem-all p (x ∷ xs) f = and-true (p x) (all p xs) (f x (mem-head x xs)) (mem-all p xs (λ y m. f y (mem-tail x y xs m)))
+
+pub mem-app : (a : ℕ) (xs ys : List ℕ) → mem a (xs ++ ys) ≡ (mem a xs || mem a ys)
+unfolding mem any all flat first
+mem-app a [] ys = refl
+mem-app a (x ∷ xs) ys = go (eqb a x) (mem-app a xs ys)
+  where
+    go : (b : Bool) → mem a (xs ++ ys) ≡ (mem a xs || mem a ys) → (b || mem a (xs ++ ys)) ≡ ((b || mem a xs) || mem a ys)
+    go true e = refl
+    go false e = e
+
+pub flat-mem : (f : ℕ → List ℕ) (xs : List ℕ) (a : ℕ) → mem a (flat f xs) ≡ true → (x : ℕ) × (mem x xs ≡ true) × (mem a (f x) ≡ true)
+unfolding mem any all flat first
+flat-mem f [] a h = absurd (no h)
+flat-mem f (x ∷ xs) a h =
+    or-elim (mem a (f x)) (mem a (flat f xs)) (λ e. (x, mem-head x xs, e))
+    (λ e. let r : (x : ℕ) × (mem x xs ≡ true) × (mem a (f x) ≡ true) = flat-mem f xs a e in (r .0, mem-tail x (r .0) xs (r .1), r .2))
+    (sym (mem-app a (f x) (flat f xs)) ∙ h)
+
+pub mem-flat : (f : ℕ → List ℕ) (xs : List ℕ) (x a : ℕ) → mem x xs ≡ true → mem a (f x) ≡ true → mem a (flat f xs) ≡ true
+unfolding mem any all flat first
+mem-flat f [] x a h q = absurd (no h)
+mem-flat f (y ∷ ys) x a h q =
+    mem-app a (f y) (flat f ys) ∙
+    mem-cases x y ys (λ e. or-left (mem a (f y)) (mem a (flat f ys)) (rw (← e) q))
+    (λ e. or-right (mem a (f y)) (mem a (flat f ys)) (mem-flat f ys x a e q)) h
+
+pub first-step : (p : ℕ → Bool) (x : ℕ) (xs : List ℕ) (b : Bool) (y : ℕ) → p x ≡ b → (first p xs ≡ some y → (mem y xs ≡ true) × (p y ≡ true)) →
+    cond b (some x) (first p xs) ≡ some y → (mem y (x ∷ xs) ≡ true) × (p y ≡ true)
+unfolding mem any all flat first
+first-step p x xs true y e ih h = let q : x ≡ y = cc in (rw (← q) (mem-head x xs), rw (← q) e)
+first-step p x xs false y e ih h = let r : (mem y xs ≡ true) × (p y ≡ true) = ih h in (mem-tail x y xs (r .0), r .1)
+
+pub first-some : (p : ℕ → Bool) (xs : List ℕ) (y : ℕ) → first p xs ≡ some y → (mem y xs ≡ true) × (p y ≡ true)
+unfolding mem any all flat first
+first-some p [] y h = let z : _≡_ {A = ℕ} 0 1 = cc in absurd (omega arith)
+first-some p (x ∷ xs) y h = first-step p x xs (p x) y refl (first-some p xs y) h
+
+pub full-mem : (xs : List ℕ) → isEmpty xs ≡ false → (a : ℕ) × (mem a xs ≡ true)
+unfolding isEmpty
+full-mem [] h = absurd (no (sym h))
+full-mem (x ∷ xs) h = (x, mem-head x xs)
+
+pub keep-mem : (p : ℕ → Bool) (xs : List ℕ) (a : ℕ) → mem a (keep p xs) ≡ true → (mem a xs ≡ true) × (p a ≡ true)
+keep-mem p xs a h =
+    let k : (mem a xs && p a) ≡ true = sym (mem-keep p a xs) ∙ h in
+    (and-left (mem a xs) (p a) k, and-right (mem a xs) (p a) k)
+
+pub mem-kept : (p : ℕ → Bool) (xs : List ℕ) (a : ℕ) → mem a xs ≡ true → p a ≡ true → mem a (keep p xs) ≡ true
+mem-kept p xs a m q = mem-keep p a xs ∙ and-true (mem a xs) (p a) m q
+
+-- no common element
+pub meets-none : (xs ys : List ℕ) → meets xs ys ≡ false → (a : ℕ) → mem a xs ≡ true → mem a ys ≡ true → ⊥
+unfolding meets
+meets-none xs ys h a m n =
+    no (sym (h) ∙ rw (empty-some (intersection xs ys) a (mem-intersection a xs ys ∙ and-true (mem a xs) (mem a ys) m n)))
+
+pub none-meets : (xs ys : List ℕ) → ((a : ℕ) → mem a xs ≡ true → mem a ys ≡ true → ⊥) → meets xs ys ≡ false
+unfolding meets
+none-meets xs ys f =
+    rw (empty-none (intersection xs ys) (λ a. not-so (mem a (intersection xs ys)) (λ e.
+    let k : (mem a xs && mem a ys) ≡ true = sym (mem-intersection a xs ys) ∙ e in
+    f a (and-left (mem a xs) (mem a ys) k) (and-right (mem a xs) (mem a ys) k))))
+
+pub meets-some : (xs ys : List ℕ) → meets xs ys ≡ true → (a : ℕ) × (mem a xs ≡ true) × (mem a ys ≡ true)
+unfolding meets
+meets-some xs ys h =
+    let r = full-mem (intersection xs ys) (not-true _ h) in
+    let k : (mem (r .0) xs && mem (r .0) ys) ≡ true = sym (mem-intersection (r .0) xs ys) ∙ r .1 in
+    (r .0, and-left (mem (r .0) xs) (mem (r .0) ys) k, and-right (mem (r .0) xs) (mem (r .0) ys) k)
+
+pub some-meets : (xs ys : List ℕ) (a : ℕ) → mem a xs ≡ true → mem a ys ≡ true → meets xs ys ≡ true
+unfolding meets
+some-meets xs ys a m n = rw (empty-some (intersection xs ys) a (mem-intersection a xs ys ∙ and-true (mem a xs) (mem a ys) m n))
+
+pub meets-swap : (xs ys : List ℕ) → meets xs ys ≡ false → meets ys xs ≡ false
+meets-swap xs ys h = none-meets ys xs (λ a m n. meets-none xs ys h a n m)
+
+-- every element of the first is one of the second
+pub subset-mem : (xs ys : List ℕ) → subset xs ys ≡ true → (a : ℕ) → mem a xs ≡ true → mem a ys ≡ true
+unfolding subset
+subset-mem xs ys h a m =
+    bool-case (mem a ys) (λ e. e)
+    (λ e. absurd (clash (isEmpty (minus xs ys)) h (empty-some (minus xs ys) a (mem-minus a xs ys ∙ and-true (mem a xs) (not (mem a ys)) m (rw e)))))
+
+pub mem-subset : (xs ys : List ℕ) → ((a : ℕ) → mem a xs ≡ true → mem a ys ≡ true) → subset xs ys ≡ true
+unfolding subset
+mem-subset xs ys f =
+    empty-none (minus xs ys) (λ a. not-so (mem a (minus xs ys)) (λ e.
+    let k : (mem a xs && not (mem a ys)) ≡ true = sym (mem-minus a xs ys) ∙ e in
+    clash (mem a ys) (f a (and-left (mem a xs) (not (mem a ys)) k)) (not-true _ (and-right (mem a xs) (not (mem a ys)) k))))
+
+-- equal lists, by their test
+pub same-eq : (xs ys : List ℕ) → same xs ys ≡ true → xs ≡ ys
+unfolding same
+same-eq [] [] h = refl
+same-eq [] (y ∷ ys) h = absurd (no h)
+same-eq (x ∷ xs) [] h = absurd (no h)
+same-eq (x ∷ xs) (y ∷ ys) h =
+    let p : x ≡ y = eqb-true x y (and-left (eqb x y) (same xs ys) h) in
+    let q : xs ≡ ys = same-eq xs ys (and-right (eqb x y) (same xs ys) h) in
+    cc
+
+pub same-self : (xs : List ℕ) → same xs xs ≡ true
+unfolding same
+same-self [] = refl
+same-self (x ∷ xs) = rw (eq-eqb x x refl) (same-self xs)
+
+pub set-eq : (n : ℕ) (xs : List ℕ) → isSet n xs ≡ true → xs ≡ those n (isIn xs)
+unfolding isSet
+set-eq n xs h = same-eq xs (those n (isIn xs)) h
+
+pub eq-set : (n : ℕ) (xs : List ℕ) → xs ≡ those n (isIn xs) → isSet n xs ≡ true
+unfolding isSet
+eq-set n xs e = ap (same xs) (sym e) ∙ same-self xs
