@@ -157,3 +157,37 @@ set-eq n xs h = same-eq xs (those n (isIn xs)) h
 pub eq-set : (n : ℕ) (xs : List ℕ) → xs ≡ those n (isIn xs) → isSet n xs ≡ true
 unfolding isSet
 eq-set n xs e = ap (same xs) (sym e) ∙ same-self xs
+
+-- each element stands so to every later one
+abbrev pub Pairs : (ℕ → ℕ → Type 0) → List ℕ → Type 0
+Pairs R [] = Unit {0}
+Pairs R (x ∷ xs) = ((y : ℕ) → mem y xs ≡ true → R x y) × Pairs R xs
+
+module _ (R : ℕ → ℕ → Type 0) where
+  pub pairs-keep : (p : ℕ → Bool) (xs : List ℕ) → Pairs R xs → Pairs R (keep p xs)
+  pairs-keep p [] h = tt
+  pairs-keep p (x ∷ xs) h = go (p x) (pairs-keep p xs (h .1))
+    where
+      go : (b : Bool) → Pairs R (keep p xs) → Pairs R (cond b (x ∷ keep p xs) (keep p xs))
+      go true k = ((λ y m. h .0 y (keep-mem p xs y m .0)), k)
+      go false k = k
+
+  pub pairs-last : (xs : List ℕ) (t : ℕ) → Pairs R xs → ((y : ℕ) → mem y xs ≡ true → R y t) → Pairs R (xs ++ (t ∷ []))
+  unfolding mem
+  pairs-last [] t h f = ((λ y m. absurd (no m)), tt)
+  pairs-last (x ∷ xs) t h f = (
+    (λ y m. or-elim (mem y xs) (mem y (t ∷ [])) (λ k. h .0 y k)
+        (λ k. mem-cases y t [] (λ e. rw e (f x (mem-head x xs))) (λ e. absurd (no e)) k)
+        (sym (mem-app y xs (t ∷ [])) ∙ m)),
+    pairs-last xs t (h .1) (λ y m. f y (mem-tail x y xs m)),
+  )
+
+  -- the same of any two different elements, where R goes both ways
+  pub pairs-both : ((x y : ℕ) → R x y → R y x) → (xs : List ℕ) → Pairs R xs → (a b : ℕ) → mem a xs ≡ true → mem b xs ≡ true → (a ≡ b → ⊥) → R a b
+  unfolding mem
+  pairs-both s [] h a b m n d = absurd (no m)
+  pairs-both s (x ∷ xs) h a b m n d =
+      mem-cases a x xs
+      (λ e. mem-cases b x xs (λ e′. absurd (d (e ∙ sym e′))) (λ n′. rw e (h .0 b n′)) n)
+      (λ m′. mem-cases b x xs (λ e′. rw e′ (s x a (h .0 a m′))) (λ n′. pairs-both s xs (h .1) a b m′ n′ d) n)
+      m

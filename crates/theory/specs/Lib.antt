@@ -1,2 +1,4 @@
 pub mod Open
 pub mod MarkedRuns
+pub mod Tree
+pub mod Fork
