@@ -10,3 +10,4 @@ pub mod Follower
 pub mod Legal
 pub mod Compiled
 pub mod Marked
+pub mod Open

@@ -1,4 +1,3 @@
-pub mod Open
 pub mod MarkedRuns
 pub mod Tree
 pub mod Fork

@@ -1,21 +1,34 @@
--- The eight marked runs, by computation.
+-- The eight marked runs, together as one table, by computation.
 use mathlib.Core.Path.{_≡_, refl}
 use mathlib.Core.Bool.{Bool, true, false, _&&_}
 use mathlib.Core.List.{List, [], _∷_}
 use Prim.Native.Nat.{ℕ}
-use lib.Dec.{eqb}
-use borrow.Author.Tests.{eqb-true}
 use Rattle.definition.specs.Rows.{same}
 use Rattle.definition.specs.Marked.{marked, expected}
-use Rattle.theory.specs.Open.{everything}
+use Rattle.definition.specs.Open.{everything}
+use Rattle.laws.specs.Bools.{no, and-left, and-right}
+use Rattle.laws.specs.Lists.{same-eq}
 
 -- the two tables are alike, row by row
-unfoldable pub alike : List (List ℕ) → List (List ℕ) → Bool
+unfoldable alike : List (List ℕ) → List (List ℕ) → Bool
 alike [] [] = true
 alike [] (y ∷ ys) = false
 alike (x ∷ xs) [] = false
 alike (x ∷ xs) (y ∷ ys) = same x y && alike xs ys
 
+alike-eq : (xs ys : List (List ℕ)) → alike xs ys ≡ true → xs ≡ ys
+unfolding alike
+alike-eq [] [] h = refl
+alike-eq [] (y ∷ ys) h = absurd (no h)
+alike-eq (x ∷ xs) [] h = absurd (no h)
+alike-eq (x ∷ xs) (y ∷ ys) h =
+    let p : x ≡ y = same-eq x y (and-left (same x y) (alike xs ys) h) in
+    let q : xs ≡ ys = alike-eq xs ys (and-right (same x y) (alike xs ys) h) in
+    cc
+
 computed : alike marked expected ≡ true
 unfolding everything alike
 computed = refl
+
+pub marked-runs : marked ≡ expected
+marked-runs = alike-eq marked expected computed

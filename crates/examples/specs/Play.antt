@@ -1,0 +1,58 @@
+-- What the definitions give for a chart and a list of calls, as lists of numbers that a theorem can compare.
+use mathlib.Core.Bool.{Bool, true, false, _&&_, cond}
+use mathlib.Core.List.{List, [], _∷_, _++_}
+use Prim.Native.Nat.{ℕ, zero, suc}
+use lib.Dec.{eqb}
+use lib.ListN.{length, drop}
+use Rattle.definition.specs.Rows.{same, flat}
+use Rattle.definition.specs.Names.{Name}
+use Rattle.definition.specs.Tables.{chartOf, nameAt}
+use Rattle.definition.specs.Rules.{keepsRules}
+use Rattle.definition.specs.Follower.{answerNo, modeNo, Follower, endedFollower, Call, Outcome, followAll}
+use Rattle.definition.specs.Legal.{isWellFormed}
+use Rattle.definition.specs.Compiled.{compiled}
+
+-- slots one after the other
+unfoldable pub joined : List (List ℕ) → List ℕ
+joined [] = []
+joined (x ∷ xs) = x ++ joined xs
+
+-- for each row with something stored: its number, how many rows, the rows
+unfoldable pub historyShown : ℕ → List (List ℕ) → List ℕ
+historyShown h [] = []
+historyShown h ([] ∷ sets) = historyShown (suc h) sets
+historyShown h ((x ∷ xs) ∷ sets) = h ∷ length (x ∷ xs) ∷ ((x ∷ xs) ++ historyShown (suc h) sets)
+
+-- for each name: how many bytes, the bytes
+unfoldable pub queueShown : List Name → List ℕ
+queueShown [] = []
+queueShown (n ∷ ns) = length n ∷ (n ++ queueShown ns)
+
+unfoldable pub shown : Outcome → List (List ℕ)
+shown o =
+    (o .number ∷ o .rounds ∷ []) ∷ o .trace ∷ (o .after .configuration) ∷ historyShown 0 (o .after .history) ∷
+    queueShown (o .after .internal) ∷ queueShown (o .after .external) ∷ (modeNo (o .after .mode) ∷ []) ∷ []
+
+-- a refused chart is not played
+unfoldable pub playedIf : ℕ → List ℕ → List ℕ → List Call → List (List ℕ)
+playedIf zero numbers names calls = flat shown (followAll (chartOf numbers) (nameAt names) (endedFollower (chartOf numbers)) calls)
+playedIf (suc n) numbers names calls = []
+
+-- the verdict, then seven lists for each call
+unfoldable pub played : List ℕ → List ℕ → List Call → List (List ℕ)
+played numbers names calls =
+    (answerNo (keepsRules numbers names) ∷ []) ∷ playedIf (answerNo (keepsRules numbers names)) numbers names calls
+
+-- the words behind the numbers of the compiled chart
+unfoldable pub compiledSets : List ℕ → List ℕ
+compiledSets numbers = drop (length numbers) (compiled numbers)
+
+-- is this a well-formed session of the chart
+unfoldable pub fits : List ℕ → Follower → Bool
+fits numbers s = isWellFormed (chartOf numbers) s
+
+unfoldable pub alike : List (List ℕ) → List (List ℕ) → Bool
+alike [] [] = true
+alike [] (y ∷ ys) = false
+alike (x ∷ xs) [] = false
+alike (x ∷ xs) (y ∷ ys) = same x y && alike xs ys
