@@ -1,20 +1,13 @@
--- The eight marked runs, together as one table, by computation.
+-- The eight marked runs, together as one table.
 use mathlib.Core.Path.{_≡_, refl}
 use mathlib.Core.Bool.{Bool, true, false, _&&_}
 use mathlib.Core.List.{List, [], _∷_}
 use Prim.Native.Nat.{ℕ}
 use Rattle.definition.specs.Rows.{same}
 use Rattle.definition.specs.Marked.{marked, expected}
-use Rattle.definition.specs.Open.{everything}
+use Rattle.definition.specs.MarkedRuns.{alike, marked-alike}
 use Rattle.laws.specs.Bools.{no, and-left, and-right}
 use Rattle.laws.specs.Lists.{same-eq}
-
--- the two tables are alike, row by row
-unfoldable alike : List (List ℕ) → List (List ℕ) → Bool
-alike [] [] = true
-alike [] (y ∷ ys) = false
-alike (x ∷ xs) [] = false
-alike (x ∷ xs) (y ∷ ys) = same x y && alike xs ys
 
 alike-eq : (xs ys : List (List ℕ)) → alike xs ys ≡ true → xs ≡ ys
 unfolding alike
@@ -26,9 +19,5 @@ alike-eq (x ∷ xs) (y ∷ ys) h =
     let q : xs ≡ ys = alike-eq xs ys (and-right (same x y) (alike xs ys) h) in
     cc
 
-computed : alike marked expected ≡ true
-unfolding everything alike
-computed = refl
-
 pub marked-runs : marked ≡ expected
-marked-runs = alike-eq marked expected computed
+marked-runs = alike-eq marked expected marked-alike
