@@ -91,9 +91,9 @@ noRow k = getD (3 ∷ 0 ∷ noNumber ∷ []) k 0
 unfoldable pub rowCell : List ℕ → ℕ → ℕ → ℕ
 rowCell numbers i k = cond (ltb i (rowCount numbers)) (getD numbers (6 + i * 11 + k) 0) (noRow k)
 
--- columns of a transition: 0 source, 1 and 2 descriptors, 3 condition, 4 type, 5 and 6 targets, 7 and 8 block
+-- columns of a transition: 0 source, 1 and 2 descriptors, 3 condition, 4 type, 5 and 6 targets, 7 and 8 block; all 0 past the count
 unfoldable pub transitionCell : List ℕ → ℕ → ℕ → ℕ
-transitionCell numbers t k = getD numbers (transitionBase numbers + t * 9 + k) 0
+transitionCell numbers t k = cond (ltb t (transitionCount numbers)) (getD numbers (transitionBase numbers + t * 9 + k) 0) 0
 
 unfoldable pub referenceCell : List ℕ → ℕ → ℕ
 referenceCell numbers k = getD numbers (referenceBase numbers + k) 0
