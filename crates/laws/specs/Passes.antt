@@ -6,7 +6,25 @@ use native.Mathlib.Numerals.{add-one}
 use native.Mathlib.Omega.{arith}
 use lib.ListN.{length, getD, drop}
 use lib.Seq.{drop-cons}
-use Rattle.definition.specs.Rows.{from, fold}
+use mathlib.Core.Bool.{true}
+use Rattle.definition.specs.Rows.{from, fold, mem}
+use Rattle.laws.specs.Sets.{mem-head}
+use Rattle.laws.specs.Lists.{mem-tail}
+
+-- what each turn keeps, the pass keeps
+pub fold-keeps {ℓ} : {A : Type 0} (f : A → ℕ → A) (P : A → Type ℓ) (xs : List ℕ) (a : A) → ((x : ℕ) (b : A) → mem x xs ≡ true → P b → P (f b x)) → P a → P (fold f a xs)
+unfolding fold
+fold-keeps f P [] a h p = p
+fold-keeps f P (x ∷ xs) a h p = fold-keeps f P xs (f a x) (λ y b m. h y b (mem-tail x y xs m)) (h x a (mem-head x xs) p)
+
+-- the same over n numbers from i on, where what is kept may speak of the number whose turn comes
+pub count-keeps {ℓ} : {A : Type 0} (f : A → ℕ → A) (P : ℕ → A → Type ℓ) (n i : ℕ) (a : A) → ((j : ℕ) (b : A) → i ≤ j → j < i + n → P j b → P (suc j) (f b j)) →
+    P i a → P (i + n) (fold f a (from n i))
+unfolding fold from
+count-keeps f P zero i a h p = let e : i ≡ i + 0 = omega arith in rw (← e) p
+count-keeps f P (suc n) i a h p =
+    let e : suc i + n ≡ i + suc n = omega arith in
+    rw (← e) (count-keeps f P n (suc i) (f a i) (λ j b l u q. h j b (omega arith) (omega arith) q) (h i a (omega arith) (omega arith) p))
 
 pub drop-end : (i : ℕ) (xs : List ℕ) → length xs ≤ i → drop i xs ≡ []
 drop-end zero [] l = refl

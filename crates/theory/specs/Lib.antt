@@ -1,3 +1,9 @@
 pub mod MarkedRuns
 pub mod Tree
 pub mod Fork
+pub mod Entry
+pub mod Unions
+pub mod Accepted
+pub mod Disjoint
+pub mod Domain
+pub mod Round

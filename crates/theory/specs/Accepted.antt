@@ -1,0 +1,402 @@
+-- What the rules give of an accepted chart: ranges, the lists of rule 4, default entry, what stands in for a target.
+use mathlib.Core.Path.{_≡_, refl, ap, sym, _∙_}
+use mathlib.Core.Bool.{Bool, true, false, not, _&&_, cond}
+use mathlib.Core.List.{List, [], _∷_}
+use Prim.Native.Nat.{ℕ, zero, suc, _+_, _<_, _≤_}
+use native.Mathlib.Omega.{arith}
+use lib.Dec.{leb, ltb}
+use lib.ListN.{length, getD, take, drop}
+use lib.Seq.{getD-drop}
+use borrow.Author.Tests.{lt-ltb, le-ltb, leb-true, ltb-true, ltb-false, not-true}
+use Rattle.definition.specs.declared.Kind.{Kind}
+use Rattle.definition.specs.declared.Kind.the-variants.{Root, State, Parallel, Final, Shallow, Deep}
+use Rattle.definition.specs.declared.Answer.the-variants.{Done}
+use Rattle.definition.specs.Rows.{those, mem, isIn, all, isEmpty, firstOf, intersection}
+use Rattle.definition.specs.Chart.{Chart, kind, parent, isRoot, isState, isShallow, isHistory}
+use Rattle.definition.specs.Tables.{mostRows, mostTransitions, mostNames, mostTargets, rowCount, transitionCount, referenceCount, nameCount, rowCell, transitionCell, referenceCell, referenceBase, part, referencesAt, kindAt, parentAt, listAt, sourceAt, targetsAt, chartOf}
+use Rattle.definition.specs.Tree.{isDescendant, isChild, descendants, children, isCompound, isAtomic, isDomainKind, listed, defaultTargets, anchor}
+use Rattle.definition.specs.Rules.{inside, each, countsFit, sizesFit, rowInRange, transitionInRange, referenceInRange, compiledSize, rule1, rule2, rule3, rule4, rule5, firstBroken, verdict, keepsRules, needsChild, areApart, initialFits, defaultFits, listFits, blocksFit, rowListsFit, isNoRoot, targetsFit, isInOrder, isSourceKind, hasUse, conditionFits, transitionFits}
+use Rattle.definition.specs.Selection.{History, atomicStates, orDefault, standIns}
+use Rattle.definition.specs.Microstep.{wouldStore}
+use Rattle.laws.specs.Bools.{no, and3, and4, clash, or-elim, bool-case, and-left, and-right, and-true}
+use Rattle.laws.specs.Sets.{mem-head, mem-those, mem-intersection}
+use Rattle.laws.specs.Lists.{mem-cases, all-mem, full-mem, keep-mem}
+use Rattle.laws.specs.Ways.{Way, eq-way, Below, below-way, below-trans, siblings}
+use Rattle.theory.specs.Tree.{Tree, each-below, low, root-kind, way-zero, has-child, under-below, under-plain, below-under, child-facts, mem-children}
+use Rattle.theory.specs.Fork.{Legal, Forks, part-forks, list-forks, anchor-self}
+use Rattle.theory.specs.Entry.{Ini, live-of}
+
+-- ---- a chart that keeps rules 1, 3, 4 and 5, as facts of its rows and transitions
+
+pub record Sound (c : Chart) : Type 0 where
+  pub tree : Tree c
+  -- every number of a list, a source and a target is a row
+  pub listInside : (i x : ℕ) → mem x (listed c i) ≡ true → x < c .rows
+  pub sourceInside : (t : ℕ) → t < c .transitions → (c .transition) t .source < c .rows
+  pub targetInside : (t : ℕ) → t < c .transitions → (x : ℕ) → mem x ((c .transition) t .targets) ≡ true → x < c .rows
+  pub listRule : rule4 c ≡ true
+  pub transitionRule : rule5 c ≡ true
+
+-- ---- what the tables give
+
+-- an element of a stretch of a list, by its place
+mem-take : (n : ℕ) (xs : List ℕ) (x : ℕ) → mem x (take n xs) ≡ true → (k : ℕ) × (k < n) × (getD xs k 0 ≡ x)
+unfolding mem
+mem-take zero xs x h = absurd (no h)
+mem-take (suc n) [] x h = absurd (no h)
+mem-take (suc n) (y ∷ ys) x h =
+    mem-cases x y (take n ys) (λ e. (0, omega arith, sym e))
+    (λ m. let r = mem-take n ys x m in let l = r .1 in (suc (r .0), omega arith, r .2)) h
+
+rules-of : (a b c d e : Bool) → firstBroken a b c d e ≡ Done → (a ≡ true) × (b ≡ true) × (c ≡ true) × (d ≡ true) × (e ≡ true)
+unfolding firstBroken
+rules-of true true true true true h = (refl, refl, refl, refl, refl)
+rules-of true true true true false h = let z : _≡_ {A = ℕ} 0 1 = cc in absurd (omega arith)
+rules-of true true true false e h = let z : _≡_ {A = ℕ} 0 1 = cc in absurd (omega arith)
+rules-of true true false d e h = let z : _≡_ {A = ℕ} 0 1 = cc in absurd (omega arith)
+rules-of true false c d e h = let z : _≡_ {A = ℕ} 0 1 = cc in absurd (omega arith)
+rules-of false b c d e h = let z : _≡_ {A = ℕ} 0 1 = cc in absurd (omega arith)
+
+-- parts of a test of six or seven, from the left
+and6 : (a b c d e f : Bool) → (a && b && c && d && e && f) ≡ true → (a ≡ true) × (b ≡ true) × (c ≡ true) × (d ≡ true) × (e ≡ true) × (f ≡ true)
+and6 true true true d e f h = let k = and3 d e f h in (refl, refl, refl, k .0, k .1, k .2)
+and6 true true false d e f h = absurd (no h)
+and6 true false c d e f h = absurd (no h)
+and6 false b c d e f h = absurd (no h)
+
+and7 : (a b c d e f g : Bool) → (a && b && c && d && e && f && g) ≡ true → (a ≡ true) × (b ≡ true) × (c ≡ true) × (d ≡ true) × (e ≡ true) × (f ≡ true) × (g ≡ true)
+and7 true true true d e f g h = let k = and4 d e f g h in (refl, refl, refl, k .0, k .1, k .2, k .3)
+and7 true true false d e f g h = absurd (no h)
+and7 true false c d e f g h = absurd (no h)
+and7 false b c d e f g h = absurd (no h)
+
+-- a row past the count has an empty list
+beyond-list : (numbers : List ℕ) (i : ℕ) → rowCount numbers ≤ i → listAt numbers i ≡ []
+unfolding listAt referencesAt part rowCell
+beyond-list numbers i l = rw (le-ltb i (rowCount numbers) l)
+
+module _ (numbers names : List ℕ) (room nameRoom : ℕ) (r1 : rule1 numbers names room nameRoom ≡ true) where
+  parts1 : (countsFit numbers ≡ true) × (each (rowCount numbers) (rowInRange numbers) ≡ true) ×
+      (each (transitionCount numbers) (transitionInRange numbers) ≡ true) × (each (referenceCount numbers) (referenceInRange numbers) ≡ true)
+  unfolding rule1
+  parts1 =
+      let k = and7 (countsFit numbers) (sizesFit numbers names room nameRoom) (each (rowCount numbers) (rowInRange numbers))
+      (each (transitionCount numbers) (transitionInRange numbers)) (each (referenceCount numbers) (referenceInRange numbers)) _ _ r1 in
+      (k .0, k .2, k .3, k .4)
+
+  some-row : 0 < rowCount numbers
+  unfolding countsFit
+  some-row =
+      leb-true _ _ (and7 (leb 1 (rowCount numbers)) (leb (rowCount numbers) mostRows) (leb (transitionCount numbers) mostTransitions) (leb (nameCount numbers) mostNames)
+      _ _ _ (parts1 .0) .0)
+
+  reference-inside : (start count x : ℕ) → start + count ≤ referenceCount numbers → mem x (referencesAt numbers start count) ≡ true → x < rowCount numbers
+  unfolding referencesAt part referenceInRange referenceCell
+  reference-inside start count x l h =
+      let r = mem-take count (drop (referenceBase numbers + start) numbers) x h in
+      let k = r .1 in
+      let i : start + r .0 < referenceCount numbers = omega arith in
+      let q : referenceBase numbers + start + r .0 ≡ referenceBase numbers + (start + r .0) = omega arith in
+      let e : getD numbers (referenceBase numbers + (start + r .0)) 0 ≡ x = ap (λ (k : ℕ). getD numbers k 0) (sym q) ∙ sym (getD-drop (referenceBase numbers + start) numbers (r .0) 0) ∙ r .2 in
+      rw (← e) (ltb-true _ _ (each-below (referenceCount numbers) (referenceInRange numbers) (parts1 .3) (start + r .0) i))
+
+  list-inside : (i x : ℕ) → mem x (listAt numbers i) ≡ true → x < rowCount numbers
+  unfolding listAt rowInRange mem
+  list-inside i x h =
+      bool-case (ltb i (rowCount numbers))
+      (λ e. reference-inside (rowCell numbers i 7) (rowCell numbers i 8) x
+      (leb-true _ _ (and7 (leb (rowCell numbers i 0) 5) _ _ _ _ (inside (referenceCount numbers) (rowCell numbers i 7) (rowCell numbers i 8)) _
+      (each-below (rowCount numbers) (rowInRange numbers) (parts1 .1) i (ltb-true _ _ e)) .5)) h)
+      (λ e. absurd (no (rw (beyond-list numbers i (ltb-false _ _ e)) at h)))
+
+  transition-parts : (t : ℕ) → t < transitionCount numbers →
+      (transitionCell numbers t 0 < rowCount numbers) × (transitionCell numbers t 5 + transitionCell numbers t 6 ≤ referenceCount numbers)
+  unfolding transitionInRange
+  transition-parts t l =
+      let k = and6 (ltb (transitionCell numbers t 0) (rowCount numbers)) _ _ _
+      (inside (referenceCount numbers) (transitionCell numbers t 5) (transitionCell numbers t 6) && leb (transitionCell numbers t 6) mostTargets) _
+      (each-below (transitionCount numbers) (transitionInRange numbers) (parts1 .2) t l) in
+      (ltb-true _ _ (k .0), leb-true _ _ (and-left (inside (referenceCount numbers) (transitionCell numbers t 5) (transitionCell numbers t 6)) _ (k .4)))
+
+-- tables with no rule broken mean a sound chart, whatever places they are compiled into
+module _ (numbers names : List ℕ) (room nameRoom : ℕ) (h : verdict numbers names room nameRoom ≡ Done) where
+  rules : (rule1 numbers names room nameRoom ≡ true) × (rule2 numbers names ≡ true) × (rule3 (chartOf numbers) ≡ true) × (rule4 (chartOf numbers) ≡ true) × (rule5 (chartOf numbers) ≡ true)
+  unfolding verdict
+  rules = rules-of (rule1 numbers names room nameRoom) (rule2 numbers names) (rule3 (chartOf numbers)) (rule4 (chartOf numbers)) (rule5 (chartOf numbers)) h
+
+  pub verdict-rule1 : rule1 numbers names room nameRoom ≡ true
+  verdict-rule1 = rules .0
+
+  pub verdict-rule2 : rule2 numbers names ≡ true
+  verdict-rule2 = rules .1
+
+  verdict-tree : Tree (chartOf numbers)
+  unfolding kindAt parentAt rowCell
+  verdict-tree =
+      record {
+        rule = rules .2;
+        some = some-row numbers names room nameRoom verdict-rule1;
+        beyondKind = λ i l. rw (le-ltb i (rowCount numbers) l);
+        beyondParent = λ i l. rw (le-ltb i (rowCount numbers) l);
+      }
+
+  pub verdict-sound : Sound (chartOf numbers)
+  unfolding sourceAt targetsAt
+  verdict-sound =
+      record {
+        tree = verdict-tree;
+        listInside = list-inside numbers names room nameRoom verdict-rule1;
+        sourceInside = λ t l. transition-parts numbers names room nameRoom verdict-rule1 t l .0;
+        targetInside = λ t l x m. reference-inside numbers names room nameRoom verdict-rule1 (transitionCell numbers t 5) (transitionCell numbers t 6) x
+            (transition-parts numbers names room nameRoom verdict-rule1 t l .1) m;
+        listRule = rules .3;
+        transitionRule = rules .4;
+      }
+
+-- an accepted chart is sound
+module _ (numbers names : List ℕ) (h : keepsRules numbers names ≡ Done) where
+  pub accepted-rule1 : rule1 numbers names (compiledSize numbers) (length names) ≡ true
+  unfolding keepsRules
+  accepted-rule1 = verdict-rule1 numbers names (compiledSize numbers) (length names) h
+
+  pub accepted-rule2 : rule2 numbers names ≡ true
+  unfolding keepsRules
+  accepted-rule2 = verdict-rule2 numbers names (compiledSize numbers) (length names) h
+
+  pub accepted-sound : Sound (chartOf numbers)
+  unfolding keepsRules
+  accepted-sound = verdict-sound numbers names (compiledSize numbers) (length names) h
+
+-- ---- the set of descendants
+
+pub mem-descendants : (c : Chart) (a i : ℕ) → mem i (descendants c a) ≡ true → (i < c .rows) × (isDescendant c a i ≡ true)
+unfolding descendants
+mem-descendants c a i h =
+    let k : (ltb i (c .rows) && isDescendant c a i) ≡ true = sym (mem-those (c .rows) (isDescendant c a) i) ∙ h in
+    (ltb-true _ _ (and-left (ltb i (c .rows)) _ k), and-right (ltb i (c .rows)) _ k)
+
+pub descendants-mem : (c : Chart) (a i : ℕ) → i < c .rows → isDescendant c a i ≡ true → mem i (descendants c a) ≡ true
+unfolding descendants
+descendants-mem c a i l h = mem-those (c .rows) (isDescendant c a) i ∙ and-true (ltb i (c .rows)) _ (lt-ltb i (c .rows) l) h
+
+-- ---- what rules 4 and 5 say of a row and a transition
+
+-- what a history's parent stores of a legal configuration that holds it
+pub record Kept (c : Chart) (h : ℕ) (set : List ℕ) : Type 0 where
+  pub configuration : List ℕ
+  pub inOrder : configuration ≡ those (c .rows) (isIn configuration)
+  pub legal : Legal c (isIn configuration)
+  pub holds : mem (parent c h) configuration ≡ true
+  pub stores : wouldStore c configuration h ≡ set
+
+unfoldable pub HistOk : Chart → History → Type 0
+HistOk c hist = (h : ℕ) → isHistory (kind c h) ≡ true → isEmpty (hist h) ≡ false → Kept c h (hist h)
+
+-- what stands in for the target x
+pub record Stand (c : Chart) (x : ℕ) (xs : List ℕ) : Type 0 where
+  pub inside : (e : ℕ) → mem e xs ≡ true → e < c .rows
+  pub rooted : (e : ℕ) → mem e xs ≡ true → isDescendant c 0 e ≡ true
+  pub anchored : (e : ℕ) → mem e xs ≡ true → Way (parent c) (anchor c x) e
+  pub strict : isHistory (kind c x) ≡ true → (e : ℕ) → mem e xs ≡ true → Below (parent c) (parent c x) e
+  pub forks : Forks c xs
+  pub full : (e : ℕ) × (mem e xs ≡ true)
+
+history-no-initial : (k : Kind) → isHistory k ≡ true → (isRoot k ≡ false) × (isState k ≡ false)
+history-no-initial Root h = absurd (no h)
+history-no-initial State h = absurd (no h)
+history-no-initial Parallel h = absurd (no h)
+history-no-initial Final h = absurd (no h)
+history-no-initial Shallow h = (refl, refl)
+history-no-initial Deep h = (refl, refl)
+
+-- the rows of a list with one element
+only : (a y : ℕ) → mem a (y ∷ []) ≡ true → a ≡ y
+unfolding mem
+only a y m = mem-cases a y [] (λ e. e) (λ k. absurd (no k)) m
+
+module _ (c : Chart) (g : Sound c) where
+  row4 : (i : ℕ) → i < c .rows → (areApart c (listed c i) ≡ true) × (listFits c i ≡ true) × (blocksFit c i ≡ true)
+  unfolding rule4 rowListsFit
+  row4 i l =
+      and3 (areApart c (listed c i)) (listFits c i) (blocksFit c i)
+      (each-below (c .rows) (rowListsFit c) (and-left (each (c .rows) (rowListsFit c)) _ (g .listRule)) i l)
+
+  pub blocks-fit : (i : ℕ) → i < c .rows → blocksFit c i ≡ true
+  blocks-fit i l = row4 i l .2
+
+  transition4 : (t : ℕ) → t < c .transitions → targetsFit c t ≡ true
+  unfolding rule4
+  transition4 t l = each-below (c .transitions) (targetsFit c) (and-right (each (c .rows) (rowListsFit c)) _ (g .listRule)) t l
+
+  pub targets-apart : (t : ℕ) → t < c .transitions → areApart c ((c .transition) t .targets) ≡ true
+  unfolding targetsFit
+  targets-apart t l = and-left (areApart c ((c .transition) t .targets)) _ (transition4 t l)
+
+  pub target-not-root : (t : ℕ) → t < c .transitions → (x : ℕ) → mem x ((c .transition) t .targets) ≡ true → isRoot (kind c x) ≡ false
+  unfolding targetsFit isNoRoot
+  target-not-root t l x m =
+      not-true _ (all-mem (isNoRoot c) ((c .transition) t .targets) (and-right (areApart c ((c .transition) t .targets)) _ (transition4 t l)) x m)
+
+  transition5 : (t : ℕ) → t < c .transitions →
+      (isInOrder c t ≡ true) × (isSourceKind (kind c ((c .transition) t .source)) ≡ true) × (hasUse ((c .transition) t) ≡ true) × (conditionFits c ((c .transition) t .condition) ≡ true)
+  unfolding rule5 transitionFits
+  transition5 t l =
+      and4 (isInOrder c t) (isSourceKind (kind c ((c .transition) t .source))) (hasUse ((c .transition) t)) (conditionFits c ((c .transition) t .condition))
+      (each-below (c .transitions) (transitionFits c) (g .transitionRule) t l)
+
+  pub sources-in-order : (t : ℕ) → t < c .transitions → isInOrder c t ≡ true
+  sources-in-order t l = transition5 t l .0
+
+  pub source-kind : (t : ℕ) → t < c .transitions → isSourceKind (kind c ((c .transition) t .source)) ≡ true
+  source-kind t l = transition5 t l .1
+
+  pub has-use : (t : ℕ) → t < c .transitions → hasUse ((c .transition) t) ≡ true
+  has-use t l = transition5 t l .2
+
+  pub condition-fits : (t : ℕ) → t < c .transitions → conditionFits c ((c .transition) t .condition) ≡ true
+  condition-fits t l = transition5 t l .3
+
+  -- the row's list: of the root or a compound, of a history
+  pub list-apart : (i : ℕ) → i < c .rows → areApart c (listed c i) ≡ true
+  list-apart i l = row4 i l .0
+
+  pub initial-list : (i : ℕ) → i < c .rows → isDomainKind c i ≡ true → (x : ℕ) → mem x (listed c i) ≡ true → isDescendant c i x ≡ true
+  unfolding listFits initialFits
+  initial-list i l q x m =
+      all-mem (isDescendant c i) (listed c i) (and-left (all (isDescendant c i) (listed c i)) _ (rw q at (row4 i l .1))) x m
+
+  pub history-no-domain : (i : ℕ) → isHistory (kind c i) ≡ true → isDomainKind c i ≡ false
+  unfolding isDomainKind isCompound
+  history-no-domain i q = rw (history-no-initial (kind c i) q .0, history-no-initial (kind c i) q .1)
+
+  default-fits : (i : ℕ) → i < c .rows → isHistory (kind c i) ≡ true → defaultFits c i ≡ true
+  unfolding listFits
+  default-fits i l q = let n : isDomainKind c i ≡ false = history-no-domain i q in rw (n, q) at (row4 i l .1)
+
+  pub default-full : (i : ℕ) → i < c .rows → isHistory (kind c i) ≡ true → isEmpty (listed c i) ≡ false
+  unfolding defaultFits
+  default-full i l q = not-true _ (and-left (not (isEmpty (listed c i))) _ (default-fits i l q))
+
+  pub child-under : (a j : ℕ) → isChild c a j ≡ true → isDescendant c a j ≡ true
+  child-under a j h =
+      let f = child-facts c (g .tree) a j h in
+      rw (f .1) (below-under c (g .tree) a (suc (f .0)) (f .3) (eq-way (parent c) (sym (f .2))))
+
+  pub default-under : (i : ℕ) → i < c .rows → isHistory (kind c i) ≡ true → (e : ℕ) → mem e (listed c i) ≡ true → isDescendant c (parent c i) e ≡ true
+  unfolding defaultFits
+  default-under i l q e m = go (isShallow (kind c i)) (and-right (not (isEmpty (listed c i))) _ (default-fits i l q))
+    where
+      go : (b : Bool) → cond b (all (isChild c (parent c i)) (listed c i)) (all (isDescendant c (parent c i)) (listed c i)) ≡ true → isDescendant c (parent c i) e ≡ true
+      go true h = child-under (parent c i) e (all-mem (isChild c (parent c i)) (listed c i) h e m)
+      go false h = all-mem (isDescendant c (parent c i)) (listed c i) h e m
+
+  alone-forks : (y : ℕ) → Forks c (y ∷ [])
+  alone-forks y a b m n i j v w e q =
+      siblings (parent c) (low c (g .tree)) i j y (rw (only a y m) at v) (rw (only b y n) at w) e
+
+  -- ---- default entry
+
+  ini-of : (k : ℕ) (xs : List ℕ) → defaultTargets c k ≡ xs → ((x : ℕ) → mem x xs ≡ true → x < c .rows) → ((x : ℕ) → mem x xs ≡ true → isDescendant c k x ≡ true) →
+      Forks c xs → isEmpty xs ≡ false → Ini c k
+  ini-of k xs e h u f n =
+      record {
+        inside = λ x m. h x (rw e at m);
+        beneath = λ x m. u x (rw e at m);
+        forks = λ a b m n′. f a b (rw e at m) (rw e at n′);
+        full = (full-mem xs n .0, rw e (full-mem xs n .1));
+      }
+
+  first-ini : (k : ℕ) (ys : List ℕ) → children c k ≡ ys → isEmpty ys ≡ false → defaultTargets c k ≡ firstOf (children c k) → Ini c k
+  unfolding firstOf isEmpty
+  first-ini k [] e n q = absurd (no (sym n))
+  first-ini k (y ∷ ys) e n q =
+      let m : mem y (children c k) ≡ true = rw e (mem-head y ys) in
+      let f = mem-children c (g .tree) k y m in
+      ini-of k (y ∷ []) (q ∙ rw e) (λ x m. rw (only x y m) (f .0)) (λ x m. rw (only x y m) (child-under k y (f .1))) (alone-forks y) refl
+
+  -- the root and a compound have a child
+  pub domain-child : (k : ℕ) → k < c .rows → isDomainKind c k ≡ true → isEmpty (children c k) ≡ false
+  unfolding isDomainKind isCompound needsChild
+  domain-child k l q =
+      or-elim (isRoot (kind c k)) (isState (kind c k) && not (isEmpty (children c k)))
+      (λ e. has-child c (g .tree) k l (rw e)) (λ e. not-true _ (and-right (isState (kind c k)) _ e)) q
+
+  pub ini : (k : ℕ) → k < c .rows → isDomainKind c k ≡ true → Ini c k
+  unfolding defaultTargets
+  ini k l q =
+      bool-case (isEmpty (listed c k))
+      (λ e. first-ini k (children c k) refl (domain-child k l q) (rw (q, e)))
+      (λ e. ini-of k (listed c k) (rw (q, e)) (g .listInside k) (initial-list k l q)
+      (list-forks c (g .tree) (listed c k) (list-apart k l) (λ x m. under-plain c (g .tree) k x (initial-list k l q x m))) e)
+
+  -- ---- stand-ins
+
+  under-zero : (p e : ℕ) → isDescendant c p e ≡ true → isDescendant c 0 e ≡ true
+  under-zero p e h =
+      below-under c (g .tree) 0 e (under-plain c (g .tree) p e h)
+      (below-trans (parent c) 0 p e (way-zero c (g .tree) p) (under-below c (g .tree) p e h))
+
+  pub anchor-parent : (x : ℕ) → isHistory (kind c x) ≡ true → anchor c x ≡ parent c x
+  unfolding anchor
+  anchor-parent x e = rw e
+
+  -- a list of rows under the history's parent
+  stand-under : (x : ℕ) (xs : List ℕ) → isHistory (kind c x) ≡ true → ((e : ℕ) → mem e xs ≡ true → e < c .rows) →
+      ((e : ℕ) → mem e xs ≡ true → isDescendant c (parent c x) e ≡ true) → Forks c xs → isEmpty xs ≡ false → Stand c x xs
+  stand-under x xs q h u f n =
+      record {
+        inside = h;
+        rooted = λ e m. under-zero (parent c x) e (u e m);
+        anchored = λ e m. rw (anchor-parent x q) (below-way (parent c) (parent c x) e (under-below c (g .tree) (parent c x) e (u e m)));
+        strict = λ q′ e m. under-below c (g .tree) (parent c x) e (u e m);
+        forks = f;
+        full = full-mem xs n;
+      }
+
+  stand-self : (x : ℕ) → x < c .rows → isRoot (kind c x) ≡ false → isHistory (kind c x) ≡ false → Stand c x (x ∷ [])
+  stand-self zero l r q = absurd (clash _ (root-kind c (g .tree)) r)
+  stand-self (suc x) l r q =
+      record {
+        inside = λ e m. rw (only e (suc x) m) l;
+        rooted = λ e m. rw (only e (suc x) m) (below-under c (g .tree) 0 (suc x) q (way-zero c (g .tree) (parent c (suc x))));
+        anchored = λ e m. rw (anchor-self c (g .tree) (suc x) q) (eq-way (parent c) (sym (only e (suc x) m)));
+        strict = λ q′. absurd (clash _ q′ q);
+        forks = alone-forks (suc x);
+        full = (suc x, mem-head (suc x) []);
+      }
+
+  -- what a history's parent would store is active and below it
+  pub stored-facts : (x : ℕ) (conf : List ℕ) (e : ℕ) → mem e (wouldStore c conf x) ≡ true → (mem e conf ≡ true) × (isDescendant c (parent c x) e ≡ true)
+  unfolding wouldStore atomicStates
+  stored-facts x conf e h = go (isShallow (kind c x)) h
+    where
+      go : (b : Bool) → mem e (cond b (intersection conf (children c (parent c x))) (intersection (atomicStates c conf) (descendants c (parent c x)))) ≡ true →
+          (mem e conf ≡ true) × (isDescendant c (parent c x) e ≡ true)
+      go true h =
+          let k : (mem e conf && mem e (children c (parent c x))) ≡ true = sym (mem-intersection e conf (children c (parent c x))) ∙ h in
+          (and-left (mem e conf) _ k, child-under (parent c x) e (mem-children c (g .tree) (parent c x) e (and-right (mem e conf) _ k) .1))
+      go false h =
+          let k : (mem e (atomicStates c conf) && mem e (descendants c (parent c x))) ≡ true = sym (mem-intersection e (atomicStates c conf) (descendants c (parent c x))) ∙ h in (
+            keep-mem (isAtomic c) conf e (and-left (mem e (atomicStates c conf)) _ k) .0,
+            mem-descendants c (parent c x) e (and-right (mem e (atomicStates c conf)) _ k) .1,
+          )
+
+  kept-stand : (x : ℕ) (set : List ℕ) → isHistory (kind c x) ≡ true → Kept c x set → isEmpty set ≡ false → Stand c x set
+  kept-stand x set q k n =
+      stand-under x set q (λ e m. k .legal .part .inside e (inn e m)) (λ e m. stored-facts x (k .configuration) e (rw (k .stores) m) .1)
+      (part-forks c (isIn (k .configuration)) (k .legal .part) set (λ a m. live-of (isIn (k .configuration)) a (inn a m))) n
+    where
+      inn : (e : ℕ) → mem e set ≡ true → mem e (k .configuration) ≡ true
+      inn e m = stored-facts x (k .configuration) e (rw (k .stores) m) .0
+
+  pub stand : (hist : History) → HistOk c hist → (x : ℕ) → x < c .rows → isRoot (kind c x) ≡ false → Stand c x (standIns c hist x)
+  unfolding standIns orDefault HistOk isEmpty
+  stand hist ok x l r =
+      bool-case (isHistory (kind c x)) (λ q. rw q (go q (hist x) refl)) (λ q. rw q (stand-self x l r q))
+    where
+      go : isHistory (kind c x) ≡ true → (set : List ℕ) → hist x ≡ set → Stand c x (orDefault set (listed c x))
+      go q [] e =
+          stand-under x (listed c x) q (g .listInside x) (default-under x l q)
+          (list-forks c (g .tree) (listed c x) (list-apart x l) (λ e m. under-plain c (g .tree) (parent c x) e (default-under x l q e m)))
+          (default-full x l q)
+      go q (s ∷ set) e = rw (← e) (kept-stand x (hist x) q (ok x q (rw e)) (rw e))
