@@ -6,11 +6,11 @@ use mathlib.Core.Option.{Option, none, some}
 use mathlib.Core.Logic.{_⊎_, inl, inr, ⊎-elim}
 use Prim.Native.Nat.{ℕ, zero, suc, _+_, _<_, _≤_}
 use native.Mathlib.Omega.{arith}
-use lib.Dec.{eqb}
-use borrow.Author.Tests.{eqb-true, eqb-false, eq-eqb, ne-eqb, not-true}
-use Rattle.definition.specs.Rows.{mem, isIn, intersection, minus, any, all, isEmpty, flat, first, keep, those, meets, subset, same, isSet}
-use Rattle.laws.specs.Bools.{no, clash, bool-case, or-elim, or-left, or-right, not-so, and-left, and-right, and-true}
-use Rattle.laws.specs.Sets.{mem-keep, mem-head, mem-intersection, mem-minus, empty-none, empty-some}
+use lib.Dec.{eqb, ltb}
+use borrow.Author.Tests.{eqb-true, eqb-false, eq-eqb, ne-eqb, not-true, lt-ltb}
+use Rattle.definition.specs.Rows.{mem, isIn, intersection, minus, any, all, isEmpty, flat, first, keep, those, meets, subset, same, isSet, isSingle}
+use Rattle.laws.specs.Bools.{no, clash, bool-case, both-ways, or-elim, or-left, or-right, not-so, and-left, and-right, and-true}
+use Rattle.laws.specs.Sets.{Ascends, ascends-those, ascends-ext, those-low, mem-those, mem-keep, mem-head, mem-intersection, mem-minus, empty-none, empty-some}
 
 pub mem-tail : (x a : ℕ) (xs : List ℕ) → mem a xs ≡ true → mem a (x ∷ xs) ≡ true
 unfolding mem any all flat first
@@ -157,6 +157,40 @@ set-eq n xs h = same-eq xs (those n (isIn xs)) h
 pub eq-set : (n : ℕ) (xs : List ℕ) → xs ≡ those n (isIn xs) → isSet n xs ≡ true
 unfolding isSet
 eq-set n xs e = ap (same xs) (sym e) ∙ same-self xs
+
+-- a set of rows below n: ascending, each below n
+pub set-ascends : (n : ℕ) (xs : List ℕ) → isSet n xs ≡ true → Ascends 0 xs
+set-ascends n xs h = subst (Ascends 0) (sym (set-eq n xs h)) (ascends-those n (isIn xs))
+
+pub set-below : (n : ℕ) (xs : List ℕ) → isSet n xs ≡ true → (a : ℕ) → mem a xs ≡ true → a < n
+set-below n xs h a m = those-low n (isIn xs) a (sym (ap (mem a) (set-eq n xs h)) ∙ m)
+
+pub ascends-set : (n : ℕ) (xs : List ℕ) → Ascends 0 xs → ((a : ℕ) → mem a xs ≡ true → a < n) → isSet n xs ≡ true
+ascends-set n xs u f =
+    eq-set n xs (ascends-ext 0 0 xs (those n (isIn xs)) u (ascends-those n (isIn xs))
+    (λ a. both-ways _ _ (λ m. mem-those n (isIn xs) a ∙ and-true (ltb a n) _ (lt-ltb a n (f a m)) m)
+    (λ m. and-right (ltb a n) _ (sym (mem-those n (isIn xs) a) ∙ m))))
+
+-- a set of one
+pub single-mem : (xs : List ℕ) → isSingle xs ≡ true → (x : ℕ) × (mem x xs ≡ true) × ((y : ℕ) → mem y xs ≡ true → y ≡ x)
+unfolding isSingle isEmpty mem
+single-mem [] h = absurd (no h)
+single-mem (x ∷ []) h = (x, mem-head x [], (λ y m. mem-cases y x [] (λ e. e) (λ z. absurd (no z)) m))
+single-mem (x ∷ y ∷ ys) h = absurd (no h)
+
+pub mem-single : (lo x : ℕ) (xs : List ℕ) → Ascends lo xs → mem x xs ≡ true → ((y : ℕ) → mem y xs ≡ true → y ≡ x) → isSingle xs ≡ true
+unfolding isSingle isEmpty mem
+mem-single lo x [] u m f = absurd (no m)
+mem-single lo x (y ∷ []) u m f = refl
+mem-single lo x (y ∷ z ∷ zs) u m f =
+    let p : y ≡ x = f y (mem-head y (z ∷ zs)) in
+    let q : z ≡ x = f z (mem-tail y z (z ∷ zs) (mem-head z zs)) in
+    absurd (omega arith)
+
+-- two tests that agree on the list keep the same of it
+pub keep-cong : (p q : ℕ → Bool) (xs : List ℕ) → ((x : ℕ) → mem x xs ≡ true → p x ≡ q x) → keep p xs ≡ keep q xs
+keep-cong p q [] f = refl
+keep-cong p q (x ∷ xs) f = rw (f x (mem-head x xs), keep-cong p q xs (λ y m. f y (mem-tail x y xs m)))
 
 -- each element stands so to every later one
 abbrev pub Pairs : (ℕ → ℕ → Type 0) → List ℕ → Type 0

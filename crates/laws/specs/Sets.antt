@@ -54,6 +54,9 @@ pub mem-those : (n : ℕ) (p : ℕ → Bool) (a : ℕ) → mem a (those n p) ≡
 unfolding those
 mem-those n p a = rw (mem-keep p a (from n 0), mem-from a n 0, zero-add n, le-leb 0 a (omega arith))
 
+pub mem-below : (n a : ℕ) → a < n → mem a (from n 0) ≡ true
+mem-below n a l = mem-from a n 0 ∙ and-true (leb 0 a) (ltb a (0 + n)) (le-leb 0 a (omega arith)) (lt-ltb a (0 + n) (omega arith))
+
 -- ascending order
 
 -- each element is above the one before it, and the first at least lo
@@ -187,6 +190,15 @@ mem-union a xs (y ∷ ys) = rw (mem-union a (insert y xs) ys, insert-mem a y xs)
     turn true false r = refl
     turn false true r = refl
     turn false false r = refl
+
+-- one more, as a list of one
+pub mem-one : (a x : ℕ) → mem a (x ∷ []) ≡ true → a ≡ x
+unfolding mem
+mem-one a x h = eqb-true a x (sym (or-false (eqb a x)) ∙ h)
+
+pub mem-insert-one : (a x : ℕ) (xs : List ℕ) → mem a (insert x xs) ≡ (mem a xs || mem a (x ∷ []))
+unfolding union fold with
+mem-insert-one a x xs = mem-union a xs (x ∷ [])
 
 pub ascends-union : (xs ys : List ℕ) → Ascends 0 xs → Ascends 0 (union xs ys)
 unfolding union fold with

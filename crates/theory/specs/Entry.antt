@@ -14,8 +14,8 @@ use Rattle.definition.specs.Chart.{Chart, kind, parent, isRoot, isState, isPara
 use Rattle.definition.specs.Tree.{ancestors, descendants, isDescendant, isChild, children, isCompound, isDomainKind, defaultTargets}
 use Rattle.definition.specs.Microstep.{addPath, pathsBelow, Entry, hasNoChildIn, complete, entrySet}
 use Rattle.laws.specs.Bools.{no, clash, or-elim, or-left, or-right, or-false, bool-case, not-so, eq-case, and-left, and-right, and-true}
-use Rattle.laws.specs.Sets.{Ascends, mem-those, those-low, mem-insert, mem-union, mem-intersection, ascends-insert, ascends-union, ascends-intersection}
-use Rattle.laws.specs.Lists.{mem-cases, any-true, any-mem, meets-none, none-meets, meets-some}
+use Rattle.laws.specs.Sets.{Ascends, mem-those, those-low, mem-insert, mem-one, mem-insert-one, mem-union, mem-intersection, ascends-insert, ascends-union, ascends-intersection}
+use Rattle.laws.specs.Lists.{any-true, any-mem, meets-none, none-meets, meets-some}
 use Rattle.laws.specs.Passes.{fold-keeps, count-keeps}
 use Rattle.laws.specs.Ways.{Way, here, eq-way, up, Below, way-cases, way-trans, below-way, way-le, below-lt, child-way}
 use Rattle.theory.specs.Tree.{Tree, low, not-root, anc-below, below-anc, under-below, under-plain, below-under, child-of, child-facts, children-mem, mem-children, parent-plain}
@@ -99,6 +99,25 @@ module _ (c : Chart) (t : Tree c) where
       let f = down-facts d xs j h in
       down-intro d xs a (f .1 .0) (omega (arith, way-le (parent c) (low c t) w, path-inside c d xs j h)) u (f .1 .1) (way-trans (parent c) w (f .1 .2))
 
+  pub child-after : (i j : ℕ) → mem j (children c i) ≡ true → i < j
+  child-after i j n = let f = child-facts c t i j (mem-children c t i j n .1) in omega (arith, f .1, f .2, low c t (f .0))
+
+  pub one-parent : (i k j : ℕ) → mem j (children c i) ≡ true → mem j (children c k) ≡ true → i ≡ k
+  one-parent i k j m n =
+      let f = child-facts c t i j (mem-children c t i j m .1) in
+      let g = child-facts c t k j (mem-children c t k j n .1) in
+      let e : suc (f .0) ≡ suc (g .0) = sym (f .1) ∙ g .1 in
+      sym (f .2) ∙ ap (parent c) e ∙ g .2
+
+  pub path-after : (d : ℕ) (xs : List ℕ) (j : ℕ) → mem j (pathsBelow c d xs) ≡ true → d < j
+  path-after d xs j n = below-lt (parent c) (low c t) d j (under-below c t d j (path-descends c d xs j n))
+
+  -- a path that meets a child of row k begins at k or above it
+  pub path-parent : (d : ℕ) (xs : List ℕ) (k j : ℕ) → mem j (pathsBelow c d xs) ≡ true → mem j (children c k) ≡ true → Way (parent c) d k
+  path-parent d xs k j n h =
+      let f = child-facts c t k j (mem-children c t k j h .1) in
+      rw (f .2) at (under-below c t d (suc (f .0)) (rw (f .1) at (path-descends c d xs j n)))
+
 -- ---- what a row asks for
 
 -- a compound is no parallel
@@ -175,14 +194,6 @@ module _ (c : Chart) (targets : ℕ → List ℕ) where
   unfolding children
   asked-inside set i j h = asks-elim set i j (λ m p n. those-low (c .rows) (isChild c i) j n) (λ m b n. path-inside c i (targets i) j n) h
 
-mem-one : (a x : ℕ) → mem a (x ∷ []) ≡ true → a ≡ x
-unfolding mem
-mem-one a x h = mem-cases a x [] (λ e. e) (λ e. absurd (no e)) h
-
-insert-one : (a x : ℕ) (xs : List ℕ) → mem a (insert x xs) ≡ (mem a xs || mem a (x ∷ []))
-unfolding union fold with
-insert-one a x xs = mem-union a xs (x ∷ [])
-
 -- ---- the steps by which the entry set grows, in any order
 
 abbrev pub withChild : Entry → ℕ → Entry
@@ -238,7 +249,7 @@ module _ (c : Chart) (targets : ℕ → List ℕ) where
       ((i : ℕ) (new next : List ℕ) → ((j : ℕ) → mem j next ≡ (mem j (e .set) || mem j new)) → (Ascends 0 (e .set) → Ascends 0 next) →
       ((j : ℕ) → mem j new ≡ true → asksFor c targets (e .set) i j ≡ true) → P next) → Step c targets e f → P (f .set)
   step-sets P e _ h (child i j m p n) =
-      h i (j ∷ []) (insert j (e .set)) (λ x. insert-one x j (e .set)) (ascends-insert j (e .set))
+      h i (j ∷ []) (insert j (e .set)) (λ x. mem-insert-one x j (e .set)) (ascends-insert j (e .set))
       (λ x k. rw (mem-one x j k) (asks-child c targets (e .set) i j m p n))
   step-sets P e _ h (initial i m b) =
       h i (pathsBelow c i (targets i)) (union (e .set) (pathsBelow c i (targets i))) (λ x. mem-union x (e .set) (pathsBelow c i (targets i)))
@@ -249,6 +260,10 @@ module _ (c : Chart) (targets : ℕ → List ℕ) where
 
   pub step-ascends : (e f : Entry) → Step c targets e f → Ascends 0 (e .set) → Ascends 0 (f .set)
   step-ascends e f s h = step-sets (Ascends 0) e f (λ i new next q a r. a h) s
+
+  pub step-default-ascends : (e f : Entry) → Step c targets e f → Ascends 0 (e .byDefault) → Ascends 0 (f .byDefault)
+  step-default-ascends e _ (child i j m p n) a = a
+  step-default-ascends e _ (initial i m b) a = ascends-insert i (e .byDefault) a
 
   pub step-inside : (e f : Entry) → Step c targets e f → ((j : ℕ) → mem j (e .set) ≡ true → j < c .rows) → (j : ℕ) → mem j (f .set) ≡ true → j < c .rows
   step-inside e f s h j =
@@ -262,6 +277,9 @@ module _ (c : Chart) (targets : ℕ → List ℕ) where
   pub entry-ascends : (aim : List ℕ) → Ascends 0 aim → Ascends 0 ((entrySet c targets aim) .set)
   entry-ascends aim a = steps-keep (λ e. Ascends 0 (e .set)) step-ascends (entry-steps aim) a
 
+  pub default-ascends : (aim : List ℕ) → Ascends 0 ((entrySet c targets aim) .byDefault)
+  default-ascends aim = steps-keep (λ e. Ascends 0 (e .byDefault)) step-default-ascends (entry-steps aim) tt
+
   pub entry-inside : (aim : List ℕ) → ((j : ℕ) → mem j aim ≡ true → j < c .rows) → (j : ℕ) → mem j ((entrySet c targets aim) .set) ≡ true → j < c .rows
   entry-inside aim h = steps-keep (λ e. (j : ℕ) → mem j (e .set) ≡ true → j < c .rows) step-inside (entry-steps aim) h
 
@@ -274,10 +292,7 @@ pub record Complete (c : Chart) (targets : ℕ → List ℕ) (set : List ℕ) : 
 module _ (c : Chart) (t : Tree c) (targets : ℕ → List ℕ) where
   -- what a row asks for stands after it
   pub asked-after : (set : List ℕ) (i j : ℕ) → asksFor c targets set i j ≡ true → i < j
-  asked-after set i j h =
-      asks-elim c targets set i j
-      (λ m p n. let f = child-facts c t i j (mem-children c t i j n .1) in omega (arith, f .1, f .2, low c t (f .0)))
-      (λ m b n. below-lt (parent c) (low c t) i j (under-below c t i j (path-descends c i (targets i) j n))) h
+  asked-after set i j h = asks-elim c targets set i j (λ m p n. child-after c t i j n) (λ m b n. path-after c t i (targets i) j n) h
 
   -- a row past the last asks for nothing
   asks-inside : (set : List ℕ) (i j : ℕ) → asksFor c targets set i j ≡ true → i < c .rows
@@ -419,9 +434,9 @@ module _ (c : Chart) (t : Tree c) where
 
     child-inv : (set : List ℕ) → Inv set → (i j : ℕ) → mem i set ≡ true → isParallel (kind c i) ≡ true → mem j (children c i) ≡ true → Inv (insert j set)
     child-inv set v i j m p n =
-        grown set v i m (j ∷ []) (insert j set) (λ x. insert-one x j set)
+        grown set v i m (j ∷ []) (insert j set) (λ x. mem-insert-one x j set)
         (λ x k. rw (mem-one x j k) (mem-children c t i j n .0, below-under c t i j plain below))
-        (λ x k. rw (up-to x k) (or-right (stay i) _ (insert-one i j set ∙ or-left (mem i set) _ m)))
+        (λ x k. rw (up-to x k) (or-right (stay i) _ (mem-insert-one i j set ∙ or-left (mem i set) _ m)))
         (λ a b k h e q. absurd (clash _ p (rw (up-to a k) at q)))
       where
         f : (k : ℕ) × (j ≡ suc k) × (parent c (suc k) ≡ i) × (isHistory (kind c (suc k)) ≡ false)

@@ -2,8 +2,12 @@ pub mod MarkedRuns
 pub mod Tree
 pub mod Fork
 pub mod Entry
+pub mod EntryOrder
 pub mod Unions
 pub mod Accepted
 pub mod Disjoint
 pub mod Domain
 pub mod Round
+pub mod LegalTest
+pub mod Seed
+pub mod Storing
