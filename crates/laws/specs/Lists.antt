@@ -1,7 +1,7 @@
 -- Tests over lists, read as facts.
 use mathlib.Core.Path.{_≡_, refl, ap, sym, _∙_, subst}
 use mathlib.Core.Bool.{Bool, true, false, not, _&&_, _||_, cond}
-use mathlib.Core.List.{List, [], _∷_, _++_}
+use mathlib.Core.List.{List, [], _∷_, _++_, append-assoc}
 use mathlib.Core.Option.{Option, none, some}
 use mathlib.Core.Logic.{_⊎_, inl, inr, ⊎-elim}
 use Prim.Native.Nat.{ℕ, zero, suc, _+_, _<_, _≤_}
@@ -44,6 +44,22 @@ unfolding mem any all flat first
 mem-all p [] f = refl
 mem-all p (x ∷ xs) f = and-true (p x) (all p xs) (f x (mem-head x xs)) (mem-all p xs (λ y m. f y (mem-tail x y xs m)))
 
+-- a test of every element, over elements of any kind
+pub all-both : {A : Type 0} (p : A → Bool) (xs ys : List A) → all p xs ≡ true → all p ys ≡ true → all p (xs ++ ys) ≡ true
+unfolding all
+all-both p [] ys h k = k
+all-both p (x ∷ xs) ys h k = and-true (p x) (all p (xs ++ ys)) (and-left (p x) (all p xs) h) (all-both p xs ys (and-right (p x) (all p xs) h) k)
+
+pub all-flat : {B : Type 0} (p : B → Bool) (f : ℕ → List B) (xs : List ℕ) → ((x : ℕ) → mem x xs ≡ true → all p (f x) ≡ true) → all p (flat f xs) ≡ true
+unfolding all flat
+all-flat p f [] h = refl
+all-flat p f (x ∷ xs) h = all-both p (f x) (flat f xs) (h x (mem-head x xs)) (all-flat p f xs (λ y m. h y (mem-tail x y xs m)))
+
+pub flat-app : {A B : Type 0} (f : A → List B) (xs ys : List A) → flat f (xs ++ ys) ≡ flat f xs ++ flat f ys
+unfolding flat
+flat-app f [] ys = refl
+flat-app f (x ∷ xs) ys = rw (flat-app f xs ys, append-assoc)
+
 pub mem-app : (a : ℕ) (xs ys : List ℕ) → mem a (xs ++ ys) ≡ (mem a xs || mem a ys)
 unfolding mem any all flat first
 mem-app a [] ys = refl
@@ -84,6 +100,19 @@ pub full-mem : (xs : List ℕ) → isEmpty xs ≡ false → (a : ℕ) × (mem a 
 unfolding isEmpty
 full-mem [] h = absurd (no (sym h))
 full-mem (x ∷ xs) h = (x, mem-head x xs)
+
+-- a list is empty, or it is not
+pub empty-list : {A : Type 0} (xs : List A) → isEmpty xs ≡ true → xs ≡ []
+unfolding isEmpty
+empty-list [] h = refl
+empty-list (x ∷ xs) h = absurd (no h)
+
+pub full-list : {A : Type 0} (xs : List A) → isEmpty xs ≡ false → xs ≡ [] → ⊥
+unfolding isEmpty
+full-list xs h e = no (sym (rw e at h))
+
+pub list-full : {A : Type 0} (xs : List A) → (xs ≡ [] → ⊥) → isEmpty xs ≡ false
+list-full xs f = not-so (isEmpty xs) (λ e. f (empty-list xs e))
 
 pub keep-mem : (p : ℕ → Bool) (xs : List ℕ) (a : ℕ) → mem a (keep p xs) ≡ true → (mem a xs ≡ true) × (p a ≡ true)
 keep-mem p xs a h =

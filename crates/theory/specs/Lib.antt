@@ -11,3 +11,11 @@ pub mod Round
 pub mod LegalTest
 pub mod Seed
 pub mod Storing
+pub mod NameFacts
+pub mod Runs
+pub mod Moments
+pub mod Queues
+pub mod Shown
+pub mod Keeps
+pub mod WellFormed
+pub mod Theorems

@@ -1,0 +1,111 @@
+-- The transitions that a round takes, read off its effects, are those that it selects: no two exit a common row.
+use mathlib.Core.Path.{_≡_, refl, ap, _∙_, subst}
+use mathlib.Core.Bool.{Bool, true, false, not, _&&_, cond}
+use mathlib.Core.List.{List, [], _∷_, _++_, append-nil}
+use mathlib.Core.Option.{Option}
+use Prim.Native.Nat.{ℕ}
+use Rattle.definition.specs.declared.Action.{Action}
+use Rattle.definition.specs.declared.Action.the-variants.{Raise, Host}
+use Rattle.definition.specs.Rows.{mem, meets, flat, backwards}
+use Rattle.definition.specs.Names.{Name}
+use Rattle.definition.specs.Chart.{Chart, Names, kind, parent, isRoot, isFinal}
+use Rattle.definition.specs.Selection.{History, exitSet}
+use Rattle.definition.specs.Microstep.{Effect, exited, taken, entered, acted, raised, done, perform, performed, exits, exitEffects, exiting, transitionEffects, Entry, isDoneAbove, doneEffects, entryEffects, entering, storedIn, effects}
+use Rattle.definition.specs.Follower.{Follower, Round, idle, over, did, taking, selectedBy, closingRound, round}
+use Rattle.laws.specs.Bools.{no}
+use Rattle.laws.specs.Sets.{NoTwice}
+use Rattle.laws.specs.Lists.{flat-app}
+use Rattle.theory.specs.Runs.{round-cases}
+use Rattle.theory.specs.Disjoint.{selected-apart, selected-once}
+
+unfoldable pub ifTaken : Effect → List ℕ
+ifTaken (exited i) = []
+ifTaken (taken t) = t ∷ []
+ifTaken (entered i) = []
+ifTaken (acted n) = []
+ifTaken (raised n) = []
+ifTaken (done i) = []
+
+-- the transitions that the effects show, in their order
+unfoldable pub takenIn : List Effect → List ℕ
+takenIn es = flat ifTaken es
+
+taken-app : (xs ys : List Effect) → takenIn (xs ++ ys) ≡ takenIn xs ++ takenIn ys
+unfolding takenIn
+taken-app xs ys = flat-app ifTaken xs ys
+
+taken-performed : (block : List Action) → takenIn (performed block) ≡ []
+unfolding takenIn performed perform flat ifTaken
+taken-performed [] = refl
+taken-performed (Raise n ∷ block) = taken-performed block
+taken-performed (Host n ∷ block) = taken-performed block
+
+taken-flat : (f : ℕ → List Effect) (xs : List ℕ) → ((x : ℕ) → takenIn (f x) ≡ []) → takenIn (flat f xs) ≡ []
+unfolding takenIn flat
+taken-flat f [] h = refl
+taken-flat f (x ∷ xs) h = taken-app (f x) (flat f xs) ∙ rw (h x) (taken-flat f xs h)
+
+taken-exiting : (c : Chart) (out : List ℕ) → takenIn (exiting c out) ≡ []
+unfolding exiting exitEffects takenIn flat ifTaken
+taken-exiting c out = taken-flat (exitEffects c) (backwards out) (λ i. taken-performed ((c .row) i .exit))
+
+taken-done : (c : Chart) (conf : List ℕ) (i : ℕ) → takenIn (doneEffects c conf i) ≡ []
+unfolding doneEffects takenIn flat ifTaken
+taken-done c conf i = go (isFinal (kind c i) && not (isRoot (kind c (parent c i)))) (isDoneAbove c conf (parent c (parent c i)))
+  where
+    go : (a b : Bool) → takenIn (cond a (done (parent c i) ∷ cond b (done (parent c (parent c i)) ∷ []) []) []) ≡ []
+    go true true = refl
+    go true false = refl
+    go false b = refl
+
+taken-entering : (c : Chart) (stay : List ℕ) (e : Entry) (fell : List ℕ) → takenIn (entering c stay e fell) ≡ []
+unfolding entering entryEffects takenIn flat ifTaken
+taken-entering c stay e fell =
+    taken-flat (entryEffects c stay e fell) (e .set)
+    (λ i. taken-app (performed _) _ ∙ rw (taken-performed _) (taken-done c _ i))
+
+taken-blocks : (c : Chart) (ts : List ℕ) → takenIn (flat (transitionEffects c) ts) ≡ ts
+unfolding transitionEffects takenIn flat ifTaken
+taken-blocks c [] = refl
+taken-blocks c (t ∷ ts) =
+    ap {B = List ℕ} (λ l. t ∷ l)
+    (taken-app (performed ((c .transition) t .block)) (flat (transitionEffects c) ts) ∙ rw (taken-performed ((c .transition) t .block)) (taken-blocks c ts))
+
+pub taken-effects : (c : Chart) (conf : List ℕ) (hist : History) (ts : List ℕ) → takenIn (effects c conf hist ts) ≡ ts
+unfolding effects
+taken-effects c conf hist ts =
+    taken-app (exiting c (exits c conf hist ts) ++ flat (transitionEffects c) ts) _ ∙
+    rw (taken-app (exiting c (exits c conf hist ts)) (flat (transitionEffects c) ts), taken-exiting c (exits c conf hist ts), taken-entering) (append-nil _ ∙ taken-blocks c ts)
+
+-- ---- the exit sets of what a round takes, by the configuration and the history before the round
+
+pub record DisjointExits (c : Chart) (s : Follower) (ts : List ℕ) : Type 0 where
+  pub once : NoTwice ts
+  pub disjoint : (t u : ℕ) → mem t ts ≡ true → mem u ts ≡ true → (t ≡ u → ⊥) →
+      meets (exitSet c (s .configuration) (storedIn (s .history)) ((c .transition) t)) (exitSet c (s .configuration) (storedIn (s .history)) ((c .transition) u)) ≡ false
+
+module _ (c : Chart) (names : Names) (s : Follower) where
+  abbrev Exits : Round → Type 0
+  Exits idle = Unit {0}
+  Exits over = Unit {0}
+  Exits (did next es) = DisjointExits c s (takenIn es)
+
+  selected-exits : (event : Option Name) → DisjointExits c s (selectedBy c names s event)
+  unfolding selectedBy
+  selected-exits event =
+      record {
+        once = selected-once c names (s .configuration) (storedIn (s .history)) event;
+        disjoint = selected-apart c names (s .configuration) (storedIn (s .history)) event;
+      }
+
+  taking-exits : (internal external : List Name) (ts : List ℕ) → DisjointExits c s ts → Exits (taking c names s internal external ts)
+  unfolding taking
+  taking-exits internal external ts h = rw (taken-effects c (s .configuration) (storedIn (s .history)) ts) h
+
+  -- of any session, well formed or not
+  pub round-disjoint : (next : Follower) (es : List Effect) → round c names s ≡ did next es → DisjointExits c s (takenIn es)
+  unfolding closingRound mem
+  round-disjoint next es e =
+      subst Exits e (round-cases c names s Exits (λ m. tt) (λ m. tt)
+      (λ m. rw (taken-exiting c (s .configuration)) (record { once = tt; disjoint = λ t u m n d. absurd (no m) }))
+      (λ m internal external event h. taking-exits internal external (selectedBy c names s event) (selected-exits event)))

@@ -1,0 +1,117 @@
+-- The theorems in one place: for tables that keep the rules, every call keeps a session well formed.
+use mathlib.Core.Path.{_≡_, refl, subst}
+use mathlib.Core.Bool.{true}
+use mathlib.Core.List.{List, [], _∷_}
+use mathlib.Core.Option.{Option, none, some}
+use mathlib.Core.Logic.{inr, _↔_}
+use Prim.Native.Nat.{ℕ}
+use Rattle.definition.specs.declared.Mode.the-variants.{Closing, Ended}
+use Rattle.definition.specs.declared.Answer.{Answer}
+use Rattle.definition.specs.declared.Answer.the-variants.{Done}
+use Rattle.definition.specs.Rows.{any}
+use Rattle.definition.specs.Names.{Name}
+use Rattle.definition.specs.Tables.{chartOf, nameAt}
+use Rattle.definition.specs.Rules.{keepsRules}
+use Rattle.definition.specs.Microstep.{Effect}
+use Rattle.definition.specs.Follower.{Follower, endedFollower, isFinalUnderRoot, did, round, refusal, firstFollower, firstEffects, startOr, start, post, run, Call, starts, posts, runs, Outcome, startedOutcome, ranOutcome, follow, followAll}
+use Rattle.definition.specs.Legal.{isLegal, WellFormed, isWellFormed}
+use Rattle.theory.specs.Accepted.{Sound, accepted-sound, accepted-rule1, accepted-rule2}
+use Rattle.theory.specs.Runs.{refusal-not-done}
+use Rattle.theory.specs.Queues.{Queued, ended-queued, start-queued, post-queued, round-queued, run-queued}
+use Rattle.theory.specs.Shown.{takenIn, DisjointExits}
+use Rattle.theory.specs.Shown as shown
+use Rattle.theory.specs.Keeps.{Fit, FitAfter, ended-over, first-fits, start-fits, post-fits, round-fits, run-fits}
+use Rattle.theory.specs.WellFormed.{parts-well-formed, well-formed-queues, well-formed-fit, well-formed-exact}
+
+-- every outcome's state
+abbrev pub EveryAfter : (Follower → Type 0) → List Outcome → Type 0
+EveryAfter P [] = Unit {0}
+EveryAfter P (o ∷ os) = P (o .after) × EveryAfter P os
+
+module _ (numbers names : List ℕ) (accepted : keepsRules numbers names ≡ Done) where
+  sound : Sound (chartOf numbers)
+  sound = accepted-sound numbers names accepted
+
+  made : (s : Follower) → Queued s → Fit (chartOf numbers) s → WellFormed (chartOf numbers) s
+  made s q f = parts-well-formed (chartOf numbers) sound s q f
+
+  -- ---- the test of a session is exact
+
+  pub test-exact : (s : Follower) → (isWellFormed (chartOf numbers) s ≡ true) ↔ WellFormed (chartOf numbers) s
+  test-exact s = well-formed-exact (chartOf numbers) sound s
+
+  -- ---- every call keeps a session well formed
+
+  pub ended-well-formed : WellFormed (chartOf numbers) (endedFollower (chartOf numbers))
+  ended-well-formed = made (endedFollower (chartOf numbers)) (ended-queued (chartOf numbers)) (inr (ended-over (chartOf numbers)))
+
+  pub start-keeps : (room : ℕ) → WellFormed (chartOf numbers) ((start (chartOf numbers) (nameAt names) room) .follower)
+  start-keeps room =
+      made ((start (chartOf numbers) (nameAt names) room) .follower)
+      (start-queued numbers names (accepted-rule1 numbers names accepted) (accepted-rule2 numbers names accepted) (sound .tree) room)
+      (start-fits (chartOf numbers) sound (nameAt names) room)
+
+  pub post-keeps : (s : Follower) → WellFormed (chartOf numbers) s → (name : Name) → WellFormed (chartOf numbers) (post s name)
+  post-keeps s w name =
+      made (post s name) (post-queued s name (well-formed-queues (chartOf numbers) sound s w)) (post-fits (chartOf numbers) s name (well-formed-fit (chartOf numbers) sound s w))
+
+  pub run-keeps : (s : Follower) → WellFormed (chartOf numbers) s → (k room : ℕ) → WellFormed (chartOf numbers) ((run (chartOf numbers) (nameAt names) k s room) .follower)
+  run-keeps s w k room =
+      made ((run (chartOf numbers) (nameAt names) k s room) .follower)
+      (run-queued numbers names (accepted-rule1 numbers names accepted) (accepted-rule2 numbers names accepted) (sound .tree) k s room (well-formed-queues (chartOf numbers) sound s w))
+      (run-fits (chartOf numbers) sound (nameAt names) k s room (well-formed-fit (chartOf numbers) sound s w))
+
+  -- a completed round: one that is not refused
+  pub round-keeps : (s : Follower) → WellFormed (chartOf numbers) s → (room : ℕ) (next : Follower) (es : List Effect) →
+      round (chartOf numbers) (nameAt names) s ≡ did next es → refusal room next es ≡ none → WellFormed (chartOf numbers) next
+  round-keeps s w room next es e q =
+      made next
+      (round-queued numbers names (accepted-rule1 numbers names accepted) (accepted-rule2 numbers names accepted) (sound .tree) s next es room (well-formed-queues (chartOf numbers) sound s w) e q)
+      (subst (FitAfter (chartOf numbers)) e (round-fits (chartOf numbers) sound (nameAt names) s (well-formed-fit (chartOf numbers) sound s w)))
+
+  pub follow-keeps : (s : Follower) → WellFormed (chartOf numbers) s → (call : Call) → WellFormed (chartOf numbers) ((follow (chartOf numbers) (nameAt names) s call) .after)
+  unfolding follow startedOutcome ranOutcome
+  follow-keeps s w (starts room) = start-keeps room
+  follow-keeps s w (posts name) = post-keeps s w name
+  follow-keeps s w (runs k room) = run-keeps s w k room
+
+  -- whole lists of calls
+  pub calls-keep : (calls : List Call) (s : Follower) → WellFormed (chartOf numbers) s → EveryAfter (WellFormed (chartOf numbers)) (followAll (chartOf numbers) (nameAt names) s calls)
+  unfolding followAll
+  calls-keep [] s w = tt
+  calls-keep (call ∷ calls) s w = (follow-keeps s w call, calls-keep calls ((follow (chartOf numbers) (nameAt names) s call) .after) (follow-keeps s w call))
+
+  -- from nothing on
+  pub all-calls-keep : (calls : List Call) → EveryAfter (WellFormed (chartOf numbers)) (followAll (chartOf numbers) (nameAt names) (endedFollower (chartOf numbers)) calls)
+  all-calls-keep calls = calls-keep calls (endedFollower (chartOf numbers)) ended-well-formed
+
+  -- ---- what a well-formed session says
+
+  pub legal-live : (s : Follower) → WellFormed (chartOf numbers) s → (s .mode ≡ Ended → ⊥) → isLegal (chartOf numbers) (s .configuration) ≡ true
+  legal-live s w n = w .legal n
+
+  pub closing-exact : (s : Follower) → WellFormed (chartOf numbers) s → (s .mode ≡ Closing) ↔ (any (isFinalUnderRoot (chartOf numbers)) (s .configuration) ≡ true)
+  closing-exact s w = w .closing
+
+  pub ended-exact : (s : Follower) → WellFormed (chartOf numbers) s → (s .mode ≡ Ended) ↔ (s .configuration ≡ [])
+  ended-exact s w = w .ended
+
+  -- after a start that was accepted
+  pub start-legal : (room : ℕ) → (start (chartOf numbers) (nameAt names) room) .answer ≡ Done →
+      isLegal (chartOf numbers) ((start (chartOf numbers) (nameAt names) room) .follower .configuration) ≡ true
+  unfolding start startOr
+  start-legal room e = go (refusal room (firstFollower (chartOf numbers) (nameAt names)) (firstEffects (chartOf numbers))) refl e
+    where
+      go : (o : Option Answer) → refusal room (firstFollower (chartOf numbers) (nameAt names)) (firstEffects (chartOf numbers)) ≡ o →
+          (startOr (chartOf numbers) (nameAt names) o) .answer ≡ Done → isLegal (chartOf numbers) ((startOr (chartOf numbers) (nameAt names) o) .follower .configuration) ≡ true
+      go none q a = (first-fits (chartOf numbers) sound (nameAt names)) .legal
+      go (some x) q a = absurd (refusal-not-done room (firstFollower (chartOf numbers) (nameAt names)) (firstEffects (chartOf numbers)) (rw a at q))
+
+  -- and after every completed round, until the session has ended
+  pub round-legal : (s : Follower) → WellFormed (chartOf numbers) s → (room : ℕ) (next : Follower) (es : List Effect) →
+      round (chartOf numbers) (nameAt names) s ≡ did next es → refusal room next es ≡ none → (next .mode ≡ Ended → ⊥) → isLegal (chartOf numbers) (next .configuration) ≡ true
+  round-legal s w room next es e q n = legal-live next (round-keeps s w room next es e q) n
+
+  -- the transitions that a round takes have disjoint exit sets
+  pub round-disjoint : (s next : Follower) (es : List Effect) → round (chartOf numbers) (nameAt names) s ≡ did next es → DisjointExits (chartOf numbers) s (takenIn es)
+  round-disjoint s next es e = shown.round-disjoint (chartOf numbers) (nameAt names) s next es e
