@@ -3,3 +3,4 @@ pub mod Sets
 pub mod Lists
 pub mod Passes
 pub mod Ways
+pub mod Parts

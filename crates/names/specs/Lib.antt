@@ -1,0 +1,3 @@
+pub mod Spelling
+pub mod Matching
+pub mod Slots

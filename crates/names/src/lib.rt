@@ -1,0 +1,268 @@
+// Names, descriptors, matching and slots, for every slice of bytes, whatever its length and its bytes. What each answers is definition's Names.
+ghost use mathlib.Core.Path.{_≡_};
+ghost use mathlib.Core.Bool.{_&&_};
+ghost use Prim.Native.Nat.{min};
+ghost use lib.Dec.{eqb};
+ghost use lib.ListN.{length, replicate};
+ghost use Rattle.definition.specs.Rows.{all, same};
+ghost use Rattle.definition.specs.Names.{between, isLetter, isNameByte, isName, bare, isDescriptor, begins, tokens, matches, doneName, isId, beforeZero, zerosAfter};
+ghost use Rattle.definition.specs.Marked.{slotOf};
+ghost use Rattle.laws.specs.Parts.{laid};
+ghost use Rattle.names.specs.Slots.{padded};
+
+// "A name has 1 to 63 bytes"
+const MOST_BYTES: usize = 63;
+
+// "done.state." has so many bytes.
+const DONE_BYTES: usize = 11;
+
+fn is_between(low: u8, high: u8, b: u8) -> bool
+    ensures { λ r. ⌜ r ≡ between low high b ⌝ }
+{
+    (low <= b) & (b <= high)
+}
+
+fn is_letter(b: u8) -> bool
+    ensures { λ r. ⌜ r ≡ isLetter b ⌝ }
+{
+    is_between(b'A', b'Z', b) | is_between(b'a', b'z', b)
+}
+
+fn is_name_byte(b: u8) -> bool
+    ensures { λ r. ⌜ r ≡ isNameByte b ⌝ }
+{
+    is_letter(b) | is_between(b'0', b'9', b) | (b == b'-') | (b == b'_') | (b == b'.')
+}
+
+// One pass. A dot is a name byte; where a token has to begin it is none.
+pub fn is_name(s: &[u8]) -> bool
+    ensures { λ r. ⌜ r ≡ isName (now (s .entry)) ⌝ }
+{
+    if MOST_BYTES < s.len() {
+        return false;
+    }
+    let mut fresh = true;
+    let mut i = 0;
+    while i < s.len() {
+        let b = s[i];
+        let dot = b == b'.';
+        if !is_name_byte(b) {
+            return false;
+        }
+        if dot & fresh {
+            return false;
+        }
+        fresh = dot;
+        i += 1;
+    }
+    !fresh
+}
+
+pub fn equal(a: &[u8], b: &[u8]) -> bool
+    ensures { λ r. ⌜ r ≡ same (now (a .entry)) (now (b .entry)) ⌝ }
+{
+    if a.len() != b.len() {
+        return false;
+    }
+    let mut i = 0;
+    while i < a.len() {
+        if a[i] != b[i] {
+            return false;
+        }
+        i += 1;
+    }
+    true
+}
+
+// The descriptor without a ".*" at its end.
+pub fn without_star(descriptor: &[u8]) -> &[u8]
+    ensures { λ r. ⌜ now r ≡ bare (now (descriptor .entry)) ⌝ }
+{
+    if descriptor.len() < 2 {
+        return descriptor;
+    }
+    let k = descriptor.len() - 2;
+    if equal(&descriptor[k..], b".*") {
+        return &descriptor[..k];
+    }
+    descriptor
+}
+
+// "*", a name, or a name with ".*" after it.
+pub fn is_descriptor(s: &[u8]) -> bool
+    ensures { λ r. ⌜ r ≡ isDescriptor (now (s .entry)) ⌝ }
+{
+    if MOST_BYTES < s.len() {
+        return false;
+    }
+    if equal(s, b"*") {
+        return true;
+    }
+    is_name(without_star(s))
+}
+
+// The length is tested on the done name, which has to fit its slot.
+pub fn is_id(s: &[u8]) -> bool
+    ensures { λ r. ⌜ r ≡ isId (now (s .entry)) ⌝ }
+{
+    if !is_name(s) {
+        return false;
+    }
+    let first = s[0];
+    if !(is_letter(first) | (first == b'_')) {
+        return false;
+    }
+    DONE_BYTES + s.len() <= MOST_BYTES
+}
+
+// The event's first tokens are the descriptor's: the event is the descriptor, or begins with it and a dot.
+fn begins_with(event: &[u8], descriptor: &[u8]) -> bool
+    ensures { λ r. ⌜ r ≡ begins (tokens (now (descriptor .entry))) (tokens (now (event .entry))) ⌝ }
+{
+    let mut i = 0;
+    while i < descriptor.len() {
+        if event.len() <= i {
+            return false;
+        }
+        if descriptor[i] != event[i] {
+            return false;
+        }
+        i += 1;
+    }
+    if event.len() <= i {
+        return true;
+    }
+    event[i] == b'.'
+}
+
+// Each byte of the event is read at most once.
+pub fn matches(descriptor: &[u8], event: &[u8]) -> bool
+    ensures { λ r. ⌜ r ≡ matches (now (descriptor .entry)) (now (event .entry)) ⌝ }
+{
+    if equal(descriptor, b"*") {
+        return true;
+    }
+    begins_with(event, without_star(descriptor))
+}
+
+// The number of bytes before the first zero.
+pub fn name_len(slot: &[u8]) -> usize
+    ensures { λ r. ⌜ r ≡ length (beforeZero (now (slot .entry))) ⌝ }
+{
+    let mut i = 0;
+    while i < slot.len() {
+        if slot[i] == 0 {
+            return i;
+        }
+        i += 1;
+    }
+    i
+}
+
+// The bytes before the first zero.
+pub fn name_of(slot: &[u8]) -> &[u8]
+    ensures { λ r. ⌜ now r ≡ beforeZero (now (slot .entry)) ⌝ }
+{
+    let n = name_len(slot);
+    &slot[..n]
+}
+
+// Every byte is zero.
+pub fn is_blank(s: &[u8]) -> bool
+    ensures { λ r. ⌜ r ≡ all (eqb 0) (now (s .entry)) ⌝ }
+{
+    let mut i = 0;
+    while i < s.len() {
+        if s[i] != 0 {
+            return false;
+        }
+        i += 1;
+    }
+    true
+}
+
+// Every byte from the first zero on is zero.
+pub fn zeros_after(slot: &[u8]) -> bool
+    ensures { λ r. ⌜ r ≡ zerosAfter (now (slot .entry)) ⌝ }
+{
+    let n = name_len(slot);
+    is_blank(&slot[n..])
+}
+
+// A slot of the chart's table: a name or descriptor, then zeros.
+pub fn slot_fits(slot: &[u8]) -> bool
+    ensures { λ r. ⌜ r ≡ (zerosAfter (now (slot .entry)) && isDescriptor (beforeZero (now (slot .entry)))) ⌝ }
+{
+    if !zeros_after(slot) {
+        return false;
+    }
+    is_descriptor(name_of(slot))
+}
+
+fn least(a: usize, b: usize) -> usize
+    ensures { λ r. ⌜ r ≡ min a b ⌝ }
+{
+    if a < b { a } else { b }
+}
+
+// The bytes over the place from `at` on, as far as it goes.
+fn lay(place: &mut [u8], at: usize, bytes: &[u8])
+    ensures { λ _. ⌜ now (place .exit) ≡ laid (now (place .entry)) at (now (bytes .entry)) ⌝ }
+{
+    if place.len() <= at {
+        return;
+    }
+    let n = least(bytes.len(), place.len() - at);
+    let mut j = 0;
+    while j < n {
+        place[at + j] = bytes[j];
+        j += 1;
+    }
+}
+
+fn clear(place: &mut [u8])
+    ensures { λ _. ⌜ now (place .exit) ≡ replicate (length (now (place .entry))) 0 ⌝ }
+{
+    let mut i = 0;
+    while i < place.len() {
+        place[i] = 0;
+        i += 1;
+    }
+}
+
+// The name into a lent slot of any size, cut where the slot ends, and zeros to its end.
+pub fn put_name(slot: &mut [u8], name: &[u8])
+    ensures { λ _. ⌜ now (slot .exit) ≡ padded (length (now (slot .entry))) (now (name .entry)) ⌝ }
+{
+    clear(slot);
+    lay(slot, 0, name);
+}
+
+// The same of a row's done name. An id of up to 53 bytes is not cut in a slot of 64, and no accepted id has more than 52.
+pub fn put_done_name(slot: &mut [u8], id: &[u8])
+    ensures { λ _. ⌜ now (slot .exit) ≡ padded (length (now (slot .entry))) (doneName (now (id .entry))) ⌝ }
+{
+    clear(slot);
+    lay(slot, 0, b"done.state.");
+    lay(slot, DONE_BYTES, id);
+}
+
+// Both by value, in a slot of 64 bytes.
+pub fn pad(name: &[u8]) -> [u8; 64]
+    ensures { λ r. ⌜ r ≡ slotOf (now (name .entry)) ⌝ }
+    ensures { λ r. ⌜ 64 ≡ length r ⌝ }
+{
+    let mut slot = [0u8; 64];
+    lay(&mut slot, 0, name);
+    slot
+}
+
+pub fn done_name(id: &[u8]) -> [u8; 64]
+    ensures { λ r. ⌜ r ≡ slotOf (doneName (now (id .entry))) ⌝ }
+    ensures { λ r. ⌜ 64 ≡ length r ⌝ }
+{
+    let mut slot = [0u8; 64];
+    lay(&mut slot, 0, b"done.state.");
+    lay(&mut slot, DONE_BYTES, id);
+    slot
+}

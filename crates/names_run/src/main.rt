@@ -1,0 +1,317 @@
+// Runs each function of `names` over the cases of standard input and prints what it answers. A line of the input is a letter, a space, a word, and
+// for some a space and another word; a word may be empty. A mark is 1 for yes, 0 for no.
+//   b NAME           every byte value at each place of the name: for each place and each test a line of 256 marks
+//   l UNIT TAIL      names of 0 to 70 bytes of the unit, over and over, and the tail behind them: for each test a line of 71 marks
+//   s UNIT           such names without a tail in slots, see `show_slots`
+//   m D E            the marks of the descriptor on the event and of the two compared, and the descriptor without its ".*"
+//   w LETTERS MORE   every word of up to four of the letters as a descriptor on every word of up to four of the others: a line of marks a descriptor
+//   e LETTERS MORE   the same words compared
+ghost use mathlib.Core.Path.{_≡_};
+ghost use Prim.Native.Nat.{_≤_};
+ghost use lib.ListN.{length};
+use libc::STDIN_FILENO;
+use libc::STDOUT_FILENO;
+
+const TESTS: usize = 6;
+
+fn put(b: u8) {
+    let one = [b];
+    io::write_all(STDOUT_FILENO, &one);
+}
+
+fn mark(yes: bool) {
+    if yes {
+        put(b'1');
+    } else {
+        put(b'0');
+    }
+}
+
+fn judge(test: usize, s: &[u8]) -> bool {
+    match test {
+        0 => names::is_name(s),
+        1 => names::is_descriptor(s),
+        2 => names::is_id(s),
+        3 => names::zeros_after(s),
+        4 => names::slot_fits(s),
+        _ => names::is_blank(s),
+    }
+}
+
+// The name with another byte at a place.
+fn mark_changed(test: usize, name: &[u8], place: usize, b: u8) {
+    let n = name.len();
+    if 64 < n {
+        return;
+    }
+    if n <= place {
+        return;
+    }
+    let mut bytes = names::pad(name);
+    bytes[place] = b;
+    mark(judge(test, &bytes[..n]));
+}
+
+fn each_value(test: usize, name: &[u8], place: usize) {
+    let mut v: usize = 0;
+    while v < 256 {
+        mark_changed(test, name, place, v as u8);
+        v += 1;
+    }
+    put(b'\n');
+}
+
+fn each_place_for(test: usize, name: &[u8]) {
+    let mut place = 0;
+    while place < name.len() {
+        each_value(test, name, place);
+        place += 1;
+    }
+}
+
+fn each_place(name: &[u8]) {
+    let mut test: usize = 0;
+    while test < TESTS {
+        each_place_for(test, name);
+        test += 1;
+    }
+}
+
+// The byte at i of the first n bytes of the unit, over and over, then the tail, then zeros.
+fn letter(unit: &[u8], n: usize, tail: &[u8], i: usize) -> u8 {
+    if n <= i {
+        let j = i - n;
+        if tail.len() <= j {
+            return 0;
+        }
+        return tail[j];
+    }
+    if unit.len() == 0 {
+        return 0;
+    }
+    unit[i % unit.len()]
+}
+
+fn made(unit: &[u8], n: usize, tail: &[u8]) -> [u8; 128]
+    ensures { λ r. ⌜ 128 ≡ length r ⌝ }
+{
+    let mut bytes = [0u8; 128];
+    let mut i: usize = 0;
+    while i < 128 {
+        bytes[i] = letter(unit, n, tail, i);
+        i += 1;
+    }
+    bytes
+}
+
+fn mark_made(test: usize, unit: &[u8], n: usize, tail: &[u8]) {
+    let bytes = made(unit, n, tail);
+    mark(judge(test, names::name_of(&bytes)));
+}
+
+fn each_length_for(test: usize, unit: &[u8], tail: &[u8]) {
+    let mut n: usize = 0;
+    while n < 71 {
+        mark_made(test, unit, n, tail);
+        n += 1;
+    }
+    put(b'\n');
+}
+
+fn each_length(unit: &[u8], tail: &[u8]) {
+    let mut test: usize = 0;
+    while test < TESTS {
+        each_length_for(test, unit, tail);
+        test += 1;
+    }
+}
+
+// A zero byte is shown as "!".
+fn show(bytes: &[u8]) {
+    let mut i = 0;
+    while i < bytes.len() {
+        let b = bytes[i];
+        if b == 0 {
+            put(b'!');
+        } else {
+            put(b);
+        }
+        i += 1;
+    }
+    put(b'\n');
+}
+
+// The slot of the name and the number of its bytes before the first zero, the slot of its done name, and both in the middle of a place that
+// is lent in part: bytes outside the part stay as they are.
+fn show_slots(unit: &[u8], n: usize) {
+    let bytes = made(unit, n, b"");
+    let name = names::name_of(&bytes);
+    let slot = names::pad(name);
+    show(&slot);
+    io::print_decimal(STDOUT_FILENO, names::name_len(&slot) as u64);
+    put(b'\n');
+    let done = names::done_name(name);
+    show(&done);
+    let mut place = [b'#'; 48];
+    names::put_done_name(&mut place[4..44], name);
+    show(&place);
+    let mut other = [b'#'; 48];
+    names::put_name(&mut other[8..40], name);
+    show(&other);
+}
+
+fn each_slot(unit: &[u8]) {
+    let mut n: usize = 0;
+    while n < 71 {
+        show_slots(unit, n);
+        n += 1;
+    }
+}
+
+// Words by number: 0 is the empty one; the first letter of any other, and the number of what is behind it.
+fn first(letters: &[u8], number: usize) -> u8 {
+    if number == 0 {
+        return 0;
+    }
+    if letters.len() == 0 {
+        return 0;
+    }
+    letters[(number - 1) % letters.len()]
+}
+
+fn behind(letters: &[u8], number: usize) -> usize {
+    if number == 0 {
+        return 0;
+    }
+    if letters.len() == 0 {
+        return 0;
+    }
+    (number - 1) / letters.len()
+}
+
+fn word(letters: &[u8], number: usize) -> [u8; 4]
+    ensures { λ r. ⌜ 4 ≡ length r ⌝ }
+{
+    let second = behind(letters, number);
+    let third = behind(letters, second);
+    let fourth = behind(letters, third);
+    [
+        first(letters, number),
+        first(letters, second),
+        first(letters, third),
+        first(letters, fourth),
+    ]
+}
+
+// How many words of up to four letters there are.
+fn words(letters: &[u8]) -> usize {
+    match letters.len() {
+        0 => 1,
+        1 => 5,
+        2 => 31,
+        3 => 121,
+        _ => 341,
+    }
+}
+
+fn mark_pair(compare: bool, descriptor: &[u8], event: &[u8]) {
+    if compare {
+        mark(names::equal(descriptor, event));
+    } else {
+        mark(names::matches(descriptor, event));
+    }
+}
+
+fn mark_word(compare: bool, descriptor: &[u8], letters: &[u8], number: usize) {
+    let event = word(letters, number);
+    mark_pair(compare, descriptor, names::name_of(&event));
+}
+
+fn each_event(compare: bool, descriptor: &[u8], letters: &[u8]) {
+    let last = words(letters);
+    let mut k: usize = 0;
+    while k < last {
+        mark_word(compare, descriptor, letters, k);
+        k += 1;
+    }
+    put(b'\n');
+}
+
+fn each_event_of(compare: bool, letters: &[u8], number: usize, more: &[u8]) {
+    let descriptor = word(letters, number);
+    each_event(compare, names::name_of(&descriptor), more);
+}
+
+fn each_word(compare: bool, letters: &[u8], more: &[u8]) {
+    let last = words(letters);
+    let mut k: usize = 0;
+    while k < last {
+        each_event_of(compare, letters, k, more);
+        k += 1;
+    }
+}
+
+fn pair(descriptor: &[u8], event: &[u8]) {
+    mark_pair(false, descriptor, event);
+    mark_pair(true, descriptor, event);
+    put(b' ');
+    show(names::without_star(descriptor));
+}
+
+// The place of the first such byte, or the length.
+fn find(s: &[u8], b: u8) -> usize
+    ensures { λ r. ⌜ r ≤ length (now (s .entry)) ⌝ }
+{
+    let mut i = 0;
+    while i < s.len() {
+        if s[i] == b {
+            return i;
+        }
+        i += 1;
+    }
+    i
+}
+
+fn after(s: &[u8], k: usize) -> &[u8] {
+    if s.len() <= k {
+        return &s[..0];
+    }
+    let next = k + 1;
+    &s[next..]
+}
+
+fn run_line(line: &[u8]) {
+    if line.len() < 2 {
+        return;
+    }
+    let case = line[0];
+    let rest = &line[2..];
+    let k = find(rest, b' ');
+    let one = &rest[..k];
+    let two = after(rest, k);
+    match case {
+        b'b' => each_place(one),
+        b'l' => each_length(one, two),
+        b's' => each_slot(one),
+        b'm' => pair(one, two),
+        b'w' => each_word(false, one, two),
+        b'e' => each_word(true, one, two),
+        _ => put(b'?'),
+    }
+}
+
+fn run_all(text: &[u8]) {
+    let mut at = 0;
+    while at < text.len() {
+        let rest = &text[at..];
+        let k = find(rest, b'\n');
+        run_line(&rest[..k]);
+        at += k + 1;
+    }
+}
+
+fn main() {
+    let mut text = io::large_buffer();
+    let n = io::read_full(STDIN_FILENO, &mut text);
+    run_all(&text[..n]);
+}
