@@ -4,3 +4,4 @@ pub mod Lists
 pub mod Passes
 pub mod Ways
 pub mod Parts
+pub mod Orders

@@ -1,0 +1,267 @@
+// Sets of rows, by value: 256 bits in four words. What a set means is its ascending list of rows, `rowsOf`, and each contract is an
+// equation with the definition's own functions of such lists.
+use numbers::Row;
+ghost use mathlib.Core.Path.{_≡_};
+ghost use mathlib.Core.List.{[], _∷_};
+ghost use Prim.Native.Nat.{_-_, _^_, _<_, _≤_, min};
+ghost use Rattle.definition.specs.Rows.{from, mem, isEmpty, isSingle, insert, union, intersection, minus, meets, subset, same};
+ghost use Rattle.definition.specs.Compiled.{word};
+ghost use Rattle.rowset.specs.Member.{wordOf, rowsOf, nextIn, prevIn, LowFrom, HighBelow};
+
+// Bit r % 64 of word r / 64 stands for row r.
+pub struct RowSet {
+    pub w0: u64,
+    pub w1: u64,
+    pub w2: u64,
+    pub w3: u64,
+}
+
+// What a search finds.
+pub enum Found {
+    At(Row),
+    Nothing,
+}
+
+impl RowSet {
+    pub fn empty() -> RowSet
+        ensures { λ r. ⌜ rowsOf r ≡ [] ⌝ }
+    {
+        RowSet {
+            w0: 0,
+            w1: 0,
+            w2: 0,
+            w3: 0,
+        }
+    }
+
+    // The set of one row.
+    pub fn single(r: Row) -> RowSet
+        ensures { λ s. ⌜ rowsOf s ≡ r .0 ∷ [] ⌝ }
+    {
+        let k = r.0;
+        RowSet {
+            w0: placed(k, 0),
+            w1: placed(k, 1),
+            w2: placed(k, 2),
+            w3: placed(k, 3),
+        }
+    }
+
+    // The rows below n. There are 256 in all.
+    pub fn below(n: u16) -> RowSet
+        ensures { λ r. ⌜ rowsOf r ≡ from (min n 256) 0 ⌝ }
+    {
+        RowSet {
+            w0: ones_below(n),
+            w1: ones_below(less(n, 64)),
+            w2: ones_below(less(n, 128)),
+            w3: ones_below(less(n, 192)),
+        }
+    }
+
+    fn word(self, q: u16) -> u64
+        ensures { λ w. ⌜ w ≡ wordOf self q ⌝ }
+    {
+        if q == 0 {
+            return self.w0;
+        }
+        if q == 1 {
+            return self.w1;
+        }
+        if q == 2 {
+            return self.w2;
+        }
+        if q == 3 {
+            return self.w3;
+        }
+        0
+    }
+
+    pub fn has(self, r: Row) -> bool
+        ensures { λ b. ⌜ b ≡ mem (r .0) (rowsOf self) ⌝ }
+    {
+        let k = r.0;
+        let w = self.word((k / 64) as u16);
+        (w >> (k % 64)) % 2 == 1
+    }
+
+    pub fn with(self, r: Row) -> RowSet
+        ensures { λ s. ⌜ rowsOf s ≡ insert (r .0) (rowsOf self) ⌝ }
+    {
+        self.union(RowSet::single(r))
+    }
+
+    pub fn without(self, r: Row) -> RowSet
+        ensures { λ s. ⌜ rowsOf s ≡ minus (rowsOf self) (r .0 ∷ []) ⌝ }
+    {
+        self.minus(RowSet::single(r))
+    }
+
+    pub fn union(self, o: RowSet) -> RowSet
+        ensures { λ r. ⌜ rowsOf r ≡ union (rowsOf self) (rowsOf o) ⌝ }
+    {
+        RowSet {
+            w0: self.w0 | o.w0,
+            w1: self.w1 | o.w1,
+            w2: self.w2 | o.w2,
+            w3: self.w3 | o.w3,
+        }
+    }
+
+    pub fn intersection(self, o: RowSet) -> RowSet
+        ensures { λ r. ⌜ rowsOf r ≡ intersection (rowsOf self) (rowsOf o) ⌝ }
+    {
+        RowSet {
+            w0: self.w0 & o.w0,
+            w1: self.w1 & o.w1,
+            w2: self.w2 & o.w2,
+            w3: self.w3 & o.w3,
+        }
+    }
+
+    // `a & (a ^ b)` is what a has and b has not.
+    pub fn minus(self, o: RowSet) -> RowSet
+        ensures { λ r. ⌜ rowsOf r ≡ minus (rowsOf self) (rowsOf o) ⌝ }
+    {
+        RowSet {
+            w0: self.w0 & (self.w0 ^ o.w0),
+            w1: self.w1 & (self.w1 ^ o.w1),
+            w2: self.w2 & (self.w2 ^ o.w2),
+            w3: self.w3 & (self.w3 ^ o.w3),
+        }
+    }
+
+    pub fn is_empty(self) -> bool
+        ensures { λ b. ⌜ b ≡ isEmpty (rowsOf self) ⌝ }
+    {
+        (self.w0 | self.w1 | self.w2 | self.w3) == 0
+    }
+
+    pub fn meets(self, o: RowSet) -> bool
+        ensures { λ b. ⌜ b ≡ meets (rowsOf self) (rowsOf o) ⌝ }
+    {
+        !self.intersection(o).is_empty()
+    }
+
+    pub fn subset(self, o: RowSet) -> bool
+        ensures { λ b. ⌜ b ≡ subset (rowsOf self) (rowsOf o) ⌝ }
+    {
+        self.minus(o).is_empty()
+    }
+
+    pub fn same(self, o: RowSet) -> bool
+        ensures { λ b. ⌜ b ≡ same (rowsOf self) (rowsOf o) ⌝ }
+    {
+        (self.w0 == o.w0) & (self.w1 == o.w1) & (self.w2 == o.w2) & (self.w3 == o.w3)
+    }
+
+    // The first row at or above k.
+    pub fn next_from(self, k: u16) -> Found
+        ensures { λ f. ⌜ f ≡ nextIn (rowsOf self) k ⌝ }
+    {
+        let mut q = k / 64;
+        let mut j = k % 64;
+        while q < 4 {
+            let b = low_from(self.word(q), j);
+            if b < 64 {
+                return Found::At(Row((q * 64 + b) as u8));
+            }
+            q += 1;
+            j = 0;
+        }
+        Found::Nothing
+    }
+
+    // The last row below k.
+    pub fn prev_below(self, k: u16) -> Found
+        ensures { λ f. ⌜ f ≡ prevIn (rowsOf self) k ⌝ }
+    {
+        let t = capped(k);
+        let mut q = t / 64;
+        let mut j = t % 64;
+        loop {
+            let b = high_below(self.word(q), j);
+            if b < 64 {
+                return Found::At(Row((q * 64 + b) as u8));
+            }
+            if q == 0 {
+                return Found::Nothing;
+            }
+            q -= 1;
+            j = 64;
+        }
+    }
+
+    pub fn first(self) -> Found
+        ensures { λ f. ⌜ f ≡ nextIn (rowsOf self) 0 ⌝ }
+    {
+        self.next_from(0)
+    }
+
+    // The set has exactly one row.
+    pub fn is_single(self) -> bool
+        ensures { λ b. ⌜ b ≡ isSingle (rowsOf self) ⌝ }
+    {
+        match self.first() {
+            Found::At(r) => self.without(r).is_empty(),
+            Found::Nothing => false,
+        }
+    }
+}
+
+// Word q of the set of row k.
+fn placed(k: u8, q: u8) -> u64
+    ensures { λ w. ⌜ w ≡ word (k ∷ []) q ⌝ }
+{
+    if k / 64 == q {
+        return 1u64 << (k % 64);
+    }
+    0
+}
+
+// n - m, and 0 where m is more than n.
+fn less(n: u16, m: u16) -> u16
+    ensures { λ r. ⌜ r ≡ n - m ⌝ }
+{
+    if n < m { 0 } else { n - m }
+}
+
+fn capped(k: u16) -> u16
+    ensures { λ r. ⌜ r ≡ min k 256 ⌝ }
+{
+    if k < 256 { k } else { 256 }
+}
+
+// The word of all bits below k.
+fn ones_below(k: u16) -> u64
+    ensures { λ w. ⌜ w ≡ 2 ^ min k 64 - 1 ⌝ }
+{
+    if k < 64 {
+        return (1u64 << k) - 1;
+    }
+    18446744073709551615
+}
+
+// The lowest set bit of w at or above k, and 64 where there is none.
+fn low_from(w: u64, k: u16) -> u16
+    requires { ⌜ k < 64 ⌝ }
+    ensures { λ r. ⌜ LowFrom w k r ⌝ }
+{
+    let t = u64::trailing_zeros(w >> k) as u16;
+    if k + t < 64 {
+        return k + t;
+    }
+    64
+}
+
+// The highest set bit of w below k, and 64 where there is none.
+fn high_below(w: u64, k: u16) -> u16
+    requires { ⌜ k ≤ 64 ⌝ }
+    ensures { λ r. ⌜ HighBelow w k r ⌝ }
+{
+    let v = w & ones_below(k);
+    if v == 0 {
+        return 64;
+    }
+    63 - u64::leading_zeros(v) as u16
+}
