@@ -16,7 +16,7 @@ demo: second
 	@build/second/release/demo
 
 examples: second
-	@build/second/release/examples crates/examples/specs
+	@build/second/release/write-examples crates/examples/specs
 
 manifest:
 	@bash tests/manifest > tests/manifest.txt

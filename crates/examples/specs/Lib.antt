@@ -1,1 +1,10 @@
 pub mod Play
+pub mod Readings
+pub mod Played1
+pub mod Played2
+pub mod Played3
+pub mod Played4
+pub mod Played5
+pub mod Refused
+pub mod Sets
+pub mod Sessions

@@ -1,0 +1,70 @@
+//! Charts as short text, for a reader who has to find out why one failed.
+
+use crate::calls::Call;
+use crate::numbers::RowNumber;
+use crate::tables::{Action, Chart, Row, Transition};
+
+fn text(bytes: &[u8]) -> String {
+    String::from_utf8_lossy(bytes).into_owned()
+}
+
+fn rows(list: &[RowNumber]) -> String {
+    list.iter().map(|row| row.0.to_string()).collect::<Vec<_>>().join(" ")
+}
+
+fn block(chart: &Chart, actions: &[Action]) -> String {
+    let one = |action: &Action| match action {
+        Action::Raise(name) => format!("raise {}", text(chart.name(*name))),
+        Action::Host(number) => format!("host {number}"),
+    };
+    actions.iter().map(one).collect::<Vec<_>>().join(", ")
+}
+
+fn show_row(chart: &Chart, number: usize, row: &Row) -> String {
+    let mut line = format!("{number} {:?} '{}'", row.kind, text(chart.id(RowNumber(number))));
+    if let Some(parent) = row.parent {
+        line += &format!(" under {}", parent.0);
+    }
+    if !row.list.is_empty() {
+        line += &format!(" list [{}]", rows(&row.list));
+    }
+    for (what, actions) in [("entry", &row.entry), ("exit", &row.exit), ("block", &row.block)] {
+        if !actions.is_empty() {
+            line += &format!(" {what} [{}]", block(chart, actions));
+        }
+    }
+    line
+}
+
+fn show_transition(chart: &Chart, number: usize, transition: &Transition) -> String {
+    let descriptors: Vec<String> =
+        transition.descriptors.iter().map(|&name| text(chart.name(name))).collect();
+    let mut line = format!("t{number} {:?} from {} on [{}]", transition.kind, transition.source.0, descriptors.join(" "));
+    if let Some(row) = transition.condition {
+        line += &format!(" if In({})", row.0);
+    }
+    line += &format!(" to [{}]", rows(&transition.targets));
+    if !transition.block.is_empty() {
+        line += &format!(" block [{}]", block(chart, &transition.block));
+    }
+    line
+}
+
+pub fn chart(chart: &Chart) -> String {
+    let rows = chart.rows.iter().enumerate().map(|(number, row)| show_row(chart, number, row));
+    let transitions = chart
+        .transitions
+        .iter()
+        .enumerate()
+        .map(|(number, transition)| show_transition(chart, number, transition));
+    rows.chain(transitions).collect::<Vec<_>>().join("; ")
+}
+
+pub fn calls(calls: &[Call]) -> String {
+    let one = |call: &Call| match call {
+        Call::Start { room } => format!("start in {room}"),
+        Call::Post { name } => format!("post {:?}", text(name)),
+        Call::Run { rounds, room } => format!("run {rounds} in {room}"),
+    };
+    calls.iter().map(one).collect::<Vec<_>>().join("; ")
+}

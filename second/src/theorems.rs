@@ -1,0 +1,248 @@
+//! Examples as theorems for the prover: modules of text, each theorem true by evaluation.
+
+use crate::calls::{Call, Dump};
+use crate::compiled::{compile, needed_place};
+use crate::encode::{encode_plainly, Spelt};
+use crate::examples::{self, Example};
+use crate::follower::{session_examples, SessionExample};
+use crate::generate::{self, Flavour};
+use crate::names::{slot_holds_descriptor, text_of};
+use crate::near_misses::sample;
+use crate::random::Random;
+use crate::readings;
+use crate::session::{CLOSING, ENDED};
+
+/// A file of theorems.
+pub struct Module {
+    pub name: String,
+    pub text: String,
+}
+
+const HEADER: &str = "\
+use mathlib.Core.Path.{_≡_, refl}
+use mathlib.Core.Bool.{Bool, true, false}
+use mathlib.Core.List.{List, [], _∷_, _++_}
+use Prim.Native.Nat.{ℕ}
+use Rattle.definition.specs.Rows.{same}
+use Rattle.definition.specs.declared.Mode.{Mode}
+use Rattle.definition.specs.declared.Mode.the-variants.{Running, Closing, Ended}
+use Rattle.definition.specs.Marked.{slotOf}
+use Rattle.definition.specs.Follower.{Follower, starts, posts, runs}
+use Rattle.definition.specs.Open.{everything}
+use Rattle.examples.specs.Play.{joined, historyShown, queueShown, shown, playedIf, played, compiledSets, fits, alike}
+";
+
+/// How many played charts are written, and how many to a module.
+const GENERATED: usize = 200;
+const PLAYED_IN_MODULE: usize = 41;
+const COMPILED: usize = 20;
+/// No line is longer.
+const LINE: usize = 120;
+
+pub fn modules() -> Vec<Module> {
+    let mut modules = vec![readings_module()];
+    let played = [examples::by_hand(), examples::generated(GENERATED)].concat();
+    for (place, part) in played.chunks(PLAYED_IN_MODULE).enumerate() {
+        modules.push(played_module(place, part));
+    }
+    modules.push(refused_module());
+    modules.push(sets_module());
+    modules.push(sessions_module());
+    modules
+}
+
+fn module(name: &str, holds: &str, theorems: &[String]) -> Module {
+    let about = format!("-- {holds} Written by second/ and compared, never edited by hand.\n");
+    let theorems: String = theorems.join("\n").lines().map(wrapped).collect();
+    Module { name: name.to_string(), text: format!("{about}{HEADER}\n{theorems}") }
+}
+
+/// A line, continued behind a "∷" on lines four deeper where it is long.
+fn wrapped(line: &str) -> String {
+    let indent = line.chars().take_while(|&letter| letter == ' ').count();
+    let mut text = String::new();
+    let mut length = 0;
+    for piece in line.split_inclusive("∷ ") {
+        let width = piece.chars().count();
+        if length > 0 && length + width > LINE {
+            text.truncate(text.trim_end().len());
+            text += "\n";
+            text += &" ".repeat(indent + 4);
+            length = indent + 4;
+        }
+        text += piece;
+        length += width;
+    }
+    text + "\n"
+}
+
+fn readings_module() -> Module {
+    let mut theorems = Vec::new();
+    for (reading, examples) in readings::all().into_iter().enumerate() {
+        for mut example in examples {
+            example.about = format!("Reading {}: {}.", reading + 1, example.about);
+            theorems.push(played(theorems.len() + 1, &example));
+        }
+    }
+    module("Readings", "One chart and more for each reading of the rules that has room for another.", &theorems)
+}
+
+fn played_module(place: usize, part: &[Example]) -> Module {
+    let first = place * PLAYED_IN_MODULE + 1;
+    let theorems: Vec<String> =
+        part.iter().enumerate().map(|(place, example)| played(first + place, example)).collect();
+    module(&format!("Played{}", place + 1), "Charts, played.", &theorems)
+}
+
+/// A refusal for the lent places alone cannot be told from tables, and is left out.
+fn refused_module() -> Module {
+    let fitting = |example: &Example| {
+        Example::of_tables("", "", example.spelt.clone(), Vec::new()).verdict == example.verdict
+    };
+    let refused: Vec<Example> = examples::refused().into_iter().filter(fitting).collect();
+    let theorems: Vec<String> =
+        refused.iter().enumerate().map(|(place, example)| played(place + 1, example)).collect();
+    module("Refused", "One chart for each way to break one rule.", &theorems)
+}
+
+fn sets_module() -> Module {
+    let mut random = Random::seeded(5_000_000);
+    let mut charts = vec![sample(), readings::chart_a()];
+    while charts.len() < COMPILED {
+        let rows = random.between(3, 14);
+        let flavour = Flavour::with_rows(&mut random, rows);
+        charts.push(generate::chart(&mut random, flavour));
+    }
+    let theorems: Vec<String> = charts
+        .iter()
+        .enumerate()
+        .map(|(place, chart)| compiled_sets(place + 1, &encode_plainly(chart)))
+        .collect();
+    module("Sets", "What charts compile to.", &theorems)
+}
+
+fn sessions_module() -> Module {
+    let mut theorems = Vec::new();
+    let mut place = 0;
+    for (number, (chart, sessions)) in session_examples().iter().enumerate() {
+        theorems.push(numbers_definition(number + 1, &encode_plainly(chart)));
+        for session in sessions {
+            place += 1;
+            theorems.push(session_theorem(place, number + 1, session));
+        }
+    }
+    module("Sessions", "Sessions that are well formed, and such that are not.", &theorems)
+}
+
+// Lists
+
+fn list<T: ToString>(items: impl IntoIterator<Item = T>) -> String {
+    let mut text = String::new();
+    for item in items {
+        text += &item.to_string();
+        text += " ∷ ";
+    }
+    text + "[]"
+}
+
+fn bracketed<T: ToString>(items: impl IntoIterator<Item = T>) -> String {
+    match list(items) {
+        text if text == "[]" => text,
+        text => format!("({text})"),
+    }
+}
+
+fn list_of_lists<'a>(lists: impl IntoIterator<Item = &'a Vec<u64>>) -> String {
+    list(lists.into_iter().map(bracketed))
+}
+
+/// A slot that holds no name or descriptor is written byte by byte.
+fn slot(bytes: &[u8]) -> String {
+    match text_of(bytes) {
+        Some(text) if slot_holds_descriptor(bytes) && bytes.len() == 64 => format!("slotOf {}", bracketed(text)),
+        _ => bracketed(bytes),
+    }
+}
+
+// Theorems
+
+fn numbers_definition(number: usize, spelt: &Spelt) -> String {
+    format!(
+        "abbrev numbers-{number:03} : List ℕ\nnumbers-{number:03} = {}\n",
+        list(&spelt.numbers)
+    )
+}
+
+fn names_definition(number: usize, example: &Example) -> String {
+    let slots = list(example.slots().map(slot));
+    format!("abbrev names-{number:03} : List ℕ\nnames-{number:03} = joined {}\n", in_brackets(&slots))
+}
+
+fn in_brackets(text: &str) -> String {
+    if text == "[]" {
+        text.to_string()
+    } else {
+        format!("({text})")
+    }
+}
+
+fn call(call: &Call) -> String {
+    match call {
+        Call::Start { room } => format!("starts {room}"),
+        Call::Post { name } => format!("posts {}", bracketed(name)),
+        Call::Run { rounds, room } => format!("runs {rounds} {room}"),
+    }
+}
+
+fn expected(example: &Example) -> String {
+    let verdict = vec![example.verdict];
+    let lists = example.dumps.iter().flat_map(Dump::lists);
+    list_of_lists(std::iter::once(&verdict).chain(lists))
+}
+
+fn played(number: usize, example: &Example) -> String {
+    let calls = in_brackets(&list(example.calls.iter().map(call)));
+    format!(
+        "-- {}\n{}\n{}\nexample-{number:03} : alike (played numbers-{number:03} names-{number:03} {calls}) ({}) ≡ true\n\
+         unfolding everything joined historyShown queueShown shown playedIf played alike\n\
+         example-{number:03} = refl\n",
+        example.about,
+        numbers_definition(number, &example.spelt),
+        names_definition(number, example),
+        expected(example),
+    )
+}
+
+fn compiled_sets(number: usize, spelt: &Spelt) -> String {
+    let place = needed_place(&spelt.numbers).expect("the chart is accepted");
+    let places = compile(&spelt.numbers, &spelt.names, place).expect("the chart is accepted");
+    let words = list(&places.numbers[spelt.numbers.len()..]);
+    format!(
+        "{}\ncompiled-{number:03} : same (compiledSets numbers-{number:03}) {} ≡ true\n\
+         unfolding everything compiledSets\ncompiled-{number:03} = refl\n",
+        numbers_definition(number, spelt),
+        in_brackets(&words),
+    )
+}
+
+fn session_theorem(number: usize, chart: usize, example: &SessionExample) -> String {
+    let session = &example.session;
+    let mode = match session.mode {
+        ENDED => "Ended",
+        CLOSING => "Closing",
+        _ => "Running",
+    };
+    let names = |queue: &[Vec<u8>]| list(queue.iter().map(bracketed));
+    let record = format!(
+        "record {{\n  configuration = {};\n  history = {};\n  internal = {};\n  external = {};\n  mode = {mode};\n}}",
+        list(&session.configuration),
+        list(session.history.iter().map(bracketed)),
+        names(&session.internal),
+        names(&session.external),
+    );
+    format!(
+        "-- {}\nsession-{number:03} : fits numbers-{chart:03} ({record}) ≡ {}\n\
+         unfolding everything fits\nsession-{number:03} = refl\n",
+        example.about, example.fits,
+    )
+}
