@@ -5,3 +5,4 @@ pub mod Passes
 pub mod Ways
 pub mod Parts
 pub mod Orders
+pub mod Loops

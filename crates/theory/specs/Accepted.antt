@@ -18,11 +18,12 @@ use Rattle.definition.specs.Tree.{isDescendant, isChild, descendants, children,
 use Rattle.definition.specs.Rules.{inside, each, countsFit, sizesFit, rowInRange, transitionInRange, referenceInRange, compiledSize, rule1, rule2, rule3, rule4, rule5, firstBroken, verdict, keepsRules, needsChild, areApart, initialFits, defaultFits, listFits, blocksFit, rowListsFit, isNoRoot, targetsFit, isInOrder, isSourceKind, hasUse, conditionFits, transitionFits}
 use Rattle.definition.specs.Selection.{History, atomicStates, orDefault, standIns}
 use Rattle.definition.specs.Microstep.{wouldStore}
-use Rattle.laws.specs.Bools.{no, and3, and4, clash, or-elim, bool-case, and-left, and-right, and-true}
+use Rattle.laws.specs.Bools.{no, and3, and4, clash, or-elim, bool-case, and-left, and-right, and-true, and7}
 use Rattle.laws.specs.Sets.{mem-head, mem-those, mem-intersection}
+use Rattle.laws.specs.Loops.{each-below}
 use Rattle.laws.specs.Lists.{mem-cases, all-mem, full-mem, keep-mem}
 use Rattle.laws.specs.Ways.{Way, eq-way, Below, below-way, below-trans, siblings}
-use Rattle.theory.specs.Tree.{Tree, each-below, low, root-kind, way-zero, has-child, under-below, under-plain, below-under, child-facts, mem-children}
+use Rattle.theory.specs.Tree.{Tree, low, root-kind, way-zero, has-child, under-below, under-plain, below-under, child-facts, mem-children}
 use Rattle.theory.specs.Fork.{Legal, Forks, part-forks, list-forks, anchor-self}
 use Rattle.theory.specs.Entry.{Ini, live-of}
 
@@ -57,18 +58,12 @@ rules-of true true false d e h = let z : _≡_ {A = ℕ} 0 1 = cc in absurd (ome
 rules-of true false c d e h = let z : _≡_ {A = ℕ} 0 1 = cc in absurd (omega arith)
 rules-of false b c d e h = let z : _≡_ {A = ℕ} 0 1 = cc in absurd (omega arith)
 
--- parts of a test of six or seven, from the left
+-- parts of a test of six, from the left
 and6 : (a b c d e f : Bool) → (a && b && c && d && e && f) ≡ true → (a ≡ true) × (b ≡ true) × (c ≡ true) × (d ≡ true) × (e ≡ true) × (f ≡ true)
 and6 true true true d e f h = let k = and3 d e f h in (refl, refl, refl, k .0, k .1, k .2)
 and6 true true false d e f h = absurd (no h)
 and6 true false c d e f h = absurd (no h)
 and6 false b c d e f h = absurd (no h)
-
-and7 : (a b c d e f g : Bool) → (a && b && c && d && e && f && g) ≡ true → (a ≡ true) × (b ≡ true) × (c ≡ true) × (d ≡ true) × (e ≡ true) × (f ≡ true) × (g ≡ true)
-and7 true true true d e f g h = let k = and4 d e f g h in (refl, refl, refl, k .0, k .1, k .2, k .3)
-and7 true true false d e f g h = absurd (no h)
-and7 true false c d e f g h = absurd (no h)
-and7 false b c d e f g h = absurd (no h)
 
 -- a row past the count has an empty list
 beyond-list : (numbers : List ℕ) (i : ℕ) → rowCount numbers ≤ i → listAt numbers i ≡ []
@@ -98,7 +93,7 @@ module _ (numbers names : List ℕ) (room nameRoom : ℕ) (r1 : rule1 numbers na
       let i : start + r .0 < referenceCount numbers = omega arith in
       let q : referenceBase numbers + start + r .0 ≡ referenceBase numbers + (start + r .0) = omega arith in
       let e : getD numbers (referenceBase numbers + (start + r .0)) 0 ≡ x = ap (λ (k : ℕ). getD numbers k 0) (sym q) ∙ sym (getD-drop (referenceBase numbers + start) numbers (r .0) 0) ∙ r .2 in
-      rw (← e) (ltb-true _ _ (each-below (referenceCount numbers) (referenceInRange numbers) (parts1 .3) (start + r .0) i))
+      rw (← e) (ltb-true _ _ (each-below (referenceInRange numbers) (referenceCount numbers) (parts1 .3) (start + r .0) i))
 
   list-inside : (i x : ℕ) → mem x (listAt numbers i) ≡ true → x < rowCount numbers
   unfolding listAt rowInRange mem
@@ -106,7 +101,7 @@ module _ (numbers names : List ℕ) (room nameRoom : ℕ) (r1 : rule1 numbers na
       bool-case (ltb i (rowCount numbers))
       (λ e. reference-inside (rowCell numbers i 7) (rowCell numbers i 8) x
       (leb-true _ _ (and7 (leb (rowCell numbers i 0) 5) _ _ _ _ (inside (referenceCount numbers) (rowCell numbers i 7) (rowCell numbers i 8)) _
-      (each-below (rowCount numbers) (rowInRange numbers) (parts1 .1) i (ltb-true _ _ e)) .5)) h)
+      (each-below (rowInRange numbers) (rowCount numbers) (parts1 .1) i (ltb-true _ _ e)) .5)) h)
       (λ e. absurd (no (rw (beyond-list numbers i (ltb-false _ _ e)) at h)))
 
   transition-parts : (t : ℕ) → t < transitionCount numbers →
@@ -115,7 +110,7 @@ module _ (numbers names : List ℕ) (room nameRoom : ℕ) (r1 : rule1 numbers na
   transition-parts t l =
       let k = and6 (ltb (transitionCell numbers t 0) (rowCount numbers)) _ _ _
       (inside (referenceCount numbers) (transitionCell numbers t 5) (transitionCell numbers t 6) && leb (transitionCell numbers t 6) mostTargets) _
-      (each-below (transitionCount numbers) (transitionInRange numbers) (parts1 .2) t l) in
+      (each-below (transitionInRange numbers) (transitionCount numbers) (parts1 .2) t l) in
       (ltb-true _ _ (k .0), leb-true _ _ (and-left (inside (referenceCount numbers) (transitionCell numbers t 5) (transitionCell numbers t 6)) _ (k .4)))
 
 -- tables with no rule broken mean a sound chart, whatever places they are compiled into
@@ -219,14 +214,14 @@ module _ (c : Chart) (g : Sound c) where
   unfolding rule4 rowListsFit
   row4 i l =
       and3 (areApart c (listed c i)) (listFits c i) (blocksFit c i)
-      (each-below (c .rows) (rowListsFit c) (and-left (each (c .rows) (rowListsFit c)) _ (g .listRule)) i l)
+      (each-below (rowListsFit c) (c .rows) (and-left (each (c .rows) (rowListsFit c)) _ (g .listRule)) i l)
 
   pub blocks-fit : (i : ℕ) → i < c .rows → blocksFit c i ≡ true
   blocks-fit i l = row4 i l .2
 
   transition4 : (t : ℕ) → t < c .transitions → targetsFit c t ≡ true
   unfolding rule4
-  transition4 t l = each-below (c .transitions) (targetsFit c) (and-right (each (c .rows) (rowListsFit c)) _ (g .listRule)) t l
+  transition4 t l = each-below (targetsFit c) (c .transitions) (and-right (each (c .rows) (rowListsFit c)) _ (g .listRule)) t l
 
   pub targets-apart : (t : ℕ) → t < c .transitions → areApart c ((c .transition) t .targets) ≡ true
   unfolding targetsFit
@@ -242,7 +237,7 @@ module _ (c : Chart) (g : Sound c) where
   unfolding rule5 transitionFits
   transition5 t l =
       and4 (isInOrder c t) (isSourceKind (kind c ((c .transition) t .source))) (hasUse ((c .transition) t)) (conditionFits c ((c .transition) t .condition))
-      (each-below (c .transitions) (transitionFits c) (g .transitionRule) t l)
+      (each-below (transitionFits c) (c .transitions) (g .transitionRule) t l)
 
   pub sources-in-order : (t : ℕ) → t < c .transitions → isInOrder c t ≡ true
   sources-in-order t l = transition5 t l .0

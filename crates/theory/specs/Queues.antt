@@ -23,8 +23,9 @@ use Rattle.definition.specs.Microstep.{Effect, done, queued, perform, performed
 use Rattle.definition.specs.Selection.{History}
 use Rattle.definition.specs.Follower.{Follower, mostQueued, Round, idle, over, did, taking, selectedBy, closingRound, round, refusal, firstEntry, firstEffects, firstFollower, startOr, start, endedFollower, answerNo, isEnded, postAnswer, withExternal, post, run}
 use Rattle.laws.specs.Bools.{no, and3, and4, clash, bool-case, and-left, and-right, and-true}
+use Rattle.laws.specs.Loops.{each-below}
 use Rattle.laws.specs.Lists.{all-both, all-flat}
-use Rattle.theory.specs.Tree.{Tree, each-below, low, root-kind}
+use Rattle.theory.specs.Tree.{Tree, low, root-kind}
 use Rattle.theory.specs.NameFacts.{done-name-fits}
 use Rattle.theory.specs.Disjoint.{candidate-of, selected-candidate}
 use Rattle.theory.specs.Runs.{not-refused, ChosenEvent, eventless, oldestInternal, oldestExternal, round-cases, run-invariant}
@@ -126,7 +127,7 @@ module _ (numbers names : List ℕ) (r1 : rule1 numbers names (compiledSize numb
   unfolding blockAt all from actionNamed
   block-names zero start l = refl
   block-names (suc count) start l =
-      and-true (raiseFits names (actionAt numbers start)) _ (each-below (actionCount numbers) (actionNamed numbers names) (named .1) start (omega arith))
+      and-true (raiseFits names (actionAt numbers start)) _ (each-below (actionNamed numbers names) (actionCount numbers) (named .1) start (omega arith))
       (block-names count (suc start) (omega arith))
 
   block-inside : (start count : ℕ) → blockFits numbers start count ≡ true → start + count ≤ actionCount numbers
@@ -140,7 +141,7 @@ module _ (numbers names : List ℕ) (r1 : rule1 numbers names (compiledSize numb
       bool-case (ltb i (rowCount numbers))
       (λ e. let k = and4 (leb (rowCell numbers i 0) 5 && optionalBelow (rowCount numbers) (rowCell numbers i 1) && optionalBelow (nameCount numbers) (rowCell numbers i 2) && blockFits numbers (rowCell numbers i 3) (rowCell numbers i 4))
       (blockFits numbers (rowCell numbers i 5) (rowCell numbers i 6)) (inside (referenceCount numbers) (rowCell numbers i 7) (rowCell numbers i 8)) (blockFits numbers (rowCell numbers i 9) (rowCell numbers i 10))
-      (each-below (rowCount numbers) (rowInRange numbers) (in-range .0) i (ltb-true _ _ e)) in (
+      (each-below (rowInRange numbers) (rowCount numbers) (in-range .0) i (ltb-true _ _ e)) in (
         block-names (rowCell numbers i 4) (rowCell numbers i 3) (block-inside (rowCell numbers i 3) (rowCell numbers i 4) (and-right (leb (rowCell numbers i 0) 5 && optionalBelow (rowCount numbers) (rowCell numbers i 1) && optionalBelow (nameCount numbers) (rowCell numbers i 2)) _ (k .0))),
         block-names (rowCell numbers i 6) (rowCell numbers i 5) (block-inside (rowCell numbers i 5) (rowCell numbers i 6) (k .1)),
         block-names (rowCell numbers i 10) (rowCell numbers i 9) (block-inside (rowCell numbers i 9) (rowCell numbers i 10) (k .3)),
@@ -156,7 +157,7 @@ module _ (numbers names : List ℕ) (r1 : rule1 numbers names (compiledSize numb
       (inside (descriptorCount numbers) (transitionCell numbers u 1) (transitionCell numbers u 2) && leb (transitionCell numbers u 2) mostDescriptors) &&
       optionalBelow (rowCount numbers) (transitionCell numbers u 3) && leb (transitionCell numbers u 4) 1 &&
       (inside (referenceCount numbers) (transitionCell numbers u 5) (transitionCell numbers u 6) && leb (transitionCell numbers u 6) mostTargets)) _
-      (each-below (transitionCount numbers) (transitionInRange numbers) (in-range .1) u l)))
+      (each-below (transitionInRange numbers) (transitionCount numbers) (in-range .1) u l)))
 
   -- every row but the root has an id, so its done name is a name
   pub row-done-name : (i : ℕ) → suc i < rowCount numbers → isName (doneName (nameAt names (idAt numbers (suc i)))) ≡ true
@@ -164,7 +165,7 @@ module _ (numbers names : List ℕ) (r1 : rule1 numbers names (compiledSize numb
   row-done-name i l =
       done-name-fits (nameAt names (idAt numbers (suc i)))
       (and3 (not (eqb (idAt numbers (suc i)) noNumber)) (isId (nameAt names (idAt numbers (suc i)))) (each (rowCount numbers) (idDiffers numbers names (suc i)))
-      (each-below (rowCount numbers) (idFits numbers names) (named .0) (suc i) l) .1)
+      (each-below (idFits numbers names) (rowCount numbers) (named .0) (suc i) l) .1)
 
   done-named : (i : ℕ) → i < rowCount numbers → isRoot (kind (chartOf numbers) i) ≡ false → queuesNames (chartOf numbers) (nameAt names) (done i) ≡ true
   unfolding queuesNames queued all

@@ -19,8 +19,9 @@ use Rattle.definition.specs.Follower.{Follower, mostQueued, isFinalUnderRoot, m
 use Rattle.definition.specs.Legal.{isLegal, isStorable, WellFormed, placeFits, historyFits, queueFits, modeFits, isWellFormed}
 use Rattle.laws.specs.Bools.{no, and3, and4, bool-case, or-elim, or-left, or-right, and-left, and-right, and-true}
 use Rattle.laws.specs.Sets.{empty-some}
+use Rattle.laws.specs.Loops.{each-below}
 use Rattle.laws.specs.Lists.{empty-list, full-list, mem-all}
-use Rattle.theory.specs.Tree.{Tree, each-below, root-kind}
+use Rattle.theory.specs.Tree.{Tree, root-kind}
 use Rattle.theory.specs.Accepted.{Sound}
 use Rattle.theory.specs.LegalTest.{legal-facts}
 use Rattle.theory.specs.Storing.{storable-exact}
@@ -157,7 +158,7 @@ module _ (c : Chart) (g : Sound c) where
       at h n =
           or-elim (isEmpty (storedIn history h)) (isHistory (kind c h) && isStorable c h (storedIn history h)) (λ e. absurd (n (empty-list (storedIn history h) e)))
           (λ e. (and-left (isHistory (kind c h)) _ e, and-right (isHistory (kind c h)) _ e))
-          (each-below (c .rows) (placeFits c history) (and-right (eqb (length history) (c .rows)) _ t) h (inside h n))
+          (each-below (placeFits c history) (c .rows) (and-right (eqb (length history) (c .rows)) _ t) h (inside h n))
 
   mode-passes : (s : Follower) → Fit c s → modeFits (s .mode) c s ≡ true
   unfolding modeFits isEmpty

@@ -1,0 +1,42 @@
+-- Which kind may stand under which, as a table of six by six.
+use mathlib.Core.Path.{_≡_, refl}
+use mathlib.Core.Bool.{Bool, true, false}
+use mathlib.Core.List.{List, [], _∷_}
+use lib.ListN.{getD}
+use Rattle.definition.specs.declared.Kind.{Kind}
+use Rattle.definition.specs.declared.Kind.the-variants.{Root, State, Parallel, Final, Shallow, Deep}
+use Rattle.definition.specs.Chart.{kindNo}
+use Rattle.definition.specs.Rules.{mayStand}
+
+-- what holds of each of the six holds of every kind
+each-kind : (P : Kind → Type 0) → P Root → P State → P Parallel → P Final → P Shallow → P Deep → (k : Kind) → P k
+each-kind P a b c d e f Root = a
+each-kind P a b c d e f State = b
+each-kind P a b c d e f Parallel = c
+each-kind P a b c d e f Final = d
+each-kind P a b c d e f Shallow = e
+each-kind P a b c d e f Deep = f
+
+-- a row for each parent, a column for each child
+abbrev table : List (List Bool)
+table =
+    (false ∷ true ∷ true ∷ true ∷ false ∷ false ∷ []) ∷
+    (false ∷ true ∷ true ∷ true ∷ true ∷ true ∷ []) ∷
+    (false ∷ true ∷ true ∷ false ∷ true ∷ true ∷ []) ∷
+    (false ∷ false ∷ false ∷ false ∷ false ∷ false ∷ []) ∷
+    (false ∷ false ∷ false ∷ false ∷ false ∷ false ∷ []) ∷
+    (false ∷ false ∷ false ∷ false ∷ false ∷ false ∷ []) ∷
+    []
+
+-- the table, read by the numbers of the two kinds, says it
+pub table-says : (p k : Kind) → getD (getD table (kindNo p) []) (kindNo k) false ≡ mayStand p k
+unfolding mayStand
+table-says p k =
+    each-kind (λ q. (j : Kind) → getD (getD table (kindNo q) []) (kindNo j) false ≡ mayStand q j)
+    (each-kind (λ j. getD (getD table (kindNo Root) []) (kindNo j) false ≡ mayStand Root j) refl refl refl refl refl refl)
+    (each-kind (λ j. getD (getD table (kindNo State) []) (kindNo j) false ≡ mayStand State j) refl refl refl refl refl refl)
+    (each-kind (λ j. getD (getD table (kindNo Parallel) []) (kindNo j) false ≡ mayStand Parallel j) refl refl refl refl refl refl)
+    (λ j. each-kind (λ j. getD (getD table (kindNo Final) []) (kindNo j) false ≡ mayStand Final j) refl refl refl refl refl refl j)
+    (λ j. each-kind (λ j. getD (getD table (kindNo Shallow) []) (kindNo j) false ≡ mayStand Shallow j) refl refl refl refl refl refl j)
+    (λ j. each-kind (λ j. getD (getD table (kindNo Deep) []) (kindNo j) false ≡ mayStand Deep j) refl refl refl refl refl refl j)
+    p k

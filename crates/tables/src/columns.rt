@@ -1,0 +1,58 @@
+// Where each number stands: the counts of the header, and the columns of each table.
+pub const ROWS: usize = 0;
+
+pub const TRANSITIONS: usize = 1;
+
+pub const REFERENCES: usize = 2;
+
+pub const DESCRIPTORS: usize = 3;
+
+pub const ACTIONS: usize = 4;
+
+pub const NAMES: usize = 5;
+
+pub const HEADER: usize = 6;
+
+// A row. A block or a list is a start, and a count in the column after it.
+pub const KIND: usize = 0;
+
+pub const PARENT: usize = 1;
+
+pub const ID: usize = 2;
+
+pub const ENTRY: usize = 3;
+
+pub const EXIT: usize = 5;
+
+pub const LIST: usize = 7;
+
+pub const LIST_BLOCK: usize = 9;
+
+pub const ROW_WIDTH: usize = 11;
+
+// A transition.
+pub const SOURCE: usize = 0;
+
+pub const EVENTS: usize = 1;
+
+pub const CONDITION: usize = 3;
+
+pub const INTERNAL: usize = 4;
+
+pub const TARGETS: usize = 5;
+
+pub const BLOCK: usize = 7;
+
+pub const TRANSITION_WIDTH: usize = 9;
+
+// An action.
+pub const ACTION_KIND: usize = 0;
+
+pub const ARGUMENT: usize = 1;
+
+pub const ACTION_WIDTH: usize = 4;
+
+// Behind the tables: the words of a row's four sets, and of a transition's one.
+pub const ROW_SETS: usize = 16;
+
+pub const TRANSITION_SETS: usize = 4;
