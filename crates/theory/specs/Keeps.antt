@@ -12,14 +12,16 @@ use Rattle.definition.specs.declared.Answer.{Answer}
 use Rattle.definition.specs.Rows.{from, isEmpty}
 use Rattle.definition.specs.Names.{Name}
 use Rattle.definition.specs.Chart.{Chart, Names, kind, isHistory}
+use Rattle.definition.specs.Tree.{defaultTargets}
 use Rattle.definition.specs.Selection.{selected}
-use Rattle.definition.specs.Microstep.{storedIn, historyAfter, configurationAfter}
+use Rattle.definition.specs.Microstep.{storedIn, historyAfter, configurationAfter, targeted, entryOf}
 use Rattle.definition.specs.Follower.{Follower, nothingAt, noHistory, endedFollower, modeOf, Round, idle, over, did, taking, selectedBy, closingRound, round, refusal, firstEffects, firstFollower, startOr, start, isEnded, answerNo, postAnswer, withExternal, post, run}
 use Rattle.definition.specs.Legal.{isLegal, StoredFrom}
 use Rattle.laws.specs.Bools.{clash, bool-case}
 use Rattle.laws.specs.Lists.{empty-list, full-list, list-full, set-eq, eq-set}
 use Rattle.theory.specs.Accepted.{Sound, HistOk}
-use Rattle.theory.specs.Round.{length-from, selected-taken, next-legal, next-order, after-ok, after-size, after-plain}
+use Rattle.theory.specs.EntryOrder.{EntrySet}
+use Rattle.theory.specs.Round.{entered-means, length-from, selected-taken, next-legal, next-order, after-ok, after-size, after-plain}
 use Rattle.theory.specs.LegalTest.{legal-facts, facts-legal}
 use Rattle.theory.specs.Seed.{first-legal}
 use Rattle.theory.specs.Storing.{stored-kept, kept-stored}
@@ -100,6 +102,15 @@ module _ (c : Chart) (g : Sound c) (names : Names) where
         (eq-set (c .rows) _ (next-order c g conf o (k .1) (storedIn history) (history-ok history f) (selected c names conf (storedIn history) event) ts))
         (next-legal c g conf o (k .1) (storedIn history) (history-ok history f) (selected c names conf (storedIn history) event) ts)
 
+    entry-after : EntrySet c (defaultTargets c)
+        (targeted c (storedIn history) (storedIn (historyAfter c conf (storedIn history) (selected c names conf (storedIn history) event))) (selected c names conf (storedIn history) event))
+        (entryOf c conf (storedIn history) (selected c names conf (storedIn history) event))
+    entry-after =
+        let k = legal-facts c (g .tree) conf l in
+        let ts = selected-taken c (g .tree) names conf (k .1 .part) (storedIn history) event in
+        let o = set-eq (c .rows) conf (k .0) in
+        entered-means c g conf o (k .1) (storedIn history) (history-ok history f) (selected c names conf (storedIn history) event) ts
+
     histories-after : Histories c (historyAfter c conf (storedIn history) (selected c names conf (storedIn history) event))
     unfolding HistOk
     histories-after =
@@ -128,6 +139,14 @@ module _ (c : Chart) (g : Sound c) (names : Names) where
   running-live : (s : Follower) → Fit c s → s .mode ≡ Running → Live c s
   unfolding isEnded
   running-live s f e = ⊎-elim (λ (a : Live c s). a) (λ (o : Over c s). absurd (clash (isEnded (s .mode)) (rw (o .mode)) (rw e))) f
+
+  -- the entry set of a running session's round, in the document's words
+  pub round-entry : (s : Follower) → Fit c s → s .mode ≡ Running → (event : Option Name) →
+      EntrySet c (defaultTargets c)
+      (targeted c (storedIn (s .history)) (storedIn (historyAfter c (s .configuration) (storedIn (s .history)) (selectedBy c names s event))) (selectedBy c names s event))
+      (entryOf c (s .configuration) (storedIn (s .history)) (selectedBy c names s event))
+  unfolding selectedBy
+  round-entry s f m event = let a = running-live s f m in entry-after (s .configuration) (s .history) event (a .legal) (a .history)
 
   pub round-fits : (s : Follower) → Fit c s → FitAfter c (round c names s)
   unfolding closingRound

@@ -88,13 +88,15 @@ module _ (c : Chart) (names : Names) where
     pub external : List Name
     pub event : Option Name
     pub chosen : ChosenEvent s internal external event
+    -- it is the queue that the round's names join
+    pub joined : next .internal ≡ internal ++ flat (queued c names) es
     pub full : (refusal room next es ≡ some Full) ↔ Overfull internal es
 
   pub round-full : (room : ℕ) (s next : Follower) (es : List Effect) → s .mode ≡ Running → round c names s ≡ did next es → FullAt room s next es
   unfolding taking closingRound
   round-full room s next es m e =
       subst Exact e (round-cases c names s Exact (λ q. tt) (λ q. tt) (λ q. let z : _≡_ {A = ℕ} 0 1 = cc in absurd (omega arith))
-      (λ q internal external event h. record { internal = internal; external = external; event = event; chosen = h; full = exact room internal _ _ refl }))
+      (λ q internal external event h. record { internal = internal; external = external; event = event; chosen = h; joined = refl; full = exact room internal _ _ refl }))
     where
       Exact : Round → Type 0
       Exact idle = Unit {0}

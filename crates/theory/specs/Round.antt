@@ -25,6 +25,7 @@ use Rattle.laws.specs.Ways.{Way, here, up, eq-way, Below, way-cases, way-trans,
 use Rattle.theory.specs.Tree.{Tree, low, under-below, under-plain, below-under, parent-plain}
 use Rattle.theory.specs.Fork.{live, Partial, Legal, live-up}
 use Rattle.theory.specs.Entry.{live-of, live-more, way-plain, path-inside, down-facts, down-intro, entry-ascends, Ready, entering-inv, filled-legal}
+use Rattle.theory.specs.EntryOrder.{EntrySet, entry-set}
 use Rattle.theory.specs.Unions.{union-mem, mem-in-union, ascends-fold-union}
 use Rattle.theory.specs.Accepted.{Sound, mem-descendants, descendants-mem, HistOk, Kept, Stand, ini}
 use Rattle.theory.specs.Disjoint.{Disjoint, candidate-of, candidate-live, selected-apart, selected-candidate}
@@ -448,6 +449,11 @@ module _ (c : Chart) (g : Sound c) (conf : List ℕ) (ord : conf ≡ those (c .r
   pub entered-new : (i : ℕ) → mem i ((entryOf c conf hist ts) .set) ≡ true → mem i (staying c conf hist ts) ≡ false
   unfolding entryOf
   entered-new i m = (entering-inv c (g .tree) (ini c g) stay stay-part aim (ready .inv)) .new i m
+
+  -- the entry set of a round, in the document's words
+  pub entered-means : EntrySet c (defaultTargets c) (targeted c hist (storedIn (historyAfter c conf hist ts)) ts) (entryOf c conf hist ts)
+  unfolding entryOf
+  entered-means = entry-set c (g .tree) (ini c g) stay stay-part aim (ready .inv) aim-ascends
 
   pub next-legal : Legal c (isIn (configurationAfter c conf hist ts))
   unfolding entryOf configurationAfter

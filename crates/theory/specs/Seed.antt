@@ -18,6 +18,7 @@ use Rattle.theory.specs.Tree.{Tree, low, root-kind, under-below, under-p
 use Rattle.theory.specs.Fork.{live, Partial}
 use Rattle.theory.specs.Accepted.{Sound, ini}
 use Rattle.theory.specs.Entry.{Initial, live-of, down-facts, down-intro, path-inside, path-descends, path-up, ascends-paths, first-child, entry-holds, entry-ascends, entry-inside, Ready, filled-legal}
+use Rattle.theory.specs.EntryOrder.{EntrySet, entry-set}
 use Rattle.theory.specs.LegalTest.{facts-legal}
 
 -- nothing stays
@@ -96,3 +97,11 @@ pub first-legal : (c : Chart) → Sound c → isLegal c ((firstEntry c) .set) �
 unfolding firstEntry isDomainKind
 first-legal c g =
     seed-legal c (g .tree) (ini c g) (defaultTargets c 0) (ini c g 0 (g .tree .some) (or-left (isRoot (kind c 0)) (isCompound c 0) (root-kind c (g .tree))))
+
+-- the entry set of a start, in the document's words
+pub first-means : (c : Chart) → Sound c → EntrySet c (defaultTargets c) (pathsBelow c 0 (defaultTargets c 0)) (firstEntry c)
+unfolding firstEntry isDomainKind
+first-means c g =
+    entry-set c (g .tree) (ini c g) noneStays (none-part c) (pathsBelow c 0 (defaultTargets c 0))
+    ((seed-ready c (g .tree) (ini c g) (defaultTargets c 0) (ini c g 0 (g .tree .some) (or-left (isRoot (kind c 0)) (isCompound c 0) (root-kind c (g .tree))))) .inv)
+    (ascends-paths c 0 (defaultTargets c 0))

@@ -5,21 +5,25 @@ use mathlib.Core.List.{List, [], _∷_}
 use mathlib.Core.Option.{Option, none, some}
 use mathlib.Core.Logic.{inr, _↔_}
 use Prim.Native.Nat.{ℕ}
-use Rattle.definition.specs.declared.Mode.the-variants.{Closing, Ended}
+use Rattle.definition.specs.declared.Mode.the-variants.{Running, Closing, Ended}
 use Rattle.definition.specs.declared.Answer.{Answer}
 use Rattle.definition.specs.declared.Answer.the-variants.{Done}
 use Rattle.definition.specs.Rows.{any}
 use Rattle.definition.specs.Names.{Name}
 use Rattle.definition.specs.Tables.{chartOf, nameAt}
 use Rattle.definition.specs.Rules.{keepsRules}
-use Rattle.definition.specs.Microstep.{Effect}
-use Rattle.definition.specs.Follower.{Follower, endedFollower, isFinalUnderRoot, did, round, refusal, firstFollower, firstEffects, startOr, start, post, run, Call, starts, posts, runs, Outcome, startedOutcome, ranOutcome, follow, followAll}
+use Rattle.definition.specs.Tree.{defaultTargets}
+use Rattle.definition.specs.Microstep.{Effect, pathsBelow, targeted, storedIn, historyAfter, entryOf}
+use Rattle.definition.specs.Follower.{Follower, endedFollower, isFinalUnderRoot, did, round, refusal, selectedBy, firstEntry, firstFollower, firstEffects, startOr, start, post, run, Call, starts, posts, runs, Outcome, startedOutcome, ranOutcome, follow, followAll}
 use Rattle.definition.specs.Legal.{isLegal, WellFormed, isWellFormed}
 use Rattle.theory.specs.Accepted.{Sound, accepted-sound, accepted-rule1, accepted-rule2}
 use Rattle.theory.specs.Runs.{refusal-not-done}
 use Rattle.theory.specs.Queues.{Queued, ended-queued, start-queued, post-queued, round-queued, run-queued}
 use Rattle.theory.specs.Shown.{takenIn, DisjointExits}
 use Rattle.theory.specs.Shown as shown
+use Rattle.theory.specs.EntryOrder.{EntrySet}
+use Rattle.theory.specs.Seed.{first-means}
+use Rattle.theory.specs.Keeps as keeps
 use Rattle.theory.specs.Keeps.{Fit, FitAfter, ended-over, first-fits, start-fits, post-fits, round-fits, run-fits}
 use Rattle.theory.specs.WellFormed.{parts-well-formed, well-formed-queues, well-formed-fit, well-formed-exact}
 
@@ -115,3 +119,16 @@ module _ (numbers names : List ℕ) (accepted : keepsRules numbers names ≡ Don
   -- the transitions that a round takes have disjoint exit sets
   pub round-disjoint : (s next : Follower) (es : List Effect) → round (chartOf numbers) (nameAt names) s ≡ did next es → DisjointExits (chartOf numbers) s (takenIn es)
   round-disjoint s next es e = shown.round-disjoint (chartOf numbers) (nameAt names) s next es e
+
+  -- ---- the entry set in the words of document 01, and in any order
+
+  pub start-entry : EntrySet (chartOf numbers) (defaultTargets (chartOf numbers)) (pathsBelow (chartOf numbers) 0 (defaultTargets (chartOf numbers) 0)) (firstEntry (chartOf numbers))
+  start-entry = first-means (chartOf numbers) sound
+
+  -- of the round that takes what the event selects, or no event
+  pub round-entry : (s : Follower) → WellFormed (chartOf numbers) s → s .mode ≡ Running → (event : Option Name) →
+      EntrySet (chartOf numbers) (defaultTargets (chartOf numbers))
+      (targeted (chartOf numbers) (storedIn (s .history))
+      (storedIn (historyAfter (chartOf numbers) (s .configuration) (storedIn (s .history)) (selectedBy (chartOf numbers) (nameAt names) s event))) (selectedBy (chartOf numbers) (nameAt names) s event))
+      (entryOf (chartOf numbers) (s .configuration) (storedIn (s .history)) (selectedBy (chartOf numbers) (nameAt names) s event))
+  round-entry s w m event = keeps.round-entry (chartOf numbers) sound (nameAt names) s (well-formed-fit (chartOf numbers) sound s w) m event

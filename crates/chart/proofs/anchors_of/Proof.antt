@@ -1,0 +1,18 @@
+use Rattle.chart.specs.Readers.{transition-set}
+use Rattle.rowset.specs.Member.{rowsOf}
+use borrow.Author.Needs.{needs}
+use mathlib.Core.Path.{ap, _∙_}
+use Rattle.chart.proofs.anchors_of.Statement.{statement}
+use Rattle.chart.proofs.anchors_of.Tie as tie
+
+cast-set-in : tie.Need-cast-set-in
+cast-set-in c = search needs
+
+set-in-requires : tie.Need-set-in-requires
+set-in-requires c κs = transition-set _ _ (c .before .before .pre)
+
+returns : tie.Need-returns
+returns c = let p = c .before .before .before .pre in ap rowsOf (c .set-in .ensures) ∙ p .ready .anchorSets _ (p .inside)
+
+pub anchors-of-spec : {M : Type 1} → statement M
+anchors-of-spec = tie.close (tie.spec cast-set-in set-in-requires returns)

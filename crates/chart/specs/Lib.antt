@@ -1,0 +1,6 @@
+pub mod Ready
+pub mod Columns
+pub mod Inside
+pub mod Agree
+pub mod Own
+pub mod Readers

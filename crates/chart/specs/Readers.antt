@@ -1,0 +1,99 @@
+-- What the readers' contracts rest on: a set lies inside the chart, and the tests of a row follow from its kind and its children.
+use mathlib.Core.Path.{_≡_, refl, sym, ap, _∙_}
+use mathlib.Core.Bool.{Bool, true, false, not, _&&_, _||_}
+use mathlib.Core.List.{List, []}
+use Prim.Native.Nat.{ℕ, zero, suc, _+_, _*_, _≤_, _<_}
+use native.Mathlib.Nat.{mul-le-mul-left}
+use native.Mathlib.Omega.{arith}
+use lib.ListN.{length}
+use borrow.Author.Tests.{le-leb}
+use Rattle.definition.specs.Rows.{isEmpty}
+use Rattle.definition.specs.Chart.{Chart, kind, isRoot, isState, isFinal}
+use Rattle.definition.specs.Tables.{mostRows, mostTransitions, mostNames, mostDescriptors, mostTargets, mostActions, rowCount, transitionCount, referenceCount, descriptorCount, actionCount, nameCount, tablesSize, parentAt, chartOf}
+use Rattle.definition.specs.Tree.{children, isCompound, isAtomic, isDomainKind}
+use Rattle.definition.specs.Rules.{countsFit, compiledSize}
+use Rattle.theory.specs.Tree.{low}
+use Rattle.tables.specs.Ranges.{Counts}
+use Rattle.rowset.specs.declared.RowSet.{RowSet}
+use Rattle.rowset.specs.Member.{rowsOf}
+use Rattle.chart.specs.Ready.{Ready, RowReady, TransitionReady, ParentRow, SetInside}
+
+-- ---- the counts, as the test has them
+
+pub counts-fit : (numbers : List ℕ) → Counts numbers → countsFit numbers ≡ true
+unfolding countsFit
+counts-fit numbers c =
+    rw (le-leb _ _ (c .some), le-leb _ _ (c .rows), le-leb _ _ (c .transitions), le-leb _ _ (c .names), le-leb _ _ (c .references), le-leb _ _ (c .descriptors), le-leb _ _ (c .actions))
+
+-- ---- sets
+
+pub row-set : (chart : List ℕ) (w i : ℕ) → w ≤ 12 → RowReady chart i → SetInside chart w i
+unfolding compiledSize
+row-set chart w i l h =
+    let s = h .ready .size in
+    let m : rowCount chart * w ≤ rowCount chart * 12 = mul-le-mul-left (rowCount chart) l in
+    let k = h .inside in
+    record { counts = counts-fit chart (h .ready .tables .sized .counts); inside = omega arith }
+
+pub transition-set : (chart : List ℕ) (t : ℕ) → TransitionReady chart t → SetInside chart 16 t
+unfolding compiledSize
+transition-set chart t h =
+    let s = h .ready .size in
+    let k = h .inside in
+    record { counts = counts-fit chart (h .ready .tables .sized .counts); inside = omega arith }
+
+-- where a set stands, by the numbers that were read
+pub set-place : (chart : List ℕ) (column i rows size : ℕ) → rows ≡ rowCount chart → size ≡ tablesSize chart →
+    size + rows * column + i * 4 ≡ tablesSize chart + rowCount chart * column + i * 4
+set-place chart column i rows size e f = rw (e, f)
+
+-- the first column stands where the tables end
+pub first-column : (chart : List ℕ) (i : ℕ) → tablesSize chart + rowCount chart * 0 + i * 4 ≡ tablesSize chart + i * 4
+first-column chart i = omega arith
+
+-- ---- tests of a row
+
+module _ (c : Chart) (i : ℕ) where
+  pub compound-state : (s : RowSet) (b : Bool) → isState (kind c i) ≡ true → rowsOf s ≡ children c i → b ≡ isEmpty (rowsOf s) → not b ≡ isCompound c i
+  unfolding isCompound
+  compound-state s b k e f = rw (k, ← e, f)
+
+  pub compound-other : isState (kind c i) ≡ false → false ≡ isCompound c i
+  unfolding isCompound
+  compound-other k = rw k
+
+  pub atomic-final : isFinal (kind c i) ≡ true → true ≡ isAtomic c i
+  unfolding isAtomic
+  atomic-final k = rw k
+
+  pub atomic-state : (s : RowSet) (b : Bool) → isFinal (kind c i) ≡ false → isState (kind c i) ≡ true → rowsOf s ≡ children c i → b ≡ isEmpty (rowsOf s) → b ≡ isAtomic c i
+  unfolding isAtomic
+  atomic-state s b n k e f = rw (n, k, ← e, f)
+
+  pub atomic-other : isFinal (kind c i) ≡ false → isState (kind c i) ≡ false → false ≡ isAtomic c i
+  unfolding isAtomic
+  atomic-other n k = rw (n, k)
+
+  pub domain-root : isRoot (kind c i) ≡ true → true ≡ isDomainKind c i
+  unfolding isDomainKind
+  domain-root k = rw k
+
+  pub domain-other : (b : Bool) → isRoot (kind c i) ≡ false → b ≡ isCompound c i → b ≡ isDomainKind c i
+  unfolding isDomainKind
+  domain-other b k e = rw (k) e
+
+-- ---- parents
+
+pub parent-before : (chart : List ℕ) (i : ℕ) → RowReady chart i → 0 < i → parentAt chart i < i
+parent-before chart zero h l = absurd (omega arith)
+parent-before chart (suc i) h l = let p = low (chartOf chart) (h .ready .sound .tree) i in omega arith
+
+pub parent-is : (chart : List ℕ) (i p : ℕ) → RowReady chart i → 0 < i → p ≡ parentAt chart i → ParentRow chart i p
+parent-is chart i p h l e =
+    let b = parent-before chart i h l in
+    let k = h .inside in
+    record { is = e; before = omega arith; row = record { ready = h .ready; inside = omega arith } }
+
+-- a call that answers a test of a kind that a call gave
+pub told : {A : Type 0} (f : A → Bool) (a b : A) (r t : Bool) → a ≡ b → r ≡ f a → r ≡ t → f b ≡ t
+told f a b r t e g h = ap f (sym e) ∙ sym g ∙ h

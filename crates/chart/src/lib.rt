@@ -1,0 +1,177 @@
+// Readers of a compiled chart: kinds, and the sets behind the numbers.
+ghost use mathlib.Core.Path.{_≡_};
+ghost use mathlib.Core.List.{[]};
+ghost use Prim.Native.Nat.{_+_, _*_, _≤_, _<_};
+ghost use lib.ListN.{length};
+ghost use Rattle.definition.specs.Rows.{union};
+ghost use Rattle.definition.specs.Chart.{isRoot, isState, isParallel, isFinal, isShallow, isHistory};
+ghost use Rattle.definition.specs.Tables.{rowCount, tablesSize, chartOf};
+ghost use Rattle.definition.specs.Tree.{ancestors, descendants, children, isCompound, isAtomic, isDomainKind, defaultTargets, anchors};
+ghost use Rattle.rowset.specs.Member.{rowsOf};
+ghost use Rattle.chart.specs.Ready.{setAt, RowReady, TransitionReady, ParentRow, SetInside};
+use definition::Kind;
+use numbers::Row;
+use numbers::Transition;
+use rowset::RowSet;
+
+// ---- kinds
+
+pub fn is_root(k: Kind) -> bool
+    ensures { λ b. ⌜ b ≡ isRoot k ⌝ }
+{
+    tables::kind_number(k) == 0
+}
+
+pub fn is_state(k: Kind) -> bool
+    ensures { λ b. ⌜ b ≡ isState k ⌝ }
+{
+    tables::kind_number(k) == 1
+}
+
+pub fn is_parallel(k: Kind) -> bool
+    ensures { λ b. ⌜ b ≡ isParallel k ⌝ }
+{
+    tables::kind_number(k) == 2
+}
+
+pub fn is_final(k: Kind) -> bool
+    ensures { λ b. ⌜ b ≡ isFinal k ⌝ }
+{
+    tables::kind_number(k) == 3
+}
+
+pub fn is_shallow(k: Kind) -> bool
+    ensures { λ b. ⌜ b ≡ isShallow k ⌝ }
+{
+    tables::kind_number(k) == 4
+}
+
+pub fn is_history(k: Kind) -> bool
+    ensures { λ b. ⌜ b ≡ isHistory k ⌝ }
+{
+    let n = tables::kind_number(k);
+    (n == 4) | (n == 5)
+}
+
+// ---- the sets. The words of each row that stand before its set in a column are counted.
+
+const ANCESTORS: usize = 0;
+
+const DESCENDANTS: usize = 4;
+
+const CHILDREN: usize = 8;
+
+const DEFAULT_TARGETS: usize = 12;
+
+const ANCHORS: usize = 16;
+
+const SET_WIDTH: usize = 4;
+
+// Four words from w on.
+pub fn set_at(chart: &[u64], w: usize) -> RowSet
+    requires { ⌜ w + 4 ≤ length (now chart) ⌝ }
+    ensures { λ s. ⌜ s ≡ setAt (now (chart .entry)) w ⌝ }
+{
+    RowSet {
+        w0: chart[w],
+        w1: chart[w + 1],
+        w2: chart[w + 2],
+        w3: chart[w + 3],
+    }
+}
+
+// The set of row or transition i in a column.
+fn set_in(chart: &[u64], column: usize, i: usize) -> RowSet
+    requires { ⌜ SetInside (now chart) column i ⌝ }
+    ensures { λ s. ⌜ s ≡ setAt (now (chart .entry)) (tablesSize (now (chart .entry)) + rowCount (now (chart .entry)) * column + i * 4) ⌝ }
+{
+    let rows = tables::row_count(chart) as usize;
+    set_at(
+        chart,
+        tables::tables_size(chart) + rows * column + i * SET_WIDTH,
+    )
+}
+
+// The proper ancestors of a row.
+pub fn ancestors_of(chart: &[u64], r: Row) -> RowSet
+    requires { ⌜ RowReady (now chart) (r .0) ⌝ }
+    ensures { λ s. ⌜ rowsOf s ≡ union [] (ancestors (chartOf (now (chart .entry))) (r .0)) ⌝ }
+{
+    set_in(chart, ANCESTORS, r.0 as usize)
+}
+
+// The proper descendants of a row.
+pub fn descendants_of(chart: &[u64], r: Row) -> RowSet
+    requires { ⌜ RowReady (now chart) (r .0) ⌝ }
+    ensures { λ s. ⌜ rowsOf s ≡ descendants (chartOf (now (chart .entry))) (r .0) ⌝ }
+{
+    set_in(chart, DESCENDANTS, r.0 as usize)
+}
+
+pub fn children_of(chart: &[u64], r: Row) -> RowSet
+    requires { ⌜ RowReady (now chart) (r .0) ⌝ }
+    ensures { λ s. ⌜ rowsOf s ≡ children (chartOf (now (chart .entry))) (r .0) ⌝ }
+{
+    set_in(chart, CHILDREN, r.0 as usize)
+}
+
+// The default entry targets of a row: none but for the root and the compounds.
+pub fn default_targets_of(chart: &[u64], r: Row) -> RowSet
+    requires { ⌜ RowReady (now chart) (r .0) ⌝ }
+    ensures { λ s. ⌜ rowsOf s ≡ union [] (defaultTargets (chartOf (now (chart .entry))) (r .0)) ⌝ }
+{
+    set_in(chart, DEFAULT_TARGETS, r.0 as usize)
+}
+
+// The anchors of a transition's targets.
+pub fn anchors_of(chart: &[u64], t: Transition) -> RowSet
+    requires { ⌜ TransitionReady (now chart) (t .0) ⌝ }
+    ensures { λ s. ⌜ rowsOf s ≡ anchors (chartOf (now (chart .entry))) (t .0) ⌝ }
+{
+    set_in(chart, ANCHORS, t.0 as usize)
+}
+
+// ---- rows
+
+pub fn is_compound(chart: &[u64], r: Row) -> bool
+    requires { ⌜ RowReady (now chart) (r .0) ⌝ }
+    ensures { λ b. ⌜ b ≡ isCompound (chartOf (now (chart .entry))) (r .0) ⌝ }
+{
+    if is_state(tables::kind_of(chart, r)) {
+        return !children_of(chart, r).is_empty();
+    }
+    false
+}
+
+pub fn is_atomic(chart: &[u64], r: Row) -> bool
+    requires { ⌜ RowReady (now chart) (r .0) ⌝ }
+    ensures { λ b. ⌜ b ≡ isAtomic (chartOf (now (chart .entry))) (r .0) ⌝ }
+{
+    let k = tables::kind_of(chart, r);
+    if is_final(k) {
+        return true;
+    }
+    if is_state(k) {
+        return children_of(chart, r).is_empty();
+    }
+    false
+}
+
+// Whether a row has an initial list and may be a domain: the root and the compounds.
+pub fn is_domain_kind(chart: &[u64], r: Row) -> bool
+    requires { ⌜ RowReady (now chart) (r .0) ⌝ }
+    ensures { λ b. ⌜ b ≡ isDomainKind (chartOf (now (chart .entry))) (r .0) ⌝ }
+{
+    if is_root(tables::kind_of(chart, r)) {
+        return true;
+    }
+    is_compound(chart, r)
+}
+
+// The parent of a row that is not the root.
+pub fn parent_row(chart: &[u64], r: Row) -> Row
+    requires { ⌜ RowReady (now chart) (r .0) × (0 < r .0) ⌝ }
+    ensures { λ p. ⌜ ParentRow (now (chart .entry)) (r .0) (p .0) ⌝ }
+{
+    tables::parent_row(chart, r)
+}
