@@ -43,7 +43,7 @@ pub enum Status {
     Refused(Answer),
 }
 
-// A crate has a function; this one gives the number of name bytes that a slot holds at most.
+// The kit wants a function in every crate; this one gives the number of name bytes that a slot holds at most.
 pub fn longest_name() -> u64 {
     63
 }

@@ -1,4 +1,4 @@
-// Laws of sets, lists and loops over the definitions' own functions, in specs/. A crate has a function; this one adds nothing.
+// Laws of sets, lists and loops over the definitions' own functions, in specs/. The kit wants a function in every crate.
 pub fn nothing() -> u64 {
     0
 }

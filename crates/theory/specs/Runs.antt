@@ -213,7 +213,7 @@ module _ (c : Chart) (names : Names) where
       inr (record { answer = r .answer; next = r .next; effects = r .effects; would = r .would; refuses = rw n (r .refuses); refused = r .refused }))
       (run-status k next (room - length es)))
 
-  -- ---- "a run of a rounds and then one of b, with b at least 1 and no call between" is one of a + b, the room left handed on. Where the
+  -- ---- a run of a rounds and then one of b, with b at least 1 and no call between (request R-13), is one of a + b, the room left handed on. Where the
   -- first stops early the second stops at once, for the same reason.
 
   unfoldable pub joined : Ran → Ran → Ran
