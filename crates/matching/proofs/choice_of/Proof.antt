@@ -1,0 +1,118 @@
+use mathlib.Core.Path.{_≡_, refl, sym, ap, _∙_}
+use Prim.Native.Nat.{_-_, _≤_, _<_}
+use native.Mathlib.Omega.{arith}
+use borrow.Author.Needs.{needs}
+use Rattle.definition.specs.Selection.{choice}
+use Rattle.definition.specs.Tables.{rowCount, transitionCount, nameAt, chartOf}
+use Rattle.rowset.specs.Member.{rowsOf}
+use Rattle.matching.specs.Sources.{indexed-transitions}
+use Rattle.matching.specs.Climb.{choiceOf, choiceFrom, climb-begin, climb-turn, climb-here, climb-on, climb-top}
+use Rattle.matching.specs.Events.{eventOf}
+use Rattle.matching.specs.declared.Choice.the-variants.{Nothing}
+use Rattle.matching.proofs.choice_of.Statement.{statement}
+use Rattle.matching.proofs.choice_of.Tie as tie
+
+abbrev Inv-loop : tie.InvT-loop
+Inv-loop chart names starts conf event chosen₀ a at t₀ end chosen t = (t ≤ end) × (end ≤ transitionCount chart) × (chosen ≡ Nothing) × (choice (chartOf chart) (nameAt names) (rowsOf conf) (eventOf event) a ≡ choiceFrom (chartOf chart) (nameAt names) (rowsOf conf) (eventOf event) a t end)
+
+abbrev μ-loop : tie.MeasureT-loop
+μ-loop chart names starts conf event chosen₀ a at t₀ end chosen t = end - t
+
+abbrev Inv-climb : tie.InvT-climb
+Inv-climb chart names starts conf event chosen₀ a₀ chosen a = (a < rowCount chart) × (rowCount chart ≤ 256) × (chosen ≡ Nothing) × (choice (chartOf chart) (nameAt names) (rowsOf conf) (eventOf event) a₀ ≡ choice (chartOf chart) (nameAt names) (rowsOf conf) (eventOf event) a)
+
+abbrev μ-climb : tie.MeasureT-climb
+μ-climb chart names starts conf event chosen₀ a₀ chosen a = a
+
+climb-holds : tie.Need-climb-holds Inv-loop μ-loop Inv-climb μ-climb
+climb-holds c = (c .before .before .before .before .pre .inside, let m = c .before .before .before .before .pre .compiled .ready .tables .sized .counts .rows in omega arith, refl, refl)
+
+cast-at : tie.Need-cast-at Inv-loop μ-loop Inv-climb μ-climb
+cast-at c = search needs
+
+mul-t : tie.Need-mul-t Inv-loop μ-loop Inv-climb μ-climb
+mul-t c = search needs
+
+shared-slice-read-t : tie.Need-shared-slice-read-t Inv-loop μ-loop Inv-climb μ-climb
+shared-slice-read-t c = let s = c .before .before .before .before .before .before .pre .indexed .size in let v = c .before .climb .inv in omega arith
+
+add-end : tie.Need-add-end Inv-loop μ-loop Inv-climb μ-climb
+add-end c = search needs
+
+mul-end : tie.Need-mul-end Inv-loop μ-loop Inv-climb μ-climb
+mul-end c = search needs
+
+shared-slice-read-end : tie.Need-shared-slice-read-end Inv-loop μ-loop Inv-climb μ-climb
+shared-slice-read-end c = let s = c .before .before .before .before .before .before .before .pre .indexed .size in let v = c .before .before .climb .inv in omega arith
+
+loop-holds : tie.Need-loop-holds Inv-loop μ-loop Inv-climb μ-climb
+loop-holds c = let v = c .before .before .climb .inv in
+    let s = indexed-transitions _ _ _ (c .before .before .before .before .before .before .before .pre .indexed) (v .0) in
+    (s .1, s .2, v .2, climb-begin _ _ _ _ _ _ _ (s .0))
+
+is-match-requires : tie.Need-is-match-requires Inv-loop μ-loop Inv-climb μ-climb
+is-match-requires c κs = record { compiled = c .before .before .before .before .before .before .before .before .before .pre .compiled; inside = let v = c .before .loop .inv in let l = c .loop-test .taken in omega arith }
+
+add-t : tie.Need-add-t Inv-loop μ-loop Inv-climb μ-climb
+add-t c = search needs
+
+loop-less : tie.Need-loop-less Inv-loop μ-loop Inv-climb μ-climb
+loop-less c = search needs
+
+loop-again : tie.Need-loop-again Inv-loop μ-loop Inv-climb μ-climb
+loop-again c = let v = c .before .before .before .loop .inv in (search needs, v .1, v .2, v .3 ∙ climb-turn _ _ _ _ _ _ _ (c .before .before .loop-test .taken) (sym (c .before .is-match .ensures) ∙ c .if1 .left))
+
+parent-of-requires : tie.Need-parent-of-requires Inv-loop μ-loop Inv-climb μ-climb
+parent-of-requires c κs = record { tables = c .before .before .before .before .before .before .before .before .before .pre .compiled .ready .tables; below = c .before .before .before .before .climb .inv .0 }
+
+cast-if2 : tie.Need-cast-if2 Inv-loop μ-loop Inv-climb μ-climb
+cast-if2 c = search needs
+
+cast-a : tie.Need-cast-a Inv-loop μ-loop Inv-climb μ-climb
+cast-a c = let v = c .before .before .before .before .before .before .climb .inv in omega arith
+
+climb-less : tie.Need-climb-less Inv-loop μ-loop Inv-climb μ-climb
+climb-less c = search needs
+
+climb-again : tie.Need-climb-again Inv-loop μ-loop Inv-climb μ-climb
+climb-again c = let v = c .before .before .before .loop .inv in
+    let o = c .before .before .before .before .before .before .climb .inv in
+    (search needs, o .1, v .2, o .3 ∙ v .3 ∙ climb-on _ _ _ _ _ _ _ _ (c .before .before .loop-test .left) (c .before .parent-of .ensures) (c .if2 .left))
+
+returns : tie.Need-returns Inv-loop μ-loop Inv-climb μ-climb
+returns c = let v = c .before .before .before .loop .inv in
+    let o = c .before .before .before .before .before .before .climb .inv in
+    sym (o .3 ∙ v .3 ∙ climb-here _ _ _ _ _ _ _ (c .before .before .loop-test .taken) (sym (c .before .is-match .ensures) ∙ c .if1 .taken))
+
+returns-2 : tie.Need-returns-2 Inv-loop μ-loop Inv-climb μ-climb
+returns-2 c = let v = c .before .before .before .loop .inv in
+    let o = c .before .before .before .before .before .before .climb .inv in
+    ap choiceOf (v .2) ∙ sym (o .3 ∙ v .3 ∙ climb-top _ _ _ _ _ _ _ _ (c .before .before .loop-test .left) (c .before .parent-of .ensures) (c .if2 .taken))
+
+pub choice-of-spec : {M : Type 1} → statement M
+choice-of-spec =
+    tie.close
+    (tie.spec
+    Inv-loop
+    μ-loop
+    Inv-climb
+    μ-climb
+    climb-holds
+    cast-at
+    mul-t
+    shared-slice-read-t
+    add-end
+    mul-end
+    shared-slice-read-end
+    loop-holds
+    is-match-requires
+    add-t
+    loop-less
+    loop-again
+    parent-of-requires
+    cast-if2
+    cast-a
+    climb-less
+    climb-again
+    returns
+    returns-2)

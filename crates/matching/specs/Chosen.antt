@@ -1,0 +1,165 @@
+-- Lists of transitions, held in an array; atomic states.
+use mathlib.Core.Path.{_≡_, refl, sym, ap, _∙_}
+use mathlib.Core.Bool.{Bool, true, false, _&&_, _||_}
+use mathlib.Core.List.{List, [], _∷_}
+use mathlib.Core.Option.{Option, none, some}
+use Prim.Native.Nat.{ℕ, zero, suc, _+_, _≤_, _<_}
+use native.Mathlib.Numerals.{add-one}
+use native.Mathlib.Omega.{arith}
+use lib.Dec.{eqb}
+use lib.ListN.{length, getD, take, set}
+use lib.Seq.{take-suc, take-suc-set, length-take-le, getD-take}
+use borrow.Author.Tests.{lt-ltb}
+use Rattle.definition.specs.Rows.{fold, any, those, mem, isIn, append, intersection}
+use Rattle.definition.specs.Names.{Name}
+use Rattle.definition.specs.Chart.{Chart, Names}
+use Rattle.definition.specs.Tree.{isAtomic}
+use Rattle.definition.specs.Selection.{addOnce, choose, atomicStates, candidates}
+use Rattle.laws.specs.Bools.{no, and-left, or-elim}
+use Rattle.laws.specs.Sets.{mem-those, mem-head, mem-one, mem-intersection}
+use Rattle.laws.specs.Lists.{keep-cong, mem-app, mem-cases, mem-tail}
+use Rattle.theory.specs.Accepted.{Sound}
+use Rattle.theory.specs.Disjoint.{candidate-of}
+use Rattle.matching.specs.declared.Chosen.{Chosen}
+
+-- the first n items
+unfoldable pub listOf : List ℕ → ℕ → List ℕ
+listOf items n = take n items
+
+unfoldable pub chosenOf : Chosen → List ℕ
+chosenOf r = listOf (r .items) (r .len)
+
+-- every number of the list is below n
+pub record Within (n : ℕ) (xs : List ℕ) : Type 0 where
+  pub at : (i : ℕ) → mem i xs ≡ true → i < n
+
+-- at most 256, each the number of one of so many transitions
+pub record ChosenIn (transitions : ℕ) (r : Chosen) : Type 0 where
+  pub room : length (r .items) ≡ 256
+  pub most : r .len ≤ 256
+  pub inside : Within transitions (chosenOf r)
+
+-- these transitions
+pub record IsChosen (transitions : ℕ) (ts : List ℕ) (r : Chosen) : Type 0 where
+  pub is : chosenOf r ≡ ts
+  pub fits : ChosenIn transitions r
+
+-- ---- items of the array
+
+pub list-length : (items : List ℕ) (n : ℕ) → n ≤ length items → length (listOf items n) ≡ n
+unfolding listOf
+list-length items n l = length-take-le n items l
+
+pub list-at : (items : List ℕ) (n i : ℕ) → i < n → getD items i 0 ≡ getD (listOf items n) i 0
+unfolding listOf
+list-at items n i l = sym (getD-take n items i 0 l)
+
+pub list-begin : (items : List ℕ) → listOf items 0 ≡ []
+unfolding listOf
+list-begin items = refl
+
+pub list-push : (items : List ℕ) (n x : ℕ) → n < length items → listOf (set items n x) (n + 1) ≡ append (listOf items n) x
+unfolding listOf append
+list-push items n x l = rw (add-one n) (take-suc-set items n x l)
+
+-- an element that is read by its place is in the list
+at-mem : (xs : List ℕ) (i : ℕ) → i < length xs → mem (getD xs i 0) xs ≡ true
+at-mem [] i l = absurd (omega arith)
+at-mem (x ∷ xs) zero l = mem-head x xs
+at-mem (x ∷ xs) (suc i) l = mem-tail x (getD xs i 0) xs (at-mem xs i (omega arith))
+
+pub chosen-length : (n : ℕ) (r : Chosen) → ChosenIn n r → length (chosenOf r) ≡ r .len
+unfolding chosenOf
+chosen-length n r h = let s = h .room in let m = h .most in list-length (r .items) (r .len) (omega arith)
+
+pub chosen-at : (r : Chosen) (i : ℕ) → i < r .len → getD (r .items) i 0 ≡ getD (chosenOf r) i 0
+unfolding chosenOf
+chosen-at r i l = list-at (r .items) (r .len) i l
+
+pub chosen-low : (n : ℕ) (r : Chosen) (i : ℕ) → ChosenIn n r → i < r .len → getD (r .items) i 0 < n
+chosen-low n r i h l =
+    let s = chosen-length n r h in
+    rw (chosen-at r i l) (h .inside .at (getD (chosenOf r) i 0) (at-mem (chosenOf r) i (omega arith)))
+
+-- ---- "A transition chosen twice counts once, at its first place." (51)
+
+mem-any : (t : ℕ) (xs : List ℕ) → any (eqb t) xs ≡ mem t xs
+unfolding any mem
+mem-any t [] = refl
+mem-any t (x ∷ xs) = ap (λ (b : Bool). eqb t x || b) (mem-any t xs)
+
+module _ (ts : List ℕ) (t : ℕ) where
+  pub once-there : true ≡ any (eqb t) ts → ts ≡ addOnce ts (some t)
+  unfolding addOnce
+  once-there h = rw (← mem-any t ts, ← h)
+
+  pub once-new : false ≡ any (eqb t) ts → append ts t ≡ addOnce ts (some t)
+  unfolding addOnce
+  once-new h = rw (← mem-any t ts, ← h)
+
+pub once-none : (ts : List ℕ) → ts ≡ addOnce ts none
+unfolding addOnce
+once-none ts = refl
+
+-- ---- atomic states
+
+unfoldable pub atomicRows : Chart → List ℕ
+atomicRows c = those (c .rows) (isAtomic c)
+
+pub atomic-states : (c : Chart) (conf : List ℕ) → Within (c .rows) conf → intersection conf (atomicRows c) ≡ atomicStates c conf
+unfolding intersection atomicRows atomicStates
+atomic-states c conf w =
+    keep-cong (isIn (those (c .rows) (isAtomic c))) (isAtomic c) conf
+    (λ i m. mem-those (c .rows) (isAtomic c) i ∙ ap (λ (b : Bool). b && isAtomic c i) (lt-ltb i (c .rows) (w .at i m)))
+
+-- a row that is active and atomic is a row of the chart
+pub active-inside : (n : ℕ) (conf atoms xs : List ℕ) (i : ℕ) → Within n conf → xs ≡ intersection conf atoms → mem i xs ≡ true → i < n
+active-inside n conf atoms xs i w e m = w .at i (and-left (mem i conf) (mem i atoms) (sym (ap (mem i) e ∙ mem-intersection i conf atoms) ∙ m))
+
+-- a candidate is a transition of the chart
+candidates-inside : (c : Chart) → Sound c → (names : Names) (conf : List ℕ) (event : Option Name) (t : ℕ) →
+    mem t (candidates c names conf event) ≡ true → t < c .transitions
+candidates-inside c g names conf event t m = candidate-of c names conf event (g .tree) t m .0
+
+-- what the pass over the active atomic states made
+pub candidates-done : (c : Chart) → Sound c → (names : Names) (conf : List ℕ) (event : Option Name) (atoms active : List ℕ) (r : Chosen) → Within (c .rows) conf →
+    atoms ≡ atomicRows c → active ≡ intersection conf atoms → chosenOf r ≡ fold (choose c names conf event) [] active → length (r .items) ≡ 256 → r .len ≤ 256 →
+    IsChosen (c .transitions) (candidates c names conf event) r
+candidates-done c g names conf event atoms active r w e f h l m = record {
+  is = is;
+  fits = record { room = l; most = m; inside = record { at = λ t k. candidates-inside c g names conf event t (sym (ap (mem t) is) ∙ k) } };
+}
+  where
+    is : chosenOf r ≡ candidates c names conf event
+    is =
+        unfold candidates in
+        h ∙ ap (fold (choose c names conf event) []) (f ∙ ap (intersection conf) e ∙ atomic-states c conf w)
+
+-- ---- parts of a list, and one more
+
+pub within-none : (n : ℕ) → Within n []
+unfolding mem
+within-none n = record { at = λ i m. absurd (no m) }
+
+pub within-append : (n : ℕ) (xs : List ℕ) (t : ℕ) → Within n xs → t < n → Within n (append xs t)
+unfolding append
+within-append n xs t w l = record {
+  at = λ i m. or-elim (mem i xs) (mem i (t ∷ [])) (λ k. w .at i k) (λ k. rw (mem-one i t k) l) (sym (mem-app i xs (t ∷ [])) ∙ m);
+}
+
+mem-front : (i n x : ℕ) (xs : List ℕ) → i ≤ n → mem x (take i xs) ≡ true → mem x (take n xs) ≡ true
+unfolding mem
+mem-front zero n x xs l m = absurd (no m)
+mem-front (suc i) zero x xs l m = absurd (omega arith)
+mem-front (suc i) (suc n) x [] l m = absurd (no m)
+mem-front (suc i) (suc n) x (y ∷ ys) l m =
+    mem-cases x y (take i ys) (λ e. rw e (mem-head y (take n ys))) (λ k. mem-tail y x (take n ys) (mem-front i n x ys (omega arith) k)) m
+
+-- the first i of more
+pub within-front : (k : ℕ) (items : List ℕ) (i n : ℕ) → i ≤ n → Within k (listOf items n) → Within k (listOf items i)
+unfolding listOf
+within-front k items i n l w = record { at = λ x m. w .at x (mem-front i n x items l m) }
+
+pub list-more : (items : List ℕ) (i : ℕ) → i < length items → append (listOf items i) (getD items i 0) ≡ listOf items (i + 1)
+unfolding listOf append
+list-more items i l = rw (add-one i) (sym (take-suc items i 0 l))

@@ -1,0 +1,5 @@
+pub mod Events
+pub mod Sources
+pub mod Climb
+pub mod Chosen
+pub mod Ready

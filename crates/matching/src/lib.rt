@@ -1,0 +1,223 @@
+// Which transitions match an event, and which of them the active atomic states choose.
+ghost use mathlib.Core.Path.{_≡_};
+ghost use Prim.Native.Nat.{_<_};
+ghost use lib.ListN.{length};
+ghost use Rattle.definition.specs.Tables.{rowCount, transitionCount, eventsAt, nameAt, chartOf};
+ghost use Rattle.definition.specs.Selection.{matchesAt, isTriggered, isTrue, isMatch, choice, candidates};
+ghost use Rattle.tables.specs.Ranges.{SlotIn};
+ghost use Rattle.tables.specs.Parts.{conditionOf};
+ghost use Rattle.rowset.specs.Member.{rowsOf};
+ghost use Rattle.chart.specs.Ready.{Ready, TransitionReady};
+ghost use Rattle.matching.specs.Events.{eventOf};
+ghost use Rattle.matching.specs.Sources.{startsBefore, Indexed};
+ghost use Rattle.matching.specs.Climb.{choiceOf};
+ghost use Rattle.matching.specs.Chosen.{Within, IsChosen, atomicRows};
+ghost use Rattle.matching.specs.Ready.{TransitionWith, ClimbReady, Prepared, AddedOnce};
+use numbers::NameNumber;
+use numbers::Row;
+use numbers::Transition;
+use rowset::Found;
+use rowset::RowSet;
+use tables::Condition;
+
+// ---- one transition against the event and the configuration
+
+// Whether the descriptor of that number matches the event.
+fn matches_at(names: &[u8], d: NameNumber, event: &[u8]) -> bool
+    requires { ⌜ SlotIn (now names) (d .0) ⌝ }
+    ensures { λ b. ⌜ b ≡ matchesAt (nameAt (now (names .entry))) (now (event .entry)) (d .0) ⌝ }
+{
+    let slot = tables::slot_of(names, d);
+    names::matches(names::name_of(slot), event)
+}
+
+// An event of no bytes is none: then a transition without descriptors is wanted.
+pub fn is_triggered(chart: &[u64], names: &[u8], t: Transition, event: &[u8]) -> bool
+    requires { ⌜ TransitionWith (now chart) (now names) (t .0) ⌝ }
+    ensures { λ b. ⌜ b ≡ isTriggered (nameAt (now (names .entry))) (eventOf (now (event .entry))) (eventsAt (now (chart .entry)) (t .0)) ⌝ }
+{
+    let descriptors = tables::descriptors_of(chart, t);
+    if event.len() == 0 {
+        return descriptors.len() == 0;
+    }
+    let mut i = 0;
+    while i < descriptors.len() {
+        if matches_at(names, tables::name_at(chart, descriptors, i), event) {
+            return true;
+        }
+        i += 1;
+    }
+    false
+}
+
+pub fn is_true(conf: RowSet, condition: Condition) -> bool
+    ensures { λ b. ⌜ b ≡ isTrue (rowsOf conf) (conditionOf condition) ⌝ }
+{
+    match condition {
+        Condition::Always => true,
+        Condition::In(r) => conf.has(r),
+    }
+}
+
+pub fn is_match(chart: &[u64], names: &[u8], conf: RowSet, event: &[u8], t: Transition) -> bool
+    requires { ⌜ TransitionWith (now chart) (now names) (t .0) ⌝ }
+    ensures { λ b. ⌜ b ≡ isMatch (chartOf (now (chart .entry))) (nameAt (now (names .entry))) (rowsOf conf) (eventOf (now (event .entry))) (t .0) ⌝ }
+{
+    if !is_triggered(chart, names, t, event) {
+        return false;
+    }
+    is_true(conf, tables::condition_of(chart, t))
+}
+
+// ---- the transitions of each row
+
+// The transitions of row i are those from starts[i] to before starts[i + 1].
+pub struct Index {
+    pub starts: [u16; 257],
+}
+
+// Whether transition t is there and its source stands below row i.
+fn starts_before(chart: &[u64], t: u16, i: usize) -> bool
+    requires { ⌜ Ready (now chart) ⌝ }
+    ensures { λ b. ⌜ b ≡ startsBefore (chartOf (now (chart .entry))) i t ⌝ }
+{
+    if (t as u64) < tables::transition_count(chart) {
+        return numbers::row_index(tables::source_of(chart, Transition(t))) < i;
+    }
+    false
+}
+
+// One pass over the transitions and the rows, since no source number is below the one before it.
+pub fn index_of(chart: &[u64]) -> Index
+    requires { ⌜ Ready (now chart) ⌝ }
+    ensures { λ r. ⌜ Indexed (chartOf (now (chart .entry))) (r .starts) ⌝ }
+{
+    let rows = tables::row_count(chart) as usize;
+    let mut starts = [0u16; 257];
+    let mut t: u16 = 0;
+    let mut i: usize = 0;
+    while i <= rows {
+        if starts_before(chart, t, i) {
+            t += 1;
+        } else {
+            starts[i] = t;
+            i += 1;
+        }
+    }
+    Index { starts: starts }
+}
+
+// ---- the choice of an atomic state
+
+// What an atomic state chooses.
+pub enum Choice {
+    Nothing,
+    Of(Transition),
+}
+
+// The first match of row i's transitions and of its ancestors', nearest first.
+pub fn choice_of(
+    chart: &[u64],
+    names: &[u8],
+    starts: &[u16],
+    conf: RowSet,
+    event: &[u8],
+    i: Row,
+) -> Choice
+    requires { ⌜ ClimbReady (now chart) (now names) (now starts) (i .0) ⌝ }
+    ensures { λ r. ⌜ choiceOf r ≡ choice (chartOf (now (chart .entry))) (nameAt (now (names .entry))) (rowsOf conf) (eventOf (now (event .entry))) (i .0) ⌝ }
+{
+    let mut chosen = Choice::Nothing;
+    let mut a = i.0;
+    'climb: loop {
+        let at = a as usize;
+        let mut t = starts[at];
+        let end = starts[at + 1];
+        while t < end {
+            if is_match(chart, names, conf, event, Transition(t)) {
+                chosen = Choice::Of(Transition(t));
+                break 'climb;
+            }
+            t += 1;
+        }
+        let p = tables::parent_of(chart, Row(a));
+        if a as u64 <= p {
+            break;
+        }
+        a = p as u8;
+    }
+    chosen
+}
+
+// ---- the candidates
+
+// The atomic rows of the chart, active or not.
+pub fn atomic_rows(chart: &[u64]) -> RowSet
+    requires { ⌜ Ready (now chart) ⌝ }
+    ensures { λ s. ⌜ rowsOf s ≡ atomicRows (chartOf (now (chart .entry))) ⌝ }
+{
+    let rows = tables::row_count(chart) as u16;
+    let mut set = RowSet::empty();
+    let mut i: u16 = 0;
+    while i < rows {
+        if chart::is_atomic(chart, Row(i as u8)) {
+            set = set.with(Row(i as u8));
+        }
+        i += 1;
+    }
+    set
+}
+
+// Transitions in selection order: the first len of the items.
+pub struct Chosen {
+    pub items: [u16; 256],
+    pub len: usize,
+}
+
+// The first len items with the choice, unless it is there: how many they are then.
+fn add_once(items: &mut [u16], len: usize, choice: Choice) -> usize
+    requires { ⌜ len < length (now items) ⌝ }
+    ensures { λ n. ⌜ AddedOnce (now (items .entry)) len (choiceOf choice) (now (items .exit)) n ⌝ }
+{
+    let Choice::Of(t) = choice else {
+        return len;
+    };
+    let mut i = 0;
+    while i < len {
+        if t.0 == items[i] {
+            return len;
+        }
+        i += 1;
+    }
+    items[len] = t.0;
+    len + 1
+}
+
+// What each active atomic state chooses, in document order, each transition once.
+pub fn candidates(
+    chart: &[u64],
+    names: &[u8],
+    starts: &[u16],
+    atoms: RowSet,
+    conf: RowSet,
+    event: &[u8],
+) -> Chosen
+    requires { ⌜ Prepared (now chart) (now names) (now starts) atoms × Within (rowCount (now chart)) (rowsOf conf) ⌝ }
+    ensures { λ r. ⌜ IsChosen (transitionCount (now (chart .entry))) (candidates (chartOf (now (chart .entry))) (nameAt (now (names .entry))) (rowsOf conf) (eventOf (now (event .entry)))) r ⌝ }
+{
+    let active = conf.intersection(atoms);
+    let mut items = [0u16; 256];
+    let mut len: usize = 0;
+    let mut k: u16 = 0;
+    loop {
+        let Found::At(i) = active.next_from(k) else {
+            return Chosen {
+                items: items,
+                len: len,
+            };
+        };
+        let choice = choice_of(chart, names, starts, conf, event, i);
+        len = add_once(&mut items, len, choice);
+        k = i.0 as u16 + 1;
+    }
+}

@@ -1,0 +1,5 @@
+pub mod History
+pub mod Domain
+pub mod Conflicts
+pub mod Ready
+pub mod Kept
