@@ -62,14 +62,18 @@ impl Trial {
         self.broken_tables_are_judged(&spelt, &mut random, coverage)
     }
 
-    fn compiles(&self, spelt: &Spelt, random: &mut Random, coverage: &mut Coverage) -> Result<CompiledChart, String> {
+    fn compiles(
+        &self,
+        spelt: &Spelt,
+        random: &mut Random,
+        coverage: &mut Coverage,
+    ) -> Result<CompiledChart, String> {
         coverage.note("charts");
         coverage.note_if("charts of 40 rows and more", self.chart.rows.len() >= 40);
         let place = needed_place(&spelt.numbers).ok_or("a generated chart is too large")?;
         let places = compile(&spelt.numbers, &spelt.names, place)
             .map_err(|rule| format!("a generated chart breaks rule {rule}"))?;
-        let compiled = CompiledChart::open(&places.numbers, &places.names)
-            .ok_or("a compiled chart opens")?;
+        let compiled = CompiledChart::open(&places.numbers, &places.names).ok_or("a compiled chart opens")?;
         ensure(compiled.chart == self.chart, "tables spell the chart")?;
         let changed = change_one_cell(&places, spelt.numbers.len(), random);
         let opened = CompiledChart::open(&changed.numbers, &changed.names);
@@ -99,12 +103,22 @@ impl Trial {
             for _ in 0..random.between(1, 3) {
                 change_anything(&mut changed, random);
             }
-            let place = needed_place(&changed.numbers).unwrap_or(crate::rules::Place { numbers: 0, names: 0 });
+            let place =
+                needed_place(&changed.numbers).unwrap_or(crate::rules::Place { numbers: 0, names: 0 });
             let rule = verdict(&changed.numbers, &changed.names, place);
-            coverage.note(["changed tables: 0", "changed tables: 1", "changed tables: 2",
-                "changed tables: 3", "changed tables: 4", "changed tables: 5"][rule as usize]);
+            coverage.note(
+                [
+                    "changed tables: 0",
+                    "changed tables: 1",
+                    "changed tables: 2",
+                    "changed tables: 3",
+                    "changed tables: 4",
+                    "changed tables: 5",
+                ][rule as usize],
+            );
             if rule == 0 {
-                let places = compile(&changed.numbers, &changed.names, place).map_err(|rule| rule.to_string())?;
+                let places =
+                    compile(&changed.numbers, &changed.names, place).map_err(|rule| rule.to_string())?;
                 let compiled = CompiledChart::open(&places.numbers, &places.names).ok_or("opens")?;
                 let calls = CallMaker::new(random, &compiled.chart).calls(1);
                 let trial = Trial { chart: compiled.chart.clone(), calls, seed: self.seed };
@@ -125,7 +139,7 @@ fn change_one_cell(places: &Places, tables: usize, random: &mut Random) -> Place
 fn change_anything(spelt: &mut Spelt, random: &mut Random) {
     if random.chance(20) && !spelt.names.is_empty() {
         let place = random.below(spelt.names.len());
-        spelt.names[place] = random.next() as u8;
+        spelt.names[place] = random.number() as u8;
         return;
     }
     let place = random.below(spelt.numbers.len());
@@ -135,7 +149,7 @@ fn change_anything(spelt: &mut Spelt, random: &mut Random) {
         1 => 65_535,
         2 => old.wrapping_sub(1),
         3 => old.wrapping_add(1),
-        4 => random.next(),
+        4 => random.number(),
         _ => random.below(12) as u64,
     };
 }
@@ -180,8 +194,10 @@ fn answer_is_right(compiled: &CompiledChart, call: &Call, before: &Session, answ
         Call::Start { room } => {
             ensure(answer.trace.len() <= *room && answer.rounds == 0, "a start fits its room")?;
             let refused = answer.number != ACCEPTED;
-            ensure(!refused || answer.session == Session::ended() && answer.trace.is_empty(),
-                "a refused start hands back an ended session")
+            ensure(
+                !refused || answer.session == Session::ended() && answer.trace.is_empty(),
+                "a refused start hands back an ended session",
+            )
         }
         Call::Post { .. } => {
             ensure(answer.trace.is_empty() && answer.rounds == 0, "a post writes nothing")?;
@@ -198,9 +214,7 @@ fn run_answer_is_right(compiled: &CompiledChart, rounds: u32, room: usize, answe
     let fewer = answer.rounds < rounds;
     let fits = match answer.number {
         STATUS_ENDED => session.mode == ENDED,
-        STATUS_IDLE => {
-            session.is_idle(compiled) && session.internal.count + session.external.count == 0
-        }
+        STATUS_IDLE => session.is_idle(compiled) && session.internal.count + session.external.count == 0,
         STATUS_MORE => session.mode != ENDED && !session.is_idle(compiled) && !fewer,
         QUEUE_FULL | NO_TRACE_ROOM => session.mode != ENDED && !session.is_idle(compiled) && fewer,
         _ => false,
@@ -295,8 +309,8 @@ fn session_agrees(
     }
     let posted = damaged.clone().post(Some(compiled), b"e");
     let run = damaged.clone().run(Some(compiled), 1, 300);
-    ensure((posted.number == BAD_SESSION) == !well_formed, "9 exactly if not well formed")?;
-    ensure((run.number == BAD_SESSION) == !well_formed, "9 exactly if not well formed")?;
+    ensure((posted.number == BAD_SESSION) != well_formed, "9 exactly if not well formed")?;
+    ensure((run.number == BAD_SESSION) != well_formed, "9 exactly if not well formed")?;
     let untouched = posted.session == damaged && run.session == damaged && run.trace.is_empty();
     ensure(well_formed || untouched && run.rounds == 0, "9 leaves all")
 }
@@ -309,7 +323,7 @@ fn damage(session: &mut Session, rows: usize, random: &mut Random) {
         3 => flip_some(&mut session.stored[random.below(rows)], rows, random),
         4 => session.stored[random.between(rows, HISTORY_PLACES - 1)].insert(RowNumber(1)),
         5 => session.internal.count = random.between(0, 40) as u64,
-        6 => session.external.slots[random.below(QUEUE_NAMES)][random.below(64)] = random.next() as u8,
+        6 => session.external.slots[random.below(QUEUE_NAMES)][random.below(64)] = random.number() as u8,
         7 => session.configuration = RowSet::EMPTY,
         _ => session.internal.count = u64::MAX,
     }
@@ -323,29 +337,25 @@ fn is_well_formed_slowly(compiled: &CompiledChart, legal: &[RowSet], session: &S
                 let length = slot.iter().take_while(|&&byte| byte != 0).count();
                 let zeros = slot[length..].iter().all(|&byte| byte == 0);
                 let name = zeros && crate::names::is_name(&slot[..length]);
-                if (place as u64) < queue.count { name } else { slot.iter().all(|&byte| byte == 0) }
+                if (place as u64) < queue.count {
+                    name
+                } else {
+                    slot.iter().all(|&byte| byte == 0)
+                }
             })
     };
-    let finals_under_root: RowSet = compiled
-        .chart
-        .row_numbers()
-        .filter(|&row| compiled.tree.is_final_under_root(row))
-        .collect();
+    let finals_under_root: RowSet =
+        compiled.chart.row_numbers().filter(|&row| compiled.tree.is_final_under_root(row)).collect();
     let empty = session.configuration.is_empty();
     let mode_is_good = match session.mode {
         ENDED => empty && session.internal == Queue::EMPTY && session.external == Queue::EMPTY,
-        RUNNING => {
-            legal.contains(&session.configuration) && !session.configuration.meets(&finals_under_root)
-        }
-        CLOSING => {
-            legal.contains(&session.configuration) && session.configuration.meets(&finals_under_root)
-        }
+        RUNNING => legal.contains(&session.configuration) && !session.configuration.meets(&finals_under_root),
+        CLOSING => legal.contains(&session.configuration) && session.configuration.meets(&finals_under_root),
         _ => false,
     };
     let stored_is_good = session.stored.iter().enumerate().all(|(row, set)| {
         set.is_empty()
-            || row < compiled.chart.rows.len()
-                && brute::can_be_stored(compiled, legal, RowNumber(row), set)
+            || row < compiled.chart.rows.len() && brute::can_be_stored(compiled, legal, RowNumber(row), set)
     });
     queue_is_good(&session.internal) && queue_is_good(&session.external) && mode_is_good && stored_is_good
 }

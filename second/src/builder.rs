@@ -17,15 +17,7 @@ pub enum Do<'a> {
 }
 
 pub fn empty_row(kind: Kind, parent: Option<RowNumber>, id: Option<NameNumber>) -> Row {
-    Row {
-        kind,
-        parent,
-        id,
-        entry: Vec::new(),
-        exit: Vec::new(),
-        list: Vec::new(),
-        block: Vec::new(),
-    }
+    Row { kind, parent, id, entry: Vec::new(), exit: Vec::new(), list: Vec::new(), block: Vec::new() }
 }
 
 impl Default for Builder {

@@ -7,6 +7,7 @@ use crate::invariants::Found;
 use crate::show;
 
 mod answers;
+mod by_hand;
 mod input;
 mod names;
 mod near_misses;
@@ -39,6 +40,7 @@ pub fn small() -> Vec<Check> {
     checks.extend(runs::checks());
     checks.extend(readings::checks());
     checks.extend(near_misses::checks());
+    checks.extend(by_hand::checks());
     checks
 }
 
@@ -51,6 +53,44 @@ pub fn agreement() -> Vec<Check> {
             Check { name, run: Box::new(move |coverage| agree_on(first, coverage)) }
         })
         .collect()
+}
+
+/// What a great run must have met, lest it prove little.
+const MUST_HAPPEN: [&str; 24] = [
+    "candidates removed by conflicts",
+    "closing rounds",
+    "deep histories restored",
+    "default blocks not run, parent not entered",
+    "default blocks run",
+    "done events of parallels",
+    "done events of states",
+    "histories that fell to their default lists",
+    "internal transitions that stay inside",
+    "posts refused with 11",
+    "posts refused with 6",
+    "posts refused with 7",
+    "rounds or starts refused with 10",
+    "rounds or starts refused with 7",
+    "rounds where Appendix D enters above the domain",
+    "rounds where selection order is not number order",
+    "rounds whose entry reads history of the same round",
+    "rounds with several transitions",
+    "shallow histories restored",
+    "small charts compared with brute force",
+    "stored sets found right",
+    "stored sets found wrong",
+    "transitions whose anchors give another domain",
+    "transitions with several targets",
+];
+
+/// Whether the agreement run has met enough of everything.
+pub fn enough_happened(coverage: &Coverage) -> Found {
+    for what in MUST_HAPPEN {
+        if coverage.get(what) < 100 {
+            return Err(format!("{what}: only {}", coverage.get(what)));
+        }
+    }
+    Ok(())
 }
 
 fn agree_on(first: u64, coverage: &mut Coverage) -> Found {

@@ -36,10 +36,7 @@ impl<const CELLS: usize> Pool<CELLS> {
 
     /// The longest end of the table that is a beginning of the list.
     fn overlap(&self, list: &[[u64; CELLS]]) -> usize {
-        (0..=list.len())
-            .rev()
-            .find(|&length| self.items.ends_with(&list[..length]))
-            .unwrap_or(0)
+        (0..=list.len()).rev().find(|&length| self.items.ends_with(&list[..length])).unwrap_or(0)
     }
 
     fn lay(&mut self, layout: &mut Layout, list: &[[u64; CELLS]]) -> [u64; 2] {
@@ -107,8 +104,7 @@ impl Pools {
     }
 
     fn transition(&mut self, transition: &Transition) -> Vec<u64> {
-        let descriptors: Vec<[u64; 1]> =
-            transition.descriptors.iter().map(|name| [name.0 as u64]).collect();
+        let descriptors: Vec<[u64; 1]> = transition.descriptors.iter().map(|name| [name.0 as u64]).collect();
         let mut cells = vec![transition.source.0 as u64];
         cells.extend(self.descriptors.lay(&mut self.layout, &descriptors));
         cells.push(transition.condition.map_or(NONE, |row| row.0 as u64));

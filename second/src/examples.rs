@@ -7,7 +7,7 @@ use crate::compiled::CompiledChart;
 use crate::coverage::Coverage;
 use crate::encode::{encode, encode_plainly, Layout, Spelt};
 use crate::generate::{self, CallMaker, Flavour};
-use crate::limits::SLOT_BYTES;
+use crate::limits::{HEADER_CELLS, NONE, SLOT_BYTES};
 use crate::near_misses::{self, Lent};
 use crate::random::Random;
 use crate::readings::{post, run, start};
@@ -32,10 +32,8 @@ impl Example {
     pub fn of_tables(name: &str, about: &str, spelt: Spelt, calls: Vec<Call>) -> Example {
         let cell = |place: usize| spelt.numbers.get(place).copied().unwrap_or(0);
         let sets = cell(0).saturating_mul(16).saturating_add(cell(1).saturating_mul(4));
-        let place = Place {
-            numbers: spelt.numbers.len().saturating_add(sets as usize),
-            names: spelt.names.len(),
-        };
+        let place =
+            Place { numbers: spelt.numbers.len().saturating_add(sets as usize), names: spelt.names.len() };
         Example::of_lent(name, about, Lent { spelt, place }, calls)
     }
 
@@ -55,8 +53,7 @@ impl Example {
     }
 
     pub fn compiled(&self) -> CompiledChart {
-        CompiledChart::from_tables(&self.spelt.numbers, &self.spelt.names)
-            .expect("the example is accepted")
+        CompiledChart::from_tables(&self.spelt.numbers, &self.spelt.names).expect("the example is accepted")
     }
 
     pub fn slots(&self) -> impl Iterator<Item = &[u8]> {
@@ -66,7 +63,22 @@ impl Example {
 
 /// A few charts for what generated ones seldom reach.
 pub fn by_hand() -> Vec<Example> {
-    vec![thirty_three_posts(), refused_start(), longest_id(), one_level_only(), targets_beside_history()]
+    vec![
+        thirty_three_posts(),
+        refused_start(),
+        longest_id(),
+        one_level_only(),
+        targets_beside_history(),
+        chosen_twice(),
+    ]
+}
+
+fn chosen_twice() -> Example {
+    let mut b = Builder::new();
+    b.parallel("", "p").state("p", "a").state("p", "b").state("p", "c");
+    b.on("p", "e", "").doing(&[Do::Host(1)]).on("b", "e", "").doing(&[Do::Host(2)]);
+    let calls = vec![start(), post("e"), run(1)];
+    Example::of_chart("chosen_twice", "two states choose one transition, once", &b.chart(), calls)
 }
 
 fn thirty_three_posts() -> Example {
@@ -187,11 +199,48 @@ pub fn refused() -> Vec<Example> {
     near_misses::all()
         .iter()
         .filter_map(|near_miss| {
-            let mut lent = samples.iter().filter_map(|sample| near_miss.of(sample, &mut Random::seeded(1), true));
+            let mut lent =
+                samples.iter().filter_map(|sample| near_miss.of(sample, &mut Random::seeded(1), true));
             let name = format!("refused_{}", identifier(near_miss.name));
             Some(Example::of_lent(&name, near_miss.name, lent.next()?, Vec::new()))
         })
         .collect()
+}
+
+/// The first seed of the changed charts.
+const CHANGED_SEED: u64 = 8_000_000;
+
+/// Small charts with cells changed at will. Most changes break rule 1; of those few are taken.
+pub fn changed(count: usize) -> Vec<Example> {
+    let mut taken: Vec<Example> = Vec::new();
+    let mut seed = CHANGED_SEED;
+    while taken.len() < count {
+        let example = changed_example(seed);
+        let alike = taken.iter().filter(|other| other.verdict == example.verdict).count();
+        let share = if example.verdict == 1 { count / 10 } else { count / 4 };
+        if alike < share {
+            taken.push(example);
+        }
+        seed += 1;
+    }
+    taken
+}
+
+fn changed_example(seed: u64) -> Example {
+    let mut random = Random::seeded(seed);
+    let rows = random.between(3, 7);
+    let flavour = Flavour::with_rows(&mut random, rows);
+    let chart = generate::chart(&mut random, flavour);
+    let mut spelt = encode(&chart, Layout::Mixed(Random::seeded(seed)));
+    for _ in 0..random.between(1, 3) {
+        let cell = random.between(HEADER_CELLS, spelt.numbers.len() - 1);
+        spelt.numbers[cell] = match random.below(6) {
+            0 => NONE,
+            _ => random.below(chart.rows.len() + 1) as u64,
+        };
+    }
+    let calls = vec![start(), post("e"), run(2)];
+    Example::of_tables("changed", &format!("a chart with changed cells, seed {seed}"), spelt, calls)
 }
 
 /// A name made of letters, digits and underscores.

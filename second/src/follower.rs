@@ -138,6 +138,7 @@ fn on_chart_a() -> ChartSessions {
     c.add("another child of a state", true, |s| s.configuration[2] = 4);
     c.add("a final child of a state", true, |s| s.configuration[2] = 5);
     c.add("another child of the root", true, |s| s.configuration = vec![10]);
+    c.add("a row whose parent is missing", false, |s| s.configuration = vec![3, 10]);
     c.add("a permuted configuration", false, |s| s.configuration.swap(2, 3));
     c.add("a reversed configuration", false, |s| s.configuration.reverse());
     c.add("a row twice", false, |s| s.configuration.insert(2, 3));
@@ -203,6 +204,8 @@ fn on_histories() -> ChartSessions {
     b.list("d", "x", &[]).list("h", "x", &[]).on("x", "e", "q").on("s", "f", "z");
     let mut c = Collector::new(&b.chart(), &["e", "f"]);
     c.add("nothing stored", true, |s| s.history.iter_mut().for_each(Vec::clear));
+    c.add("the deep history alone stored", true, |s| s.history[9].clear());
+    c.add("the shallow history alone stored", true, |s| s.history[8].clear());
     c.add("histories that do not agree", true, |s| s.history[9] = vec![2]);
     c.add("another deep set", true, |s| s.history[8] = vec![6, 7]);
     c.add("a deep set of one state", true, |s| s.history[8] = vec![2]);

@@ -69,7 +69,7 @@ pub fn chart(random: &mut Random, flavour: Flavour) -> Chart {
     random.shuffle(&mut events);
     events.truncate(random.between(2, 5));
     let generator = Generator {
-        random: Random::seeded(random.next()),
+        random: Random::seeded(random.number()),
         flavour,
         chart: Chart { rows: vec![empty_row(Kind::Root, None, None)], ..Chart::default() },
         events,
@@ -262,9 +262,7 @@ impl Generator {
     fn list_for(&mut self, tree: &Tree, row: RowNumber) -> (Vec<RowNumber>, bool) {
         let parent = tree.parent(row).unwrap_or(ROOT);
         match tree.kind(row) {
-            Kind::ShallowHistory if tree.is_parallel(parent) => {
-                (self.some_of(tree.children(parent)), true)
-            }
+            Kind::ShallowHistory if tree.is_parallel(parent) => (self.some_of(tree.children(parent)), true),
             Kind::ShallowHistory => {
                 let children: Vec<RowNumber> = tree.children(parent).rows().collect();
                 (self.random.pick(&children).into_iter().collect(), true)
@@ -296,19 +294,21 @@ impl Generator {
     fn pick_below(&mut self, tree: &Tree, owner: RowNumber, histories: bool, list: &mut Vec<RowNumber>) {
         let mut scope = tree.descendants(owner);
         scope.insert(owner);
-        let parallels: Vec<RowNumber> = scope
-            .rows()
-            .filter(|&row| tree.is_parallel(row) && tree.children(row).len() >= 2)
-            .collect();
+        let parallels: Vec<RowNumber> =
+            scope.rows().filter(|&row| tree.is_parallel(row) && tree.children(row).len() >= 2).collect();
         match self.random.pick(&parallels) {
-            Some(parallel) if self.random.chance(50) => {
-                self.pick_in_regions(tree, parallel, histories, list)
-            }
+            Some(parallel) if self.random.chance(50) => self.pick_in_regions(tree, parallel, histories, list),
             _ => self.pick_one(tree, owner, &tree.descendants(owner), histories, list),
         }
     }
 
-    fn pick_in_regions(&mut self, tree: &Tree, parallel: RowNumber, histories: bool, list: &mut Vec<RowNumber>) {
+    fn pick_in_regions(
+        &mut self,
+        tree: &Tree,
+        parallel: RowNumber,
+        histories: bool,
+        list: &mut Vec<RowNumber>,
+    ) {
         for region in self.some_of(tree.children(parallel)) {
             if list.len() >= MAX_TARGETS_OF_TRANSITION as usize {
                 return;
@@ -333,8 +333,7 @@ impl Generator {
         list: &mut Vec<RowNumber>,
     ) {
         let owners = scope.union(&RowSet::single(owner));
-        let found: Vec<RowNumber> =
-            owners.rows().flat_map(|row| tree.histories(row).to_vec()).collect();
+        let found: Vec<RowNumber> = owners.rows().flat_map(|row| tree.histories(row).to_vec()).collect();
         let rows: Vec<RowNumber> = scope.rows().collect();
         let picked = match histories && self.random.chance(50) {
             true => self.random.pick(&found).or_else(|| self.random.pick(&rows)),
@@ -415,11 +414,8 @@ impl Generator {
             2 => self.name("done.state"),
             3 => self.name("done.*"),
             4..=6 => {
-                let mut owners: Vec<RowNumber> = tree
-                    .descendants(source)
-                    .rows()
-                    .filter(|&row| !tree.is_atomic(row))
-                    .collect();
+                let mut owners: Vec<RowNumber> =
+                    tree.descendants(source).rows().filter(|&row| !tree.is_atomic(row)).collect();
                 owners.push(source);
                 let owner = self.random.pick(&owners).unwrap_or(source);
                 let text = format!("done.state.{}", String::from_utf8_lossy(self.chart.id(owner)));
@@ -430,8 +426,7 @@ impl Generator {
     }
 
     fn condition(&mut self, tree: &Tree) -> Option<RowNumber> {
-        let rows: Vec<RowNumber> =
-            self.chart.row_numbers().filter(|&row| tree.is_real_state(row)).collect();
+        let rows: Vec<RowNumber> = self.chart.row_numbers().filter(|&row| tree.is_real_state(row)).collect();
         self.random.pick(&rows)
     }
 
@@ -452,9 +447,7 @@ impl Generator {
                 let owner = self.random.pick(&above).unwrap_or(ROOT);
                 self.pick_below(tree, owner, true, &mut list);
             }
-            6 if !tree.descendants(source).is_empty() => {
-                self.pick_below(tree, source, true, &mut list)
-            }
+            6 if !tree.descendants(source).is_empty() => self.pick_below(tree, source, true, &mut list),
             _ => self.pick_below(tree, ROOT, true, &mut list),
         }
         self.random.shuffle(&mut list);
@@ -626,7 +619,6 @@ fn queue(random: &mut Random, chart: &Chart) -> Queue {
         3..=8 => random.between(1, 4),
         _ => random.between(28, QUEUE_NAMES),
     };
-    let names: Vec<Vec<u8>> =
-        (0..count).map(|_| events[random.below(events.len())].clone()).collect();
+    let names: Vec<Vec<u8>> = (0..count).map(|_| events[random.below(events.len())].clone()).collect();
     Queue::of(&names).expect("no more than fit")
 }

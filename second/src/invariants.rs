@@ -5,9 +5,8 @@ use crate::compiled::CompiledChart;
 use crate::coverage::Coverage;
 use crate::legal::{is_legal, set_to_store};
 use crate::limits::QUEUE_NAMES;
-use crate::microstep::{
-    add_default_entry, plan_entries, with_ancestors_below, EntryPlan, Step, TraceEntry,
-};
+use crate::microstep::{add_default_entry, plan_entries, with_ancestors_below, EntryPlan, Step, TraceEntry};
+use crate::names::done_name;
 use crate::numbers::{RowNumber, ROOT};
 use crate::random::Random;
 use crate::row_set::RowSet;
@@ -67,37 +66,52 @@ impl Seen<'_> {
     fn selection_is_right(&self) -> Found {
         let mut candidates = self.record.selection.candidates.iter();
         let subsequence = self.kept().iter().all(|kept| candidates.any(|one| one == kept));
-        ensure(subsequence, "kept are a subsequence of the candidates")
+        ensure(subsequence, "kept are a subsequence of the candidates")?;
+        let candidates = &self.record.selection.candidates;
+        let chosen_once =
+            candidates.iter().enumerate().all(|(place, one)| !candidates[..place].contains(one));
+        ensure(chosen_once, "a transition chosen twice counts once")
     }
 
     fn domains_are_right(&self) -> Found {
-        let tree = &self.compiled.tree;
-        let stored = StoredHistory(&self.step().stored);
         let with_targets: Vec<(&Selected, RowNumber)> = self.with_targets().collect();
         for (place, &(selected, domain)) in with_targets.iter().enumerate() {
-            let active = domain == ROOT || self.before.configuration.contains(domain);
-            ensure(active, "a domain is active")?;
-            ensure(!self.step().exited.contains(domain), "a domain is not exited")?;
-            ensure(!selected.exit_set.is_empty(), "an exit set is not empty")?;
-            let after = effective_targets(self.compiled, stored, self.targets(selected));
-            let inside = after.is_subset_of(&tree.descendants(domain));
-            ensure(inside, "the domain by old history holds the new effective targets")?;
-            for &(other, other_domain) in &with_targets[..place] {
-                ensure(!selected.exit_set.meets(&other.exit_set), "exit sets are disjoint")?;
-                let comparable = domain == other_domain
-                    || tree.is_ancestor(domain, other_domain)
-                    || tree.is_ancestor(other_domain, domain);
-                ensure(!comparable, "domains are incomparable")?;
-            }
-            for &target in self.targets(selected) {
-                let anchor = tree.anchor(target);
-                let fine = !tree.is_history(target)
-                    || !self.step().exited.contains(anchor)
-                    || selected.exit_set.contains(anchor);
-                ensure(fine, "the same transition exits a targeted history's parent")?;
+            self.domain_is_right(selected, domain)?;
+            self.history_parents_are_right(selected)?;
+            for &other in &with_targets[..place] {
+                self.are_apart((selected, domain), other)?;
             }
         }
         Ok(())
+    }
+
+    fn domain_is_right(&self, selected: &Selected, domain: RowNumber) -> Found {
+        let active = domain == ROOT || self.before.configuration.contains(domain);
+        ensure(active, "a domain is active")?;
+        ensure(!self.step().exited.contains(domain), "a domain is not exited")?;
+        ensure(!selected.exit_set.is_empty(), "an exit set is not empty")?;
+        let stored = StoredHistory(&self.step().stored);
+        let after = effective_targets(self.compiled, stored, self.targets(selected));
+        let inside = after.is_subset_of(&self.compiled.tree.descendants(domain));
+        ensure(inside, "the domain by old history holds the new effective targets")
+    }
+
+    fn history_parents_are_right(&self, selected: &Selected) -> Found {
+        let tree = &self.compiled.tree;
+        let histories = self.targets(selected).iter().filter(|&&target| tree.is_history(target));
+        for parent in histories.map(|&history| tree.anchor(history)) {
+            let fine = !self.step().exited.contains(parent) || selected.exit_set.contains(parent);
+            ensure(fine, "the same transition exits a targeted history's parent")?;
+        }
+        Ok(())
+    }
+
+    fn are_apart(&self, one: (&Selected, RowNumber), other: (&Selected, RowNumber)) -> Found {
+        let tree = &self.compiled.tree;
+        ensure(!one.0.exit_set.meets(&other.0.exit_set), "exit sets are disjoint")?;
+        let comparable =
+            one.1 == other.1 || tree.is_ancestor(one.1, other.1) || tree.is_ancestor(other.1, one.1);
+        ensure(!comparable, "domains are incomparable")
     }
 
     fn exits_store_right(&self) -> Found {
@@ -151,8 +165,7 @@ impl Seen<'_> {
     fn closure_is_orderless(&self, random: &mut Random) -> Found {
         let plan = EntryPlan { rows: self.entry_seed(), ..EntryPlan::default() };
         let filled = fill_in_any_order(self.compiled, plan, random);
-        let same = filled.rows == self.step().entry.rows
-            && filled.by_default == self.step().entry.by_default;
+        let same = filled.rows == self.step().entry.rows && filled.by_default == self.step().entry.by_default;
         ensure(same, "the entry closure does not depend on the order")
     }
 
@@ -166,37 +179,36 @@ impl Seen<'_> {
     }
 
     /// Exits in reverse document order, then transitions in selection order, then entries in
-    /// document order; done events at most once a row; every raise and done event queued.
+    /// document order, and a dropped event shows nothing.
     fn trace_is_right(&self) -> Found {
         let step = self.step();
-        let mut exits = Vec::new();
-        let mut transitions = Vec::new();
-        let mut entries = Vec::new();
+        let own = step.trace.iter().filter(|entry| entry.kind_and_index().0 <= 3).copied();
+        let exits = step.exited.rows_in_exit_order().into_iter().map(TraceEntry::Exited);
+        let transitions = self.kept().iter().map(|selected| TraceEntry::Transition(selected.transition));
+        let entries = step.entry.rows.rows().map(TraceEntry::Entered);
+        ensure(own.eq(exits.chain(transitions).chain(entries)), "exits, transitions, entries")?;
+        let silent = step.trace.is_empty() && step.queued.is_empty();
+        ensure(!self.kept().is_empty() || self.is_special() || silent, "a drop is silent")?;
+        self.queued_is_right()
+    }
+
+    /// A done event comes at most once a row; every raise and done event is queued, in order.
+    fn queued_is_right(&self) -> Found {
+        let chart = &self.compiled.chart;
         let mut done = RowSet::EMPTY;
-        let mut queued = 0;
-        for entry in &step.trace {
+        let mut queued = Vec::new();
+        for entry in &self.step().trace {
             match *entry {
-                TraceEntry::Exited(row) => exits.push(row),
-                TraceEntry::Transition(number) => transitions.push(number),
-                TraceEntry::Entered(row) => entries.push(row),
-                TraceEntry::Host(_) => {}
-                TraceEntry::Raised(_) => queued += 1,
+                TraceEntry::Raised(name) => queued.push(chart.name(name).to_vec()),
                 TraceEntry::Done(row) => {
-                    queued += 1;
                     ensure(!done.contains(row), "a done event comes at most once a row")?;
                     done.insert(row);
+                    queued.push(done_name(chart.id(row)));
                 }
+                _ => {}
             }
         }
-        let phases: Vec<u32> =
-            step.trace.iter().map(|entry| entry.kind_and_index().0).filter(|&kind| kind <= 3).collect();
-        ensure(phases.is_sorted(), "exits, transitions, entries")?;
-        ensure(exits == step.exited.rows_in_exit_order(), "exits in exit order")?;
-        ensure(entries == step.entry.rows.rows().collect::<Vec<_>>(), "entries in document order")?;
-        let kept = self.kept().iter().map(|selected| selected.transition);
-        ensure(kept.eq(transitions), "transitions in selection order")?;
-        ensure(queued == step.queued.len(), "each raise and done event is queued")?;
-        ensure(!self.kept().is_empty() || self.is_special() || step.trace.is_empty(), "a drop is silent")
+        ensure(queued == self.step().queued, "each raise and done event is queued")
     }
 
     fn is_special(&self) -> bool {
@@ -291,7 +303,8 @@ impl Seen<'_> {
         for selected in &selection.kept {
             let transition = self.compiled.chart.transition(selected.transition);
             coverage.note_if("transitions without targets", selected.domain.is_none());
-            coverage.note_if("internal transitions that stay inside", selected.domain == Some(transition.source));
+            coverage
+                .note_if("internal transitions that stay inside", selected.domain == Some(transition.source));
             coverage.note_if("transitions with several targets", transition.targets.len() > 1);
             coverage.note_if("transitions with a condition", transition.condition.is_some());
             let anchors = self.compiled.target_anchors(selected.transition);
@@ -317,7 +330,8 @@ impl Seen<'_> {
                     });
                     let block = !self.compiled.chart.row(target).block.is_empty();
                     coverage.note_if("default blocks run", fallen && entered && block);
-                    coverage.note_if("default blocks not run, parent not entered", fallen && !entered && block);
+                    coverage
+                        .note_if("default blocks not run, parent not entered", fallen && !entered && block);
                     coverage.note_if("targeted histories whose parent is not entered", !entered);
                 }
             }

@@ -9,10 +9,9 @@ use crate::tree::Tree;
 /// and of each listed compound state, all children of each listed parallel, and with each row its
 /// parent.
 pub fn is_legal(tree: &Tree, configuration: &RowSet) -> bool {
-    let listed_well = configuration
-        .rows()
-        .all(|row| row.0 < tree.row_count() && tree.is_real_state(row));
-    listed_well && configuration.rows().all(|row| parent_is_listed(tree, configuration, row))
+    let listed_well = configuration.rows().all(|row| row.0 < tree.row_count() && tree.is_real_state(row));
+    listed_well
+        && configuration.rows().all(|row| parent_is_listed(tree, configuration, row))
         && holds_right_children(tree, configuration, ROOT)
         && configuration.rows().all(|row| holds_right_children(tree, configuration, row))
 }

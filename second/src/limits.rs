@@ -20,8 +20,7 @@ pub const MAX_REFERENCES: u64 = MAX_ROWS * MAX_ROWS + MAX_TRANSITIONS * MAX_TARG
 /// The descriptor table holds the descriptors of every transition.
 pub const MAX_DESCRIPTORS: u64 = MAX_TRANSITIONS * MAX_DESCRIPTORS_OF_TRANSITION;
 /// The action table holds every block of every row and every transition.
-pub const MAX_ACTIONS: u64 =
-    (MAX_ROWS * BLOCKS_OF_ROW + MAX_TRANSITIONS) * MAX_ACTIONS_OF_BLOCK;
+pub const MAX_ACTIONS: u64 = (MAX_ROWS * BLOCKS_OF_ROW + MAX_TRANSITIONS) * MAX_ACTIONS_OF_BLOCK;
 
 /// The six counts at the head of the table of numbers.
 pub const HEADER_CELLS: usize = 6;

@@ -214,10 +214,7 @@ pub fn plan_entries(compiled: &CompiledChart, stored: StoredHistory, kept: &[Sel
 /// The root counts as entered by default, with its initial targets.
 pub fn plan_start(compiled: &CompiledChart) -> EntryPlan {
     let initial = RowSet::of(&compiled.default_entry_targets(ROOT));
-    let mut plan = EntryPlan {
-        rows: with_ancestors_below(compiled, ROOT, &initial),
-        ..EntryPlan::default()
-    };
+    let mut plan = EntryPlan { rows: with_ancestors_below(compiled, ROOT, &initial), ..EntryPlan::default() };
     fill(compiled, &mut plan);
     plan
 }

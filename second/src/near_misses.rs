@@ -29,10 +29,8 @@ impl Lent {
     fn fit_place(&mut self) {
         let numbers = &self.spelt.numbers;
         let sets = COMPILED_SETS_OF_ROW as u64 * numbers[0] + COMPILED_SETS_OF_TRANSITION as u64 * numbers[1];
-        self.place = Place {
-            numbers: numbers.len() + ROW_SET_WORDS * sets as usize,
-            names: self.spelt.names.len(),
-        };
+        self.place =
+            Place { numbers: numbers.len() + ROW_SET_WORDS * sets as usize, names: self.spelt.names.len() };
     }
 
     fn counts(&self) -> Counts {
@@ -105,7 +103,7 @@ impl NearMiss {
     pub fn of(&self, chart: &Chart, random: &mut Random, plain: bool) -> Option<Lent> {
         let layout = match plain {
             true => Layout::Plain,
-            false => Layout::Mixed(Random::seeded(random.next())),
+            false => Layout::Mixed(Random::seeded(random.number())),
         };
         match self.spoil {
             Spoil::Tables(spoil) => {
@@ -341,7 +339,9 @@ fn sizes() -> Vec<NearMiss> {
         }),
         tables!("no rows", 1, |lent, _| {
             let counts = lent.counts();
-            lent.spelt.numbers.drain(counts.cell(Table::Rows, 0, 0)..counts.cell(Table::Rows, counts.rows, 0));
+            lent.spelt
+                .numbers
+                .drain(counts.cell(Table::Rows, 0, 0)..counts.cell(Table::Rows, counts.rows, 0));
             lent.spelt.numbers[0] = 0;
             lent.fit_place();
             Some(())
@@ -642,7 +642,8 @@ fn tree() -> Vec<NearMiss> {
             chart.rows[later.0].parent = Some(first);
             Some(())
         }),
-        chart!("history under root", 3, |chart, _, _| append_row(chart, Kind::DeepHistory, Some(ROOT)).map(|_| ())),
+        chart!("history under root", 3, |chart, _, _| append_row(chart, Kind::DeepHistory, Some(ROOT))
+            .map(|_| ())),
         chart!("state under final", 3, |chart, tree, _| {
             let last = RowNumber(chart.rows.len() - 1);
             (tree.kind(last) == Kind::Final).then_some(())?;
@@ -807,9 +808,13 @@ fn default_lists() -> Vec<NearMiss> {
 fn useless_lists_and_blocks() -> Vec<NearMiss> {
     vec![
         chart!("atomic state with a list", 4, |chart, tree, random| {
-            set_list(chart, tree, random,
+            set_list(
+                chart,
+                tree,
+                random,
                 |tree, row| tree.is_atomic(row) && tree.kind(row) == Kind::State,
-                |_, _| Some(vec![RowNumber(1)]))
+                |_, _| Some(vec![RowNumber(1)]),
+            )
         }),
         chart!("atomic state with a list's block", 4, |chart, tree, random| {
             let row = some_row(chart, tree, random, |tree, row| {

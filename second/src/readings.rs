@@ -24,7 +24,7 @@ pub fn run(rounds: u32) -> Call {
     Call::Run { rounds, room: ROOM }
 }
 
-fn run_in(rounds: u32, room: usize) -> Call {
+pub fn run_in(rounds: u32, room: usize) -> Call {
     Call::Run { rounds, room }
 }
 
@@ -58,7 +58,7 @@ pub fn all() -> Vec<Vec<Example>> {
     ]
 }
 
-/// 1. Ancestors are entered below the domain alone. Event e leads from x to the deep history of
+/// Reading 1: Ancestors are entered below the domain alone. Event e leads from x to the deep history of
 /// s, which falls to y: the domain is d. Entering up to s as well would enter the parallel q
 /// again and give region r a second active child beside v.
 pub fn reading_01() -> Vec<Example> {
@@ -70,7 +70,7 @@ pub fn reading_01() -> Vec<Example> {
     vec![Example::of_chart("reading_01", "entry stays below the domain", &b.chart(), calls)]
 }
 
-/// 2. The domain of the selection is kept. Before the exits the deep history of p falls to s, so
+/// Reading 2: The domain of the selection is kept. Before the exits the deep history of p falls to s, so
 /// the domain is the root; the exits store a, whose own domain would be s, and p would be left
 /// out.
 pub fn reading_02() -> Vec<Example> {
@@ -81,7 +81,7 @@ pub fn reading_02() -> Vec<Example> {
     vec![Example::of_chart("reading_02", "the domain of the selection is kept", &b.chart(), calls)]
 }
 
-/// 3. A dropped candidate removes nothing. The third candidate outranks the one of a but not the
+/// Reading 3: A dropped candidate removes nothing. The third candidate outranks the one of a but not the
 /// one of b1; it is dropped, and the one of a stays.
 pub fn reading_03() -> Vec<Example> {
     let mut b = Builder::new();
@@ -93,7 +93,7 @@ pub fn reading_03() -> Vec<Example> {
     vec![Example::of_chart("reading_03", "a dropped candidate removes nothing", &b.chart(), calls)]
 }
 
-/// 4. Blocks of transitions run in selection order: the one of region a first, then the one of p,
+/// Reading 4: Blocks of transitions run in selection order: the one of region a first, then the one of p,
 /// which region b climbs to, though p's has the lower number.
 pub fn reading_04() -> Vec<Example> {
     let mut b = Builder::new();
@@ -104,7 +104,7 @@ pub fn reading_04() -> Vec<Example> {
     vec![Example::of_chart("reading_04", "selection order, not number order", &b.chart(), calls)]
 }
 
-/// 5. The done event of a parallel is judged when a final is entered. Both regions end in one
+/// Reading 5: The done event of a parallel is judged when a final is entered. Both regions end in one
 /// round; judged at the round's end, p's done event would come twice.
 pub fn reading_05() -> Vec<Example> {
     let mut b = Builder::new();
@@ -115,7 +115,7 @@ pub fn reading_05() -> Vec<Example> {
     vec![Example::of_chart("reading_05", "done is judged at the final's entry", &b.chart(), calls)]
 }
 
-/// 6. A default block runs only where the history's parent is entered: on the first f it is, on
+/// Reading 6: A default block runs only where the history's parent is entered: on the first f it is, on
 /// the second it is not.
 pub fn reading_06() -> Vec<Example> {
     let mut b = Builder::new();
@@ -125,7 +125,7 @@ pub fn reading_06() -> Vec<Example> {
     vec![Example::of_chart("reading_06", "no default block without entry", &b.chart(), calls)]
 }
 
-/// 7. The domain comes from effective targets: it is p. From the anchor, which is p itself, it
+/// Reading 7: The domain comes from effective targets: it is p. From the anchor, which is p itself, it
 /// would be the root, and p would be exited and entered.
 pub fn reading_07() -> Vec<Example> {
     let mut b = Builder::new();
@@ -136,7 +136,7 @@ pub fn reading_07() -> Vec<Example> {
     vec![Example::of_chart("reading_07", "the domain comes from effective targets", &b.chart(), calls)]
 }
 
-/// 8. A row's list has no limit of its own: the root's has nine rows.
+/// Reading 8: A row's list has no limit of its own: the root's has nine rows.
 pub fn reading_08() -> Vec<Example> {
     let mut b = Builder::new();
     b.parallel("", "p");
@@ -154,7 +154,7 @@ fn two_rows() -> Spelt {
     encode_plainly(&b.chart())
 }
 
-/// 9. "None" is within range for rule 1; where it is wrong, or missing, the number is 2 for ids
+/// Reading 9: "None" is within range for rule 1; where it is wrong, or missing, the number is 2 for ids
 /// and 3 for parents.
 pub fn reading_09() -> Vec<Example> {
     let row = |row: usize, column: usize| 6 + 11 * row + column;
@@ -176,7 +176,7 @@ pub fn reading_09() -> Vec<Example> {
     cases.into_iter().map(example).collect()
 }
 
-/// 10. Neither the root nor a history is ever listed in a configuration.
+/// Reading 10: Neither the root nor a history is ever listed in a configuration.
 pub fn reading_10() -> Vec<Example> {
     let mut b = Builder::new();
     b.parallel("", "p").shallow("p", "h").state("p", "a").deep("a", "g").state("a", "a1");
@@ -186,7 +186,7 @@ pub fn reading_10() -> Vec<Example> {
     vec![Example::of_chart("reading_10", "no root and no history is listed", &b.chart(), calls)]
 }
 
-/// 11. What was stored stays stored in the ended session.
+/// Reading 11: What was stored stays stored in the ended session.
 pub fn reading_11() -> Vec<Example> {
     let mut b = Builder::new();
     b.state("", "p").state("p", "x").state("p", "y").shallow("p", "h").state("", "s");
@@ -205,13 +205,13 @@ fn forty_raises() -> Chart {
     b.chart()
 }
 
-/// 12. A full queue is told before a full trace, also where no entry fits at all.
+/// Reading 12: A full queue is told before a full trace, also where no entry fits at all.
 pub fn reading_12() -> Vec<Example> {
     let calls = vec![start(), post("e"), run_in(1, 0), run(1), Call::Start { room: 0 }];
     vec![Example::of_chart("reading_12", "7 before 10", &forty_raises(), calls)]
 }
 
-/// 13. A round that enters a final under root can still get 7.
+/// Reading 13: A round that enters a final under root can still get 7.
 pub fn reading_13() -> Vec<Example> {
     let mut b = Builder::new();
     b.state("", "a").state("a", "b").final_("", "f");
@@ -221,15 +221,16 @@ pub fn reading_13() -> Vec<Example> {
     vec![Example::of_chart("reading_13", "7 on the way to closing", &b.chart(), calls)]
 }
 
-/// 14. Idle is asked in a run of 0 and after the last round; a closing session is never idle.
+/// Reading 14: Idle is asked in a run of 0 and after the last round; a closing session is never idle.
 pub fn reading_14() -> Vec<Example> {
     let mut b = Builder::new();
     b.state("", "s").final_("", "f").on("s", "e", "f");
-    let calls = vec![run(0), start(), run(0), post("x"), run(0), run(1), post("e"), run(1), run(0), run(1), run(0)];
+    let calls =
+        vec![run(0), start(), run(0), post("x"), run(0), run(1), post("e"), run(1), run(0), run(1), run(0)];
     vec![Example::of_chart("reading_14", "the status of a run", &b.chart(), calls)]
 }
 
-/// 15. A stored set is never empty; each history of a row stores its own.
+/// Reading 15: A stored set is never empty; each history of a row stores its own.
 pub fn reading_15() -> Vec<Example> {
     let mut b = Builder::new();
     b.parallel("", "p").state("p", "a").state("a", "a1").state("a", "a2").state("p", "c");
@@ -240,7 +241,7 @@ pub fn reading_15() -> Vec<Example> {
     vec![Example::of_chart("reading_15", "both histories store", &b.chart(), calls)]
 }
 
-/// 16. Posted names are names, no descriptors.
+/// Reading 16: Posted names are names, no descriptors.
 pub fn reading_16() -> Vec<Example> {
     let mut b = Builder::new();
     b.state("", "s").on("s", "*", "").doing(&[Do::Host(1)]);
@@ -248,7 +249,7 @@ pub fn reading_16() -> Vec<Example> {
     vec![Example::of_chart("reading_16", "a star is no event name", &b.chart(), calls)]
 }
 
-/// 17. A history is no one's child: the default entry of p is x, and q is done when its one
+/// Reading 17: A history is no one's child: the default entry of p is x, and q is done when its one
 /// region is.
 pub fn reading_17() -> Vec<Example> {
     let mut b = Builder::new();
@@ -260,7 +261,7 @@ pub fn reading_17() -> Vec<Example> {
     vec![Example::of_chart("reading_17", "a history is no child", &b.chart(), calls)]
 }
 
-/// 18. Ids differ by bytes; "done.state.p" matches the done event of "p.q"; the trace shows the
+/// Reading 18: Ids differ by bytes; "done.state.p" matches the done event of "p.q"; the trace shows the
 /// slot number that the table gives, here the second slot that holds "e".
 pub fn reading_18() -> Vec<Example> {
     let mut b = Builder::new();
@@ -296,9 +297,10 @@ pub fn chart_a() -> Chart {
     b.chart()
 }
 
-/// 19. After e1 the done event of S1 is dropped in a round of its own, before e2 is taken.
+/// Reading 19: After e1 the done event of S1 is dropped in a round of its own, before e2 is taken.
 pub fn reading_19() -> Vec<Example> {
-    let singly = vec![start(), post("e4"), run(1), post("e1"), run(1), post("e2"), run(1), run(1), run(1), run(1)];
+    let singly =
+        vec![start(), post("e4"), run(1), post("e1"), run(1), post("e2"), run(1), run(1), run(1), run(1)];
     let at_once = vec![start(), post("e4"), post("e1"), post("e2"), run(10)];
     let cut = vec![start(), post("e4"), post("e1"), post("e2"), run(3)];
     vec![
@@ -308,13 +310,13 @@ pub fn reading_19() -> Vec<Example> {
     ]
 }
 
-/// 20. A chart of one row keeps rule 1 and gets 3.
+/// Reading 20: A chart of one row keeps rule 1 and gets 3.
 pub fn reading_20() -> Vec<Example> {
     let chart = Builder::new().chart();
     vec![Example::of_chart("reading_20", "one row", &chart, Vec::new())]
 }
 
-/// 21. An event that selects nothing counts as a round, also with trace room 0.
+/// Reading 21: An event that selects nothing counts as a round, also with trace room 0.
 pub fn reading_21() -> Vec<Example> {
     let mut b = Builder::new();
     b.state("", "s").on("s", "e", "s");

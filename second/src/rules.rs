@@ -107,8 +107,7 @@ fn action_is_sized(tables: &Tables, action: RawAction) -> bool {
 /// a block holds it or not.
 fn names_are_good(tables: &Tables, chart: &Chart) -> bool {
     chart.names.iter().all(|slot| slot_holds_descriptor(slot))
-        && (0..tables.counts.actions)
-            .all(|action| raise_is_good(chart, tables.decode_action(action)))
+        && (0..tables.counts.actions).all(|action| raise_is_good(chart, tables.decode_action(action)))
         && ids_are_good(chart)
 }
 

@@ -45,11 +45,7 @@ impl StoredHistory<'_> {
 
 /// "Effective targets: a history with nothing stored falls to its default list; otherwise its
 /// stored states stand in for it."
-pub fn effective_targets(
-    compiled: &CompiledChart,
-    stored: StoredHistory,
-    targets: &[RowNumber],
-) -> RowSet {
+pub fn effective_targets(compiled: &CompiledChart, stored: StoredHistory, targets: &[RowNumber]) -> RowSet {
     let mut effective = RowSet::EMPTY;
     for &target in targets {
         effective = effective.union(&stand_in(compiled, stored, target));
@@ -84,9 +80,7 @@ pub fn domain_for(
     if transition.kind == TransitionType::Internal && tree.is_compound(source) && covers(source) {
         return Some(source);
     }
-    tree.ancestors_upwards(source)
-        .into_iter()
-        .find(|&above| tree.is_compound_or_root(above) && covers(above))
+    tree.ancestors_upwards(source).into_iter().find(|&above| tree.is_compound_or_root(above) && covers(above))
 }
 
 /// "The exit set is the domain's active proper descendants; with no targets it is empty."
@@ -151,9 +145,9 @@ impl Moment<'_> {
         let descriptors = &transition.descriptors;
         let triggered = match event {
             None => descriptors.is_empty(),
-            Some(name) => descriptors
-                .iter()
-                .any(|&descriptor| matches(self.compiled.chart.name(descriptor), name)),
+            Some(name) => {
+                descriptors.iter().any(|&descriptor| matches(self.compiled.chart.name(descriptor), name))
+            }
         };
         triggered && transition.condition.is_none_or(|row| self.configuration.contains(row))
     }
@@ -173,9 +167,7 @@ impl Moment<'_> {
         let mut kept: Vec<Selected> = Vec::new();
         for candidate in candidates {
             let meets = |other: &Selected| candidate.exit_set.meets(&other.exit_set);
-            let dropped = kept
-                .iter()
-                .any(|other| meets(other) && !self.outranks(candidate, other));
+            let dropped = kept.iter().any(|other| meets(other) && !self.outranks(candidate, other));
             if !dropped {
                 kept.retain(|other| !meets(other));
                 kept.push(candidate.clone());

@@ -163,8 +163,7 @@ impl Session {
         };
         let empty = Session { mode: RUNNING, ..Session::ended() };
         let step = Step::from(empty.configuration, &empty.stored).start(compiled);
-        let record =
-            RoundRecord { trigger: Trigger::Start, selection: Selection::default(), step };
+        let record = RoundRecord { trigger: Trigger::Start, selection: Selection::default(), step };
         let judged = empty.judge(&record, room);
         watcher(&empty, &record, judged.as_ref().map_err(|&refusal| refusal));
         match judged {
@@ -250,11 +249,7 @@ impl Session {
     }
 
     fn moment<'a>(&'a self, compiled: &'a CompiledChart) -> Moment<'a> {
-        Moment {
-            compiled,
-            configuration: &self.configuration,
-            stored: StoredHistory(&self.stored),
-        }
+        Moment { compiled, configuration: &self.configuration, stored: StoredHistory(&self.stored) }
     }
 
     /// "eventless transitions (no descriptor) first. If none is selected, the oldest internal

@@ -39,7 +39,12 @@ fn show_row(chart: &Chart, number: usize, row: &Row) -> String {
 fn show_transition(chart: &Chart, number: usize, transition: &Transition) -> String {
     let descriptors: Vec<String> =
         transition.descriptors.iter().map(|&name| text(chart.name(name))).collect();
-    let mut line = format!("t{number} {:?} from {} on [{}]", transition.kind, transition.source.0, descriptors.join(" "));
+    let mut line = format!(
+        "t{number} {:?} from {} on [{}]",
+        transition.kind,
+        transition.source.0,
+        descriptors.join(" ")
+    );
     if let Some(row) = transition.condition {
         line += &format!(" if In({})", row.0);
     }

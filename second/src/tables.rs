@@ -15,14 +15,8 @@ pub enum Kind {
 }
 
 impl Kind {
-    pub const ALL: [Kind; 6] = [
-        Kind::Root,
-        Kind::State,
-        Kind::Parallel,
-        Kind::Final,
-        Kind::ShallowHistory,
-        Kind::DeepHistory,
-    ];
+    pub const ALL: [Kind; 6] =
+        [Kind::Root, Kind::State, Kind::Parallel, Kind::Final, Kind::ShallowHistory, Kind::DeepHistory];
 
     pub fn number(self) -> u64 {
         self as u64
@@ -137,14 +131,7 @@ impl Counts {
     /// this, so that nothing below can overflow.
     pub fn read(numbers: &[u64]) -> Option<Counts> {
         let header = numbers.get(..HEADER_CELLS)?;
-        let greatest = [
-            MAX_ROWS,
-            MAX_TRANSITIONS,
-            MAX_REFERENCES,
-            MAX_DESCRIPTORS,
-            MAX_ACTIONS,
-            MAX_SLOTS,
-        ];
+        let greatest = [MAX_ROWS, MAX_TRANSITIONS, MAX_REFERENCES, MAX_DESCRIPTORS, MAX_ACTIONS, MAX_SLOTS];
         let within = header.iter().zip(greatest).all(|(&count, limit)| count <= limit);
         if !within || header[0] == 0 {
             return None;

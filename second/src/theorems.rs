@@ -1,15 +1,21 @@
 //! Examples as theorems for the prover: modules of text, each theorem true by evaluation.
 
+use crate::at_limits::{self, Header};
+use crate::by_hand;
 use crate::calls::{Call, Dump};
-use crate::compiled::{compile, needed_place};
+use crate::compiled::{compile, needed_place, Places};
 use crate::encode::{encode_plainly, Spelt};
 use crate::examples::{self, Example};
+use crate::faults::{self, Fault};
 use crate::follower::{session_examples, SessionExample};
 use crate::generate::{self, Flavour};
+use crate::limits::SLOT_BYTES;
 use crate::names::{slot_holds_descriptor, text_of};
 use crate::near_misses::sample;
+use crate::places::{self, LentPlaces, Opened};
 use crate::random::Random;
 use crate::readings;
+use crate::rules::Place;
 use crate::session::{CLOSING, ENDED};
 
 /// A file of theorems.
@@ -29,13 +35,14 @@ use Rattle.definition.specs.declared.Mode.the-variants.{Running, Closing, Ended
 use Rattle.definition.specs.Marked.{slotOf}
 use Rattle.definition.specs.Follower.{Follower, starts, posts, runs}
 use Rattle.definition.specs.Open.{everything}
-use Rattle.examples.specs.Play.{joined, historyShown, queueShown, shown, playedIf, played, compiledSets, fits, alike}
+use Rattle.examples.specs.Play.{joined, historyShown, queueShown, shown, playedIf, played, judged, countsKept, compiledSets, opens, fits, alike}
 ";
 
 /// How many played charts are written, and how many to a module.
 const GENERATED: usize = 200;
-const PLAYED_IN_MODULE: usize = 41;
+const PLAYED_IN_MODULE: usize = 42;
 const COMPILED: usize = 20;
+const CHANGED: usize = 100;
 /// No line is longer.
 const LINE: usize = 120;
 
@@ -45,8 +52,13 @@ pub fn modules() -> Vec<Module> {
     for (place, part) in played.chunks(PLAYED_IN_MODULE).enumerate() {
         modules.push(played_module(place, part));
     }
+    modules.push(examples_module("ByHand", "Charts for single sentences, played.", &by_hand::all()));
+    modules.push(limits_module());
     modules.push(refused_module());
+    modules.push(changed_module());
+    modules.push(faults_module());
     modules.push(sets_module());
+    modules.push(places_module());
     modules.push(sessions_module());
     modules
 }
@@ -84,7 +96,11 @@ fn readings_module() -> Module {
             theorems.push(played(theorems.len() + 1, &example));
         }
     }
-    module("Readings", "One chart and more for each reading of the rules that has room for another.", &theorems)
+    module(
+        "Readings",
+        "One chart and more for each reading of the rules that has room for another.",
+        &theorems,
+    )
 }
 
 fn played_module(place: usize, part: &[Example]) -> Module {
@@ -94,15 +110,42 @@ fn played_module(place: usize, part: &[Example]) -> Module {
     module(&format!("Played{}", place + 1), "Charts, played.", &theorems)
 }
 
-/// A refusal for the lent places alone cannot be told from tables, and is left out.
+fn examples_module(name: &str, holds: &str, examples: &[Example]) -> Module {
+    let theorems: Vec<String> =
+        examples.iter().enumerate().map(|(place, example)| played(place + 1, example)).collect();
+    module(name, holds, &theorems)
+}
+
+/// A refusal for the lent places alone cannot be told from tables; module Places has those.
 fn refused_module() -> Module {
     let fitting = |example: &Example| {
         Example::of_tables("", "", example.spelt.clone(), Vec::new()).verdict == example.verdict
     };
     let refused: Vec<Example> = examples::refused().into_iter().filter(fitting).collect();
-    let theorems: Vec<String> =
-        refused.iter().enumerate().map(|(place, example)| played(place + 1, example)).collect();
-    module("Refused", "One chart for each way to break one rule.", &theorems)
+    examples_module("Refused", "One chart for each way to break one rule.", &refused)
+}
+
+fn limits_module() -> Module {
+    let headers = at_limits::headers();
+    let mut theorems: Vec<String> =
+        headers.iter().enumerate().map(|(place, header)| counts_kept(place + 1, header)).collect();
+    let charts = at_limits::all();
+    theorems.extend(charts.iter().enumerate().map(|(place, example)| played(place + 1, example)));
+    module("Limits", "Headers at the limits and past them, and charts exactly at them.", &theorems)
+}
+
+fn faults_module() -> Module {
+    let faults: Vec<Example> = faults::all().iter().map(Fault::example).collect();
+    examples_module("Faults", "Charts with a fault that one clause alone sees, and with two faults.", &faults)
+}
+
+fn changed_module() -> Module {
+    let theorems: Vec<String> = examples::changed(CHANGED)
+        .iter()
+        .enumerate()
+        .map(|(place, example)| played(place + 1, example))
+        .collect();
+    module("Changed", "Charts with changed cells, refused or played.", &theorems)
 }
 
 fn sets_module() -> Module {
@@ -113,6 +156,7 @@ fn sets_module() -> Module {
         let flavour = Flavour::with_rows(&mut random, rows);
         charts.push(generate::chart(&mut random, flavour));
     }
+    charts.push(at_limits::last_row_everywhere());
     let theorems: Vec<String> = charts
         .iter()
         .enumerate()
@@ -132,6 +176,19 @@ fn sessions_module() -> Module {
         }
     }
     module("Sessions", "Sessions that are well formed, and such that are not.", &theorems)
+}
+
+fn places_module() -> Module {
+    let chart = places::small_chart();
+    let mut theorems =
+        vec![numbers_definition(1, &chart), names_definition(1, chart.names.chunks(SLOT_BYTES))];
+    theorems.extend(places::lent().iter().enumerate().map(|(place, lent)| judged(place + 1, lent)));
+    theorems.extend(places::opened().iter().enumerate().map(|(place, opened)| opens(place + 1, opened)));
+    module(
+        "Places",
+        "Places of the right size and of others; compiled charts, and such that are none.",
+        &theorems,
+    )
 }
 
 // Lists
@@ -159,7 +216,9 @@ fn list_of_lists<'a>(lists: impl IntoIterator<Item = &'a Vec<u64>>) -> String {
 /// A slot that holds no name or descriptor is written byte by byte.
 fn slot(bytes: &[u8]) -> String {
     match text_of(bytes) {
-        Some(text) if slot_holds_descriptor(bytes) && bytes.len() == 64 => format!("slotOf {}", bracketed(text)),
+        Some(text) if slot_holds_descriptor(bytes) && bytes.len() == 64 => {
+            format!("slotOf {}", bracketed(text))
+        }
         _ => bracketed(bytes),
     }
 }
@@ -167,14 +226,11 @@ fn slot(bytes: &[u8]) -> String {
 // Theorems
 
 fn numbers_definition(number: usize, spelt: &Spelt) -> String {
-    format!(
-        "abbrev numbers-{number:03} : List ℕ\nnumbers-{number:03} = {}\n",
-        list(&spelt.numbers)
-    )
+    format!("abbrev numbers-{number:03} : List ℕ\nnumbers-{number:03} = {}\n", list(&spelt.numbers))
 }
 
-fn names_definition(number: usize, example: &Example) -> String {
-    let slots = list(example.slots().map(slot));
+fn names_definition<'a>(number: usize, slots: impl Iterator<Item = &'a [u8]>) -> String {
+    let slots = list(slots.map(slot));
     format!("abbrev names-{number:03} : List ℕ\nnames-{number:03} = joined {}\n", in_brackets(&slots))
 }
 
@@ -208,7 +264,7 @@ fn played(number: usize, example: &Example) -> String {
          example-{number:03} = refl\n",
         example.about,
         numbers_definition(number, &example.spelt),
-        names_definition(number, example),
+        names_definition(number, example.slots()),
         expected(example),
     )
 }
@@ -222,6 +278,36 @@ fn compiled_sets(number: usize, spelt: &Spelt) -> String {
          unfolding everything compiledSets\ncompiled-{number:03} = refl\n",
         numbers_definition(number, spelt),
         in_brackets(&words),
+    )
+}
+
+fn counts_kept(number: usize, header: &Header) -> String {
+    format!(
+        "-- {}\nheader-{number:03} : countsKept {} ≡ {}\nunfolding everything countsKept\nheader-{number:03} = refl\n",
+        header.about,
+        bracketed(header.counts),
+        header.fits,
+    )
+}
+
+fn judged(number: usize, example: &LentPlaces) -> String {
+    let Place { numbers, names } = example.place;
+    format!(
+        "-- {}\njudged-{number:03} : judged numbers-001 names-001 {numbers} {names} ≡ {}\n\
+         unfolding everything joined judged\njudged-{number:03} = refl\n",
+        example.about, example.verdict,
+    )
+}
+
+fn opens(number: usize, example: &Opened) -> String {
+    let Places { numbers, names } = &example.places;
+    let slots = in_brackets(&list(names.chunks(SLOT_BYTES).map(slot)));
+    format!(
+        "-- {}\nopens-{number:03} : opens {} (joined {slots}) ≡ {}\n\
+         unfolding everything joined opens\nopens-{number:03} = refl\n",
+        example.about,
+        bracketed(numbers),
+        example.opens,
     )
 }
 

@@ -1,15 +1,16 @@
 //! The same checks under `cargo test`.
 
-use second::checks::{agreement, small, Check};
+use second::checks::{agreement, enough_happened, small, Check};
 use second::coverage::Coverage;
 
-fn all_pass(checks: Vec<Check>) {
+fn all_pass(checks: Vec<Check>) -> Coverage {
     let mut coverage = Coverage::default();
     for check in checks {
         if let Err(what) = (check.run)(&mut coverage) {
             panic!("{}: {what}", check.name);
         }
     }
+    coverage
 }
 
 #[test]
@@ -19,5 +20,6 @@ fn small_checks_pass() {
 
 #[test]
 fn generated_charts_agree() {
-    all_pass(agreement());
+    let coverage = all_pass(agreement());
+    assert_eq!(enough_happened(&coverage), Ok(()));
 }

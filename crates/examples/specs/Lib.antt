@@ -5,6 +5,11 @@ pub mod Played2
 pub mod Played3
 pub mod Played4
 pub mod Played5
+pub mod ByHand
+pub mod Limits
 pub mod Refused
+pub mod Changed
+pub mod Faults
 pub mod Sets
+pub mod Places
 pub mod Sessions

@@ -7,10 +7,10 @@ use lib.ListN.{length, drop}
 use Rattle.definition.specs.Rows.{same, flat}
 use Rattle.definition.specs.Names.{Name}
 use Rattle.definition.specs.Tables.{chartOf, nameAt}
-use Rattle.definition.specs.Rules.{keepsRules}
+use Rattle.definition.specs.Rules.{countsFit, verdict, keepsRules}
 use Rattle.definition.specs.Follower.{answerNo, modeNo, Follower, endedFollower, Call, Outcome, followAll}
 use Rattle.definition.specs.Legal.{isWellFormed}
-use Rattle.definition.specs.Compiled.{compiled}
+use Rattle.definition.specs.Compiled.{compiled, isCompiled}
 
 -- slots one after the other
 unfoldable pub joined : List (List ℕ) → List ℕ
@@ -43,9 +43,21 @@ unfoldable pub played : List ℕ → List ℕ → List Call → List (List ℕ)
 played numbers names calls =
     (answerNo (keepsRules numbers names) ∷ []) ∷ playedIf (answerNo (keepsRules numbers names)) numbers names calls
 
+-- the number that compiling gives with places of so many numbers and bytes
+unfoldable pub judged : List ℕ → List ℕ → ℕ → ℕ → ℕ
+judged numbers names room nameRoom = answerNo (verdict numbers names room nameRoom)
+
+-- are the counts of this header within their limits
+unfoldable pub countsKept : List ℕ → Bool
+countsKept header = countsFit header
+
 -- the words behind the numbers of the compiled chart
 unfoldable pub compiledSets : List ℕ → List ℕ
 compiledSets numbers = drop (length numbers) (compiled numbers)
+
+-- do the two places hold a compiled chart; if not, refusal 8 is given
+unfoldable pub opens : List ℕ → List ℕ → Bool
+opens place names = isCompiled place names
 
 -- is this a well-formed session of the chart
 unfoldable pub fits : List ℕ → Follower → Bool

@@ -9,7 +9,7 @@ use Rattle.definition.specs.declared.Mode.the-variants.{Running, Closing, Ended
 use Rattle.definition.specs.Marked.{slotOf}
 use Rattle.definition.specs.Follower.{Follower, starts, posts, runs}
 use Rattle.definition.specs.Open.{everything}
-use Rattle.examples.specs.Play.{joined, historyShown, queueShown, shown, playedIf, played, compiledSets, fits, alike}
+use Rattle.examples.specs.Play.{joined, historyShown, queueShown, shown, playedIf, played, judged, countsKept, compiledSets, opens, fits, alike}
 
 -- Reading 1: entry stays below the domain.
 abbrev numbers-001 : List ℕ

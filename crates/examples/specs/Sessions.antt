@@ -9,7 +9,7 @@ use Rattle.definition.specs.declared.Mode.the-variants.{Running, Closing, Ended
 use Rattle.definition.specs.Marked.{slotOf}
 use Rattle.definition.specs.Follower.{Follower, starts, posts, runs}
 use Rattle.definition.specs.Open.{everything}
-use Rattle.examples.specs.Play.{joined, historyShown, queueShown, shown, playedIf, played, compiledSets, fits, alike}
+use Rattle.examples.specs.Play.{joined, historyShown, queueShown, shown, playedIf, played, judged, countsKept, compiledSets, opens, fits, alike}
 
 abbrev numbers-001 : List ℕ
 numbers-001 = 11 ∷ 5 ∷ 7 ∷ 5 ∷ 0 ∷ 14 ∷ 0 ∷ 65535 ∷ 65535 ∷ 0 ∷ 0 ∷ 0 ∷ 0 ∷ 0 ∷ 0 ∷ 0 ∷ 0 ∷ 2 ∷ 0 ∷ 0 ∷ 0 ∷ 0 ∷ 0 ∷ 0 ∷
@@ -130,9 +130,9 @@ session-010 : fits numbers-001 (record {
 unfolding everything fits
 session-010 = refl
 
--- a permuted configuration
+-- a row whose parent is missing
 session-011 : fits numbers-001 (record {
-  configuration = 1 ∷ 2 ∷ 6 ∷ 3 ∷ 7 ∷ [];
+  configuration = 3 ∷ 10 ∷ [];
   history = [] ∷ [] ∷ [] ∷ [] ∷ [] ∷ [] ∷ [] ∷ [] ∷ [] ∷ [] ∷ [] ∷ [];
   internal = [];
   external = [];
@@ -141,9 +141,9 @@ session-011 : fits numbers-001 (record {
 unfolding everything fits
 session-011 = refl
 
--- a reversed configuration
+-- a permuted configuration
 session-012 : fits numbers-001 (record {
-  configuration = 7 ∷ 6 ∷ 3 ∷ 2 ∷ 1 ∷ [];
+  configuration = 1 ∷ 2 ∷ 6 ∷ 3 ∷ 7 ∷ [];
   history = [] ∷ [] ∷ [] ∷ [] ∷ [] ∷ [] ∷ [] ∷ [] ∷ [] ∷ [] ∷ [] ∷ [];
   internal = [];
   external = [];
@@ -152,9 +152,9 @@ session-012 : fits numbers-001 (record {
 unfolding everything fits
 session-012 = refl
 
--- a row twice
+-- a reversed configuration
 session-013 : fits numbers-001 (record {
-  configuration = 1 ∷ 2 ∷ 3 ∷ 3 ∷ 6 ∷ 7 ∷ [];
+  configuration = 7 ∷ 6 ∷ 3 ∷ 2 ∷ 1 ∷ [];
   history = [] ∷ [] ∷ [] ∷ [] ∷ [] ∷ [] ∷ [] ∷ [] ∷ [] ∷ [] ∷ [] ∷ [];
   internal = [];
   external = [];
@@ -163,9 +163,9 @@ session-013 : fits numbers-001 (record {
 unfolding everything fits
 session-013 = refl
 
--- the root listed
+-- a row twice
 session-014 : fits numbers-001 (record {
-  configuration = 0 ∷ 1 ∷ 2 ∷ 3 ∷ 6 ∷ 7 ∷ [];
+  configuration = 1 ∷ 2 ∷ 3 ∷ 3 ∷ 6 ∷ 7 ∷ [];
   history = [] ∷ [] ∷ [] ∷ [] ∷ [] ∷ [] ∷ [] ∷ [] ∷ [] ∷ [] ∷ [] ∷ [];
   internal = [];
   external = [];
@@ -174,9 +174,9 @@ session-014 : fits numbers-001 (record {
 unfolding everything fits
 session-014 = refl
 
--- a row past the count
+-- the root listed
 session-015 : fits numbers-001 (record {
-  configuration = 1 ∷ 2 ∷ 3 ∷ 6 ∷ 7 ∷ 11 ∷ [];
+  configuration = 0 ∷ 1 ∷ 2 ∷ 3 ∷ 6 ∷ 7 ∷ [];
   history = [] ∷ [] ∷ [] ∷ [] ∷ [] ∷ [] ∷ [] ∷ [] ∷ [] ∷ [] ∷ [] ∷ [];
   internal = [];
   external = [];
@@ -185,9 +185,9 @@ session-015 : fits numbers-001 (record {
 unfolding everything fits
 session-015 = refl
 
--- a row far past the count
+-- a row past the count
 session-016 : fits numbers-001 (record {
-  configuration = 1 ∷ 2 ∷ 3 ∷ 6 ∷ 7 ∷ 255 ∷ [];
+  configuration = 1 ∷ 2 ∷ 3 ∷ 6 ∷ 7 ∷ 11 ∷ [];
   history = [] ∷ [] ∷ [] ∷ [] ∷ [] ∷ [] ∷ [] ∷ [] ∷ [] ∷ [] ∷ [] ∷ [];
   internal = [];
   external = [];
@@ -196,8 +196,19 @@ session-016 : fits numbers-001 (record {
 unfolding everything fits
 session-016 = refl
 
--- closing without a final under root
+-- a row far past the count
 session-017 : fits numbers-001 (record {
+  configuration = 1 ∷ 2 ∷ 3 ∷ 6 ∷ 7 ∷ 255 ∷ [];
+  history = [] ∷ [] ∷ [] ∷ [] ∷ [] ∷ [] ∷ [] ∷ [] ∷ [] ∷ [] ∷ [] ∷ [];
+  internal = [];
+  external = [];
+  mode = Running;
+}) ≡ false
+unfolding everything fits
+session-017 = refl
+
+-- closing without a final under root
+session-018 : fits numbers-001 (record {
   configuration = 1 ∷ 2 ∷ 3 ∷ 6 ∷ 7 ∷ [];
   history = [] ∷ [] ∷ [] ∷ [] ∷ [] ∷ [] ∷ [] ∷ [] ∷ [] ∷ [] ∷ [] ∷ [];
   internal = [];
@@ -205,10 +216,10 @@ session-017 : fits numbers-001 (record {
   mode = Closing;
 }) ≡ false
 unfolding everything fits
-session-017 = refl
+session-018 = refl
 
 -- ended with active rows
-session-018 : fits numbers-001 (record {
+session-019 : fits numbers-001 (record {
   configuration = 1 ∷ 2 ∷ 3 ∷ 6 ∷ 7 ∷ [];
   history = [] ∷ [] ∷ [] ∷ [] ∷ [] ∷ [] ∷ [] ∷ [] ∷ [] ∷ [] ∷ [] ∷ [];
   internal = [];
@@ -216,10 +227,10 @@ session-018 : fits numbers-001 (record {
   mode = Ended;
 }) ≡ false
 unfolding everything fits
-session-018 = refl
+session-019 = refl
 
 -- nothing active, yet running
-session-019 : fits numbers-001 (record {
+session-020 : fits numbers-001 (record {
   configuration = [];
   history = [] ∷ [] ∷ [] ∷ [] ∷ [] ∷ [] ∷ [] ∷ [] ∷ [] ∷ [] ∷ [] ∷ [];
   internal = [];
@@ -227,10 +238,10 @@ session-019 : fits numbers-001 (record {
   mode = Running;
 }) ≡ false
 unfolding everything fits
-session-019 = refl
+session-020 = refl
 
 -- nothing active, yet closing
-session-020 : fits numbers-001 (record {
+session-021 : fits numbers-001 (record {
   configuration = [];
   history = [] ∷ [] ∷ [] ∷ [] ∷ [] ∷ [] ∷ [] ∷ [] ∷ [] ∷ [] ∷ [] ∷ [];
   internal = [];
@@ -238,10 +249,10 @@ session-020 : fits numbers-001 (record {
   mode = Closing;
 }) ≡ false
 unfolding everything fits
-session-020 = refl
+session-021 = refl
 
 -- ended
-session-021 : fits numbers-001 (record {
+session-022 : fits numbers-001 (record {
   configuration = [];
   history = [] ∷ [] ∷ [] ∷ [] ∷ [] ∷ [] ∷ [] ∷ [] ∷ [] ∷ [] ∷ [] ∷ [];
   internal = [];
@@ -249,10 +260,10 @@ session-021 : fits numbers-001 (record {
   mode = Ended;
 }) ≡ true
 unfolding everything fits
-session-021 = refl
+session-022 = refl
 
 -- ended with an internal name
-session-022 : fits numbers-001 (record {
+session-023 : fits numbers-001 (record {
   configuration = [];
   history = [] ∷ [] ∷ [] ∷ [] ∷ [] ∷ [] ∷ [] ∷ [] ∷ [] ∷ [] ∷ [] ∷ [];
   internal = (101 ∷ []) ∷ [];
@@ -260,10 +271,10 @@ session-022 : fits numbers-001 (record {
   mode = Ended;
 }) ≡ false
 unfolding everything fits
-session-022 = refl
+session-023 = refl
 
 -- ended with an external name
-session-023 : fits numbers-001 (record {
+session-024 : fits numbers-001 (record {
   configuration = [];
   history = [] ∷ [] ∷ [] ∷ [] ∷ [] ∷ [] ∷ [] ∷ [] ∷ [] ∷ [] ∷ [] ∷ [];
   internal = [];
@@ -271,10 +282,10 @@ session-023 : fits numbers-001 (record {
   mode = Ended;
 }) ≡ false
 unfolding everything fits
-session-023 = refl
+session-024 = refl
 
 -- stored at a row that is no history
-session-024 : fits numbers-001 (record {
+session-025 : fits numbers-001 (record {
   configuration = 1 ∷ 2 ∷ 3 ∷ 6 ∷ 7 ∷ [];
   history = [] ∷ (2 ∷ []) ∷ [] ∷ [] ∷ [] ∷ [] ∷ [] ∷ [] ∷ [] ∷ [] ∷ [] ∷ [];
   internal = [];
@@ -282,10 +293,10 @@ session-024 : fits numbers-001 (record {
   mode = Running;
 }) ≡ false
 unfolding everything fits
-session-024 = refl
+session-025 = refl
 
 -- stored at the root
-session-025 : fits numbers-001 (record {
+session-026 : fits numbers-001 (record {
   configuration = 1 ∷ 2 ∷ 3 ∷ 6 ∷ 7 ∷ [];
   history = (1 ∷ []) ∷ [] ∷ [] ∷ [] ∷ [] ∷ [] ∷ [] ∷ [] ∷ [] ∷ [] ∷ [] ∷ [];
   internal = [];
@@ -293,10 +304,10 @@ session-025 : fits numbers-001 (record {
   mode = Running;
 }) ≡ false
 unfolding everything fits
-session-025 = refl
+session-026 = refl
 
 -- a history list too short
-session-026 : fits numbers-001 (record {
+session-027 : fits numbers-001 (record {
   configuration = 1 ∷ 2 ∷ 3 ∷ 6 ∷ 7 ∷ [];
   history = [] ∷ [] ∷ [] ∷ [] ∷ [] ∷ [] ∷ [] ∷ [] ∷ [] ∷ [] ∷ [];
   internal = [];
@@ -304,10 +315,10 @@ session-026 : fits numbers-001 (record {
   mode = Running;
 }) ≡ false
 unfolding everything fits
-session-026 = refl
+session-027 = refl
 
 -- a history list too long
-session-027 : fits numbers-001 (record {
+session-028 : fits numbers-001 (record {
   configuration = 1 ∷ 2 ∷ 3 ∷ 6 ∷ 7 ∷ [];
   history = [] ∷ [] ∷ [] ∷ [] ∷ [] ∷ [] ∷ [] ∷ [] ∷ [] ∷ [] ∷ [] ∷ [] ∷ [];
   internal = [];
@@ -315,10 +326,10 @@ session-027 : fits numbers-001 (record {
   mode = Running;
 }) ≡ false
 unfolding everything fits
-session-027 = refl
+session-028 = refl
 
 -- no history lists
-session-028 : fits numbers-001 (record {
+session-029 : fits numbers-001 (record {
   configuration = 1 ∷ 2 ∷ 3 ∷ 6 ∷ 7 ∷ [];
   history = [];
   internal = [];
@@ -326,10 +337,10 @@ session-028 : fits numbers-001 (record {
   mode = Running;
 }) ≡ false
 unfolding everything fits
-session-028 = refl
+session-029 = refl
 
 -- names in both queues
-session-029 : fits numbers-001 (record {
+session-030 : fits numbers-001 (record {
   configuration = 1 ∷ 2 ∷ 3 ∷ 6 ∷ 7 ∷ [];
   history = [] ∷ [] ∷ [] ∷ [] ∷ [] ∷ [] ∷ [] ∷ [] ∷ [] ∷ [] ∷ [] ∷ [];
   internal = (101 ∷ 49 ∷ []) ∷ (100 ∷ 111 ∷ 110 ∷ 101 ∷ 46 ∷ 115 ∷ 116 ∷ 97 ∷ 116 ∷ 101 ∷ 46 ∷ 83 ∷ 49 ∷ []) ∷ [];
@@ -337,10 +348,10 @@ session-029 : fits numbers-001 (record {
   mode = Running;
 }) ≡ true
 unfolding everything fits
-session-029 = refl
+session-030 = refl
 
 -- an empty name
-session-030 : fits numbers-001 (record {
+session-031 : fits numbers-001 (record {
   configuration = 1 ∷ 2 ∷ 3 ∷ 6 ∷ 7 ∷ [];
   history = [] ∷ [] ∷ [] ∷ [] ∷ [] ∷ [] ∷ [] ∷ [] ∷ [] ∷ [] ∷ [] ∷ [];
   internal = [] ∷ [];
@@ -348,10 +359,10 @@ session-030 : fits numbers-001 (record {
   mode = Running;
 }) ≡ false
 unfolding everything fits
-session-030 = refl
+session-031 = refl
 
 -- a star in the internal queue
-session-031 : fits numbers-001 (record {
+session-032 : fits numbers-001 (record {
   configuration = 1 ∷ 2 ∷ 3 ∷ 6 ∷ 7 ∷ [];
   history = [] ∷ [] ∷ [] ∷ [] ∷ [] ∷ [] ∷ [] ∷ [] ∷ [] ∷ [] ∷ [] ∷ [];
   internal = (42 ∷ []) ∷ [];
@@ -359,10 +370,10 @@ session-031 : fits numbers-001 (record {
   mode = Running;
 }) ≡ false
 unfolding everything fits
-session-031 = refl
+session-032 = refl
 
 -- a star in the external queue
-session-032 : fits numbers-001 (record {
+session-033 : fits numbers-001 (record {
   configuration = 1 ∷ 2 ∷ 3 ∷ 6 ∷ 7 ∷ [];
   history = [] ∷ [] ∷ [] ∷ [] ∷ [] ∷ [] ∷ [] ∷ [] ∷ [] ∷ [] ∷ [] ∷ [];
   internal = [];
@@ -370,10 +381,10 @@ session-032 : fits numbers-001 (record {
   mode = Running;
 }) ≡ false
 unfolding everything fits
-session-032 = refl
+session-033 = refl
 
 -- a descriptor in a queue
-session-033 : fits numbers-001 (record {
+session-034 : fits numbers-001 (record {
   configuration = 1 ∷ 2 ∷ 3 ∷ 6 ∷ 7 ∷ [];
   history = [] ∷ [] ∷ [] ∷ [] ∷ [] ∷ [] ∷ [] ∷ [] ∷ [] ∷ [] ∷ [] ∷ [];
   internal = [];
@@ -381,10 +392,10 @@ session-033 : fits numbers-001 (record {
   mode = Running;
 }) ≡ false
 unfolding everything fits
-session-033 = refl
+session-034 = refl
 
 -- a name with an empty token
-session-034 : fits numbers-001 (record {
+session-035 : fits numbers-001 (record {
   configuration = 1 ∷ 2 ∷ 3 ∷ 6 ∷ 7 ∷ [];
   history = [] ∷ [] ∷ [] ∷ [] ∷ [] ∷ [] ∷ [] ∷ [] ∷ [] ∷ [] ∷ [] ∷ [];
   internal = [];
@@ -392,10 +403,10 @@ session-034 : fits numbers-001 (record {
   mode = Running;
 }) ≡ false
 unfolding everything fits
-session-034 = refl
+session-035 = refl
 
 -- a name that ends with a dot
-session-035 : fits numbers-001 (record {
+session-036 : fits numbers-001 (record {
   configuration = 1 ∷ 2 ∷ 3 ∷ 6 ∷ 7 ∷ [];
   history = [] ∷ [] ∷ [] ∷ [] ∷ [] ∷ [] ∷ [] ∷ [] ∷ [] ∷ [] ∷ [] ∷ [];
   internal = (97 ∷ 46 ∷ []) ∷ [];
@@ -403,10 +414,10 @@ session-035 : fits numbers-001 (record {
   mode = Running;
 }) ≡ false
 unfolding everything fits
-session-035 = refl
+session-036 = refl
 
 -- a name with a zero
-session-036 : fits numbers-001 (record {
+session-037 : fits numbers-001 (record {
   configuration = 1 ∷ 2 ∷ 3 ∷ 6 ∷ 7 ∷ [];
   history = [] ∷ [] ∷ [] ∷ [] ∷ [] ∷ [] ∷ [] ∷ [] ∷ [] ∷ [] ∷ [] ∷ [];
   internal = (97 ∷ 0 ∷ []) ∷ [];
@@ -414,10 +425,10 @@ session-036 : fits numbers-001 (record {
   mode = Running;
 }) ≡ false
 unfolding everything fits
-session-036 = refl
+session-037 = refl
 
 -- a name with byte 128
-session-037 : fits numbers-001 (record {
+session-038 : fits numbers-001 (record {
   configuration = 1 ∷ 2 ∷ 3 ∷ 6 ∷ 7 ∷ [];
   history = [] ∷ [] ∷ [] ∷ [] ∷ [] ∷ [] ∷ [] ∷ [] ∷ [] ∷ [] ∷ [] ∷ [];
   internal = [];
@@ -425,10 +436,10 @@ session-037 : fits numbers-001 (record {
   mode = Running;
 }) ≡ false
 unfolding everything fits
-session-037 = refl
+session-038 = refl
 
 -- a name of 63 bytes
-session-038 : fits numbers-001 (record {
+session-039 : fits numbers-001 (record {
   configuration = 1 ∷ 2 ∷ 3 ∷ 6 ∷ 7 ∷ [];
   history = [] ∷ [] ∷ [] ∷ [] ∷ [] ∷ [] ∷ [] ∷ [] ∷ [] ∷ [] ∷ [] ∷ [];
   internal = [];
@@ -438,10 +449,10 @@ session-038 : fits numbers-001 (record {
   mode = Running;
 }) ≡ true
 unfolding everything fits
-session-038 = refl
+session-039 = refl
 
 -- a name of 64 bytes
-session-039 : fits numbers-001 (record {
+session-040 : fits numbers-001 (record {
   configuration = 1 ∷ 2 ∷ 3 ∷ 6 ∷ 7 ∷ [];
   history = [] ∷ [] ∷ [] ∷ [] ∷ [] ∷ [] ∷ [] ∷ [] ∷ [] ∷ [] ∷ [] ∷ [];
   internal = [];
@@ -451,10 +462,10 @@ session-039 : fits numbers-001 (record {
   mode = Running;
 }) ≡ false
 unfolding everything fits
-session-039 = refl
+session-040 = refl
 
 -- 32 names
-session-040 : fits numbers-001 (record {
+session-041 : fits numbers-001 (record {
   configuration = 1 ∷ 2 ∷ 3 ∷ 6 ∷ 7 ∷ [];
   history = [] ∷ [] ∷ [] ∷ [] ∷ [] ∷ [] ∷ [] ∷ [] ∷ [] ∷ [] ∷ [] ∷ [];
   internal = (101 ∷ []) ∷ (101 ∷ []) ∷ (101 ∷ []) ∷ (101 ∷ []) ∷ (101 ∷ []) ∷ (101 ∷ []) ∷ (101 ∷ []) ∷ (101 ∷ []) ∷
@@ -465,10 +476,10 @@ session-040 : fits numbers-001 (record {
   mode = Running;
 }) ≡ true
 unfolding everything fits
-session-040 = refl
+session-041 = refl
 
 -- 33 internal names
-session-041 : fits numbers-001 (record {
+session-042 : fits numbers-001 (record {
   configuration = 1 ∷ 2 ∷ 3 ∷ 6 ∷ 7 ∷ [];
   history = [] ∷ [] ∷ [] ∷ [] ∷ [] ∷ [] ∷ [] ∷ [] ∷ [] ∷ [] ∷ [] ∷ [];
   internal = (101 ∷ []) ∷ (101 ∷ []) ∷ (101 ∷ []) ∷ (101 ∷ []) ∷ (101 ∷ []) ∷ (101 ∷ []) ∷ (101 ∷ []) ∷ (101 ∷ []) ∷
@@ -479,10 +490,10 @@ session-041 : fits numbers-001 (record {
   mode = Running;
 }) ≡ false
 unfolding everything fits
-session-041 = refl
+session-042 = refl
 
 -- 33 external names
-session-042 : fits numbers-001 (record {
+session-043 : fits numbers-001 (record {
   configuration = 1 ∷ 2 ∷ 3 ∷ 6 ∷ 7 ∷ [];
   history = [] ∷ [] ∷ [] ∷ [] ∷ [] ∷ [] ∷ [] ∷ [] ∷ [] ∷ [] ∷ [] ∷ [];
   internal = [];
@@ -493,7 +504,7 @@ session-042 : fits numbers-001 (record {
   mode = Running;
 }) ≡ false
 unfolding everything fits
-session-042 = refl
+session-043 = refl
 
 abbrev numbers-002 : List ℕ
 numbers-002 = 11 ∷ 2 ∷ 4 ∷ 2 ∷ 0 ∷ 12 ∷ 0 ∷ 65535 ∷ 65535 ∷ 0 ∷ 0 ∷ 0 ∷ 0 ∷ 0 ∷ 0 ∷ 0 ∷ 0 ∷ 1 ∷ 0 ∷ 0 ∷ 0 ∷ 0 ∷ 0 ∷ 0 ∷
@@ -504,20 +515,9 @@ numbers-002 = 11 ∷ 2 ∷ 4 ∷ 2 ∷ 0 ∷ 12 ∷ 0 ∷ 65535 ∷ 65535 ∷ 0 
     65535 ∷ 0 ∷ 3 ∷ 1 ∷ 0 ∷ 0 ∷ 2 ∷ 2 ∷ 10 ∷ 3 ∷ 11 ∷ 10 ∷ []
 
 -- well formed
-session-043 : fits numbers-002 (record {
-  configuration = 10 ∷ [];
-  history = [] ∷ [] ∷ [] ∷ [] ∷ [] ∷ [] ∷ [] ∷ [] ∷ (5 ∷ 7 ∷ []) ∷ (3 ∷ []) ∷ [] ∷ [];
-  internal = [];
-  external = [];
-  mode = Running;
-}) ≡ true
-unfolding everything fits
-session-043 = refl
-
--- nothing stored
 session-044 : fits numbers-002 (record {
   configuration = 10 ∷ [];
-  history = [] ∷ [] ∷ [] ∷ [] ∷ [] ∷ [] ∷ [] ∷ [] ∷ [] ∷ [] ∷ [] ∷ [];
+  history = [] ∷ [] ∷ [] ∷ [] ∷ [] ∷ [] ∷ [] ∷ [] ∷ (5 ∷ 7 ∷ []) ∷ (3 ∷ []) ∷ [] ∷ [];
   internal = [];
   external = [];
   mode = Running;
@@ -525,10 +525,10 @@ session-044 : fits numbers-002 (record {
 unfolding everything fits
 session-044 = refl
 
--- histories that do not agree
+-- nothing stored
 session-045 : fits numbers-002 (record {
   configuration = 10 ∷ [];
-  history = [] ∷ [] ∷ [] ∷ [] ∷ [] ∷ [] ∷ [] ∷ [] ∷ (5 ∷ 7 ∷ []) ∷ (2 ∷ []) ∷ [] ∷ [];
+  history = [] ∷ [] ∷ [] ∷ [] ∷ [] ∷ [] ∷ [] ∷ [] ∷ [] ∷ [] ∷ [] ∷ [];
   internal = [];
   external = [];
   mode = Running;
@@ -536,10 +536,10 @@ session-045 : fits numbers-002 (record {
 unfolding everything fits
 session-045 = refl
 
--- another deep set
+-- the deep history alone stored
 session-046 : fits numbers-002 (record {
   configuration = 10 ∷ [];
-  history = [] ∷ [] ∷ [] ∷ [] ∷ [] ∷ [] ∷ [] ∷ [] ∷ (6 ∷ 7 ∷ []) ∷ (3 ∷ []) ∷ [] ∷ [];
+  history = [] ∷ [] ∷ [] ∷ [] ∷ [] ∷ [] ∷ [] ∷ [] ∷ (5 ∷ 7 ∷ []) ∷ [] ∷ [] ∷ [];
   internal = [];
   external = [];
   mode = Running;
@@ -547,10 +547,10 @@ session-046 : fits numbers-002 (record {
 unfolding everything fits
 session-046 = refl
 
--- a deep set of one state
+-- the shallow history alone stored
 session-047 : fits numbers-002 (record {
   configuration = 10 ∷ [];
-  history = [] ∷ [] ∷ [] ∷ [] ∷ [] ∷ [] ∷ [] ∷ [] ∷ (2 ∷ []) ∷ (3 ∷ []) ∷ [] ∷ [];
+  history = [] ∷ [] ∷ [] ∷ [] ∷ [] ∷ [] ∷ [] ∷ [] ∷ [] ∷ (3 ∷ []) ∷ [] ∷ [];
   internal = [];
   external = [];
   mode = Running;
@@ -558,8 +558,41 @@ session-047 : fits numbers-002 (record {
 unfolding everything fits
 session-047 = refl
 
--- a deep set without a region
+-- histories that do not agree
 session-048 : fits numbers-002 (record {
+  configuration = 10 ∷ [];
+  history = [] ∷ [] ∷ [] ∷ [] ∷ [] ∷ [] ∷ [] ∷ [] ∷ (5 ∷ 7 ∷ []) ∷ (2 ∷ []) ∷ [] ∷ [];
+  internal = [];
+  external = [];
+  mode = Running;
+}) ≡ true
+unfolding everything fits
+session-048 = refl
+
+-- another deep set
+session-049 : fits numbers-002 (record {
+  configuration = 10 ∷ [];
+  history = [] ∷ [] ∷ [] ∷ [] ∷ [] ∷ [] ∷ [] ∷ [] ∷ (6 ∷ 7 ∷ []) ∷ (3 ∷ []) ∷ [] ∷ [];
+  internal = [];
+  external = [];
+  mode = Running;
+}) ≡ true
+unfolding everything fits
+session-049 = refl
+
+-- a deep set of one state
+session-050 : fits numbers-002 (record {
+  configuration = 10 ∷ [];
+  history = [] ∷ [] ∷ [] ∷ [] ∷ [] ∷ [] ∷ [] ∷ [] ∷ (2 ∷ []) ∷ (3 ∷ []) ∷ [] ∷ [];
+  internal = [];
+  external = [];
+  mode = Running;
+}) ≡ true
+unfolding everything fits
+session-050 = refl
+
+-- a deep set without a region
+session-051 : fits numbers-002 (record {
   configuration = 10 ∷ [];
   history = [] ∷ [] ∷ [] ∷ [] ∷ [] ∷ [] ∷ [] ∷ [] ∷ (5 ∷ []) ∷ (3 ∷ []) ∷ [] ∷ [];
   internal = [];
@@ -567,10 +600,10 @@ session-048 : fits numbers-002 (record {
   mode = Running;
 }) ≡ false
 unfolding everything fits
-session-048 = refl
+session-051 = refl
 
 -- a deep set with two children of a state
-session-049 : fits numbers-002 (record {
+session-052 : fits numbers-002 (record {
   configuration = 10 ∷ [];
   history = [] ∷ [] ∷ [] ∷ [] ∷ [] ∷ [] ∷ [] ∷ [] ∷ (5 ∷ 6 ∷ 7 ∷ []) ∷ (3 ∷ []) ∷ [] ∷ [];
   internal = [];
@@ -578,10 +611,10 @@ session-049 : fits numbers-002 (record {
   mode = Running;
 }) ≡ false
 unfolding everything fits
-session-049 = refl
+session-052 = refl
 
 -- a deep set across two children
-session-050 : fits numbers-002 (record {
+session-053 : fits numbers-002 (record {
   configuration = 10 ∷ [];
   history = [] ∷ [] ∷ [] ∷ [] ∷ [] ∷ [] ∷ [] ∷ [] ∷ (2 ∷ 7 ∷ []) ∷ (3 ∷ []) ∷ [] ∷ [];
   internal = [];
@@ -589,10 +622,10 @@ session-050 : fits numbers-002 (record {
   mode = Running;
 }) ≡ false
 unfolding everything fits
-session-050 = refl
+session-053 = refl
 
 -- a deep set with a row that is not atomic
-session-051 : fits numbers-002 (record {
+session-054 : fits numbers-002 (record {
   configuration = 10 ∷ [];
   history = [] ∷ [] ∷ [] ∷ [] ∷ [] ∷ [] ∷ [] ∷ [] ∷ (4 ∷ 7 ∷ []) ∷ (3 ∷ []) ∷ [] ∷ [];
   internal = [];
@@ -600,10 +633,10 @@ session-051 : fits numbers-002 (record {
   mode = Running;
 }) ≡ false
 unfolding everything fits
-session-051 = refl
+session-054 = refl
 
 -- a deep set with all that was active
-session-052 : fits numbers-002 (record {
+session-055 : fits numbers-002 (record {
   configuration = 10 ∷ [];
   history = [] ∷ [] ∷ [] ∷ [] ∷ [] ∷ [] ∷ [] ∷ [] ∷ (3 ∷ 4 ∷ 5 ∷ 7 ∷ []) ∷ (3 ∷ []) ∷ [] ∷ [];
   internal = [];
@@ -611,10 +644,10 @@ session-052 : fits numbers-002 (record {
   mode = Running;
 }) ≡ false
 unfolding everything fits
-session-052 = refl
+session-055 = refl
 
 -- a deep set with a row outside
-session-053 : fits numbers-002 (record {
+session-056 : fits numbers-002 (record {
   configuration = 10 ∷ [];
   history = [] ∷ [] ∷ [] ∷ [] ∷ [] ∷ [] ∷ [] ∷ [] ∷ (10 ∷ []) ∷ (3 ∷ []) ∷ [] ∷ [];
   internal = [];
@@ -622,10 +655,10 @@ session-053 : fits numbers-002 (record {
   mode = Running;
 }) ≡ false
 unfolding everything fits
-session-053 = refl
+session-056 = refl
 
 -- a deep set with a history
-session-054 : fits numbers-002 (record {
+session-057 : fits numbers-002 (record {
   configuration = 10 ∷ [];
   history = [] ∷ [] ∷ [] ∷ [] ∷ [] ∷ [] ∷ [] ∷ [] ∷ (9 ∷ []) ∷ (3 ∷ []) ∷ [] ∷ [];
   internal = [];
@@ -633,10 +666,10 @@ session-054 : fits numbers-002 (record {
   mode = Running;
 }) ≡ false
 unfolding everything fits
-session-054 = refl
+session-057 = refl
 
 -- a shallow set of two children
-session-055 : fits numbers-002 (record {
+session-058 : fits numbers-002 (record {
   configuration = 10 ∷ [];
   history = [] ∷ [] ∷ [] ∷ [] ∷ [] ∷ [] ∷ [] ∷ [] ∷ (5 ∷ 7 ∷ []) ∷ (2 ∷ 3 ∷ []) ∷ [] ∷ [];
   internal = [];
@@ -644,10 +677,10 @@ session-055 : fits numbers-002 (record {
   mode = Running;
 }) ≡ false
 unfolding everything fits
-session-055 = refl
+session-058 = refl
 
 -- a shallow set with a grandchild
-session-056 : fits numbers-002 (record {
+session-059 : fits numbers-002 (record {
   configuration = 10 ∷ [];
   history = [] ∷ [] ∷ [] ∷ [] ∷ [] ∷ [] ∷ [] ∷ [] ∷ (5 ∷ 7 ∷ []) ∷ (4 ∷ []) ∷ [] ∷ [];
   internal = [];
@@ -655,10 +688,10 @@ session-056 : fits numbers-002 (record {
   mode = Running;
 }) ≡ false
 unfolding everything fits
-session-056 = refl
+session-059 = refl
 
 -- a shallow set with the parent
-session-057 : fits numbers-002 (record {
+session-060 : fits numbers-002 (record {
   configuration = 10 ∷ [];
   history = [] ∷ [] ∷ [] ∷ [] ∷ [] ∷ [] ∷ [] ∷ [] ∷ (5 ∷ 7 ∷ []) ∷ (1 ∷ []) ∷ [] ∷ [];
   internal = [];
@@ -666,10 +699,10 @@ session-057 : fits numbers-002 (record {
   mode = Running;
 }) ≡ false
 unfolding everything fits
-session-057 = refl
+session-060 = refl
 
 -- a shallow set with a row outside
-session-058 : fits numbers-002 (record {
+session-061 : fits numbers-002 (record {
   configuration = 10 ∷ [];
   history = [] ∷ [] ∷ [] ∷ [] ∷ [] ∷ [] ∷ [] ∷ [] ∷ (5 ∷ 7 ∷ []) ∷ (10 ∷ []) ∷ [] ∷ [];
   internal = [];
@@ -677,10 +710,10 @@ session-058 : fits numbers-002 (record {
   mode = Running;
 }) ≡ false
 unfolding everything fits
-session-058 = refl
+session-061 = refl
 
 -- a stored row past the count
-session-059 : fits numbers-002 (record {
+session-062 : fits numbers-002 (record {
   configuration = 10 ∷ [];
   history = [] ∷ [] ∷ [] ∷ [] ∷ [] ∷ [] ∷ [] ∷ [] ∷ (5 ∷ 7 ∷ []) ∷ (11 ∷ []) ∷ [] ∷ [];
   internal = [];
@@ -688,10 +721,10 @@ session-059 : fits numbers-002 (record {
   mode = Running;
 }) ≡ false
 unfolding everything fits
-session-059 = refl
+session-062 = refl
 
 -- a history row listed
-session-060 : fits numbers-002 (record {
+session-063 : fits numbers-002 (record {
   configuration = 1 ∷ 2 ∷ 8 ∷ [];
   history = [] ∷ [] ∷ [] ∷ [] ∷ [] ∷ [] ∷ [] ∷ [] ∷ (5 ∷ 7 ∷ []) ∷ (3 ∷ []) ∷ [] ∷ [];
   internal = [];
@@ -699,10 +732,10 @@ session-060 : fits numbers-002 (record {
   mode = Running;
 }) ≡ false
 unfolding everything fits
-session-060 = refl
+session-063 = refl
 
 -- a history row in place of a child
-session-061 : fits numbers-002 (record {
+session-064 : fits numbers-002 (record {
   configuration = 1 ∷ 9 ∷ [];
   history = [] ∷ [] ∷ [] ∷ [] ∷ [] ∷ [] ∷ [] ∷ [] ∷ (5 ∷ 7 ∷ []) ∷ (3 ∷ []) ∷ [] ∷ [];
   internal = [];
@@ -710,10 +743,10 @@ session-061 : fits numbers-002 (record {
   mode = Running;
 }) ≡ false
 unfolding everything fits
-session-061 = refl
+session-064 = refl
 
 -- inside, with what was stored
-session-062 : fits numbers-002 (record {
+session-065 : fits numbers-002 (record {
   configuration = 1 ∷ 3 ∷ 4 ∷ 6 ∷ 7 ∷ [];
   history = [] ∷ [] ∷ [] ∷ [] ∷ [] ∷ [] ∷ [] ∷ [] ∷ (5 ∷ 7 ∷ []) ∷ (3 ∷ []) ∷ [] ∷ [];
   internal = [];
@@ -721,10 +754,10 @@ session-062 : fits numbers-002 (record {
   mode = Running;
 }) ≡ true
 unfolding everything fits
-session-062 = refl
+session-065 = refl
 
 -- ended, with what was stored
-session-063 : fits numbers-002 (record {
+session-066 : fits numbers-002 (record {
   configuration = [];
   history = [] ∷ [] ∷ [] ∷ [] ∷ [] ∷ [] ∷ [] ∷ [] ∷ (5 ∷ 7 ∷ []) ∷ (3 ∷ []) ∷ [] ∷ [];
   internal = [];
@@ -732,7 +765,7 @@ session-063 : fits numbers-002 (record {
   mode = Ended;
 }) ≡ true
 unfolding everything fits
-session-063 = refl
+session-066 = refl
 
 abbrev numbers-003 : List ℕ
 numbers-003 = 11 ∷ 1 ∷ 3 ∷ 1 ∷ 0 ∷ 11 ∷ 0 ∷ 65535 ∷ 65535 ∷ 0 ∷ 0 ∷ 0 ∷ 0 ∷ 0 ∷ 0 ∷ 0 ∷ 0 ∷ 2 ∷ 0 ∷ 0 ∷ 0 ∷ 0 ∷ 0 ∷ 0 ∷
@@ -743,42 +776,9 @@ numbers-003 = 11 ∷ 1 ∷ 3 ∷ 1 ∷ 0 ∷ 11 ∷ 0 ∷ 65535 ∷ 65535 ∷ 0 
     10 ∷ 10 ∷ []
 
 -- well formed
-session-064 : fits numbers-003 (record {
-  configuration = 10 ∷ [];
-  history = [] ∷ [] ∷ [] ∷ [] ∷ [] ∷ [] ∷ [] ∷ [] ∷ (3 ∷ 6 ∷ 7 ∷ []) ∷ (2 ∷ 5 ∷ []) ∷ [] ∷ [];
-  internal = [];
-  external = [];
-  mode = Running;
-}) ≡ true
-unfolding everything fits
-session-064 = refl
-
--- a shallow set without a region
-session-065 : fits numbers-003 (record {
-  configuration = 10 ∷ [];
-  history = [] ∷ [] ∷ [] ∷ [] ∷ [] ∷ [] ∷ [] ∷ [] ∷ (3 ∷ 6 ∷ 7 ∷ []) ∷ (2 ∷ []) ∷ [] ∷ [];
-  internal = [];
-  external = [];
-  mode = Running;
-}) ≡ false
-unfolding everything fits
-session-065 = refl
-
--- a shallow set of another region
-session-066 : fits numbers-003 (record {
-  configuration = 10 ∷ [];
-  history = [] ∷ [] ∷ [] ∷ [] ∷ [] ∷ [] ∷ [] ∷ [] ∷ (3 ∷ 6 ∷ 7 ∷ []) ∷ (5 ∷ []) ∷ [] ∷ [];
-  internal = [];
-  external = [];
-  mode = Running;
-}) ≡ false
-unfolding everything fits
-session-066 = refl
-
--- a deep set of other states
 session-067 : fits numbers-003 (record {
   configuration = 10 ∷ [];
-  history = [] ∷ [] ∷ [] ∷ [] ∷ [] ∷ [] ∷ [] ∷ [] ∷ (4 ∷ 6 ∷ 7 ∷ []) ∷ (2 ∷ 5 ∷ []) ∷ [] ∷ [];
+  history = [] ∷ [] ∷ [] ∷ [] ∷ [] ∷ [] ∷ [] ∷ [] ∷ (3 ∷ 6 ∷ 7 ∷ []) ∷ (2 ∷ 5 ∷ []) ∷ [] ∷ [];
   internal = [];
   external = [];
   mode = Running;
@@ -786,10 +786,10 @@ session-067 : fits numbers-003 (record {
 unfolding everything fits
 session-067 = refl
 
--- a deep set without a nested region
+-- a shallow set without a region
 session-068 : fits numbers-003 (record {
   configuration = 10 ∷ [];
-  history = [] ∷ [] ∷ [] ∷ [] ∷ [] ∷ [] ∷ [] ∷ [] ∷ (3 ∷ 6 ∷ []) ∷ (2 ∷ 5 ∷ []) ∷ [] ∷ [];
+  history = [] ∷ [] ∷ [] ∷ [] ∷ [] ∷ [] ∷ [] ∷ [] ∷ (3 ∷ 6 ∷ 7 ∷ []) ∷ (2 ∷ []) ∷ [] ∷ [];
   internal = [];
   external = [];
   mode = Running;
@@ -797,10 +797,10 @@ session-068 : fits numbers-003 (record {
 unfolding everything fits
 session-068 = refl
 
--- a deep set without a region
+-- a shallow set of another region
 session-069 : fits numbers-003 (record {
   configuration = 10 ∷ [];
-  history = [] ∷ [] ∷ [] ∷ [] ∷ [] ∷ [] ∷ [] ∷ [] ∷ (6 ∷ 7 ∷ []) ∷ (2 ∷ 5 ∷ []) ∷ [] ∷ [];
+  history = [] ∷ [] ∷ [] ∷ [] ∷ [] ∷ [] ∷ [] ∷ [] ∷ (3 ∷ 6 ∷ 7 ∷ []) ∷ (5 ∷ []) ∷ [] ∷ [];
   internal = [];
   external = [];
   mode = Running;
@@ -808,10 +808,10 @@ session-069 : fits numbers-003 (record {
 unfolding everything fits
 session-069 = refl
 
--- all regions active
+-- a deep set of other states
 session-070 : fits numbers-003 (record {
-  configuration = 1 ∷ 2 ∷ 4 ∷ 5 ∷ 6 ∷ 7 ∷ [];
-  history = [] ∷ [] ∷ [] ∷ [] ∷ [] ∷ [] ∷ [] ∷ [] ∷ (3 ∷ 6 ∷ 7 ∷ []) ∷ (2 ∷ 5 ∷ []) ∷ [] ∷ [];
+  configuration = 10 ∷ [];
+  history = [] ∷ [] ∷ [] ∷ [] ∷ [] ∷ [] ∷ [] ∷ [] ∷ (4 ∷ 6 ∷ 7 ∷ []) ∷ (2 ∷ 5 ∷ []) ∷ [] ∷ [];
   internal = [];
   external = [];
   mode = Running;
@@ -819,10 +819,10 @@ session-070 : fits numbers-003 (record {
 unfolding everything fits
 session-070 = refl
 
--- a nested region missing
+-- a deep set without a nested region
 session-071 : fits numbers-003 (record {
-  configuration = 1 ∷ 2 ∷ 4 ∷ 5 ∷ 6 ∷ [];
-  history = [] ∷ [] ∷ [] ∷ [] ∷ [] ∷ [] ∷ [] ∷ [] ∷ (3 ∷ 6 ∷ 7 ∷ []) ∷ (2 ∷ 5 ∷ []) ∷ [] ∷ [];
+  configuration = 10 ∷ [];
+  history = [] ∷ [] ∷ [] ∷ [] ∷ [] ∷ [] ∷ [] ∷ [] ∷ (3 ∷ 6 ∷ []) ∷ (2 ∷ 5 ∷ []) ∷ [] ∷ [];
   internal = [];
   external = [];
   mode = Running;
@@ -830,10 +830,10 @@ session-071 : fits numbers-003 (record {
 unfolding everything fits
 session-071 = refl
 
--- a nested parallel missing
+-- a deep set without a region
 session-072 : fits numbers-003 (record {
-  configuration = 1 ∷ 2 ∷ 4 ∷ 6 ∷ 7 ∷ [];
-  history = [] ∷ [] ∷ [] ∷ [] ∷ [] ∷ [] ∷ [] ∷ [] ∷ (3 ∷ 6 ∷ 7 ∷ []) ∷ (2 ∷ 5 ∷ []) ∷ [] ∷ [];
+  configuration = 10 ∷ [];
+  history = [] ∷ [] ∷ [] ∷ [] ∷ [] ∷ [] ∷ [] ∷ [] ∷ (6 ∷ 7 ∷ []) ∷ (2 ∷ 5 ∷ []) ∷ [] ∷ [];
   internal = [];
   external = [];
   mode = Running;
@@ -841,8 +841,41 @@ session-072 : fits numbers-003 (record {
 unfolding everything fits
 session-072 = refl
 
--- a nested parallel without regions
+-- all regions active
 session-073 : fits numbers-003 (record {
+  configuration = 1 ∷ 2 ∷ 4 ∷ 5 ∷ 6 ∷ 7 ∷ [];
+  history = [] ∷ [] ∷ [] ∷ [] ∷ [] ∷ [] ∷ [] ∷ [] ∷ (3 ∷ 6 ∷ 7 ∷ []) ∷ (2 ∷ 5 ∷ []) ∷ [] ∷ [];
+  internal = [];
+  external = [];
+  mode = Running;
+}) ≡ true
+unfolding everything fits
+session-073 = refl
+
+-- a nested region missing
+session-074 : fits numbers-003 (record {
+  configuration = 1 ∷ 2 ∷ 4 ∷ 5 ∷ 6 ∷ [];
+  history = [] ∷ [] ∷ [] ∷ [] ∷ [] ∷ [] ∷ [] ∷ [] ∷ (3 ∷ 6 ∷ 7 ∷ []) ∷ (2 ∷ 5 ∷ []) ∷ [] ∷ [];
+  internal = [];
+  external = [];
+  mode = Running;
+}) ≡ false
+unfolding everything fits
+session-074 = refl
+
+-- a nested parallel missing
+session-075 : fits numbers-003 (record {
+  configuration = 1 ∷ 2 ∷ 4 ∷ 6 ∷ 7 ∷ [];
+  history = [] ∷ [] ∷ [] ∷ [] ∷ [] ∷ [] ∷ [] ∷ [] ∷ (3 ∷ 6 ∷ 7 ∷ []) ∷ (2 ∷ 5 ∷ []) ∷ [] ∷ [];
+  internal = [];
+  external = [];
+  mode = Running;
+}) ≡ false
+unfolding everything fits
+session-075 = refl
+
+-- a nested parallel without regions
+session-076 : fits numbers-003 (record {
   configuration = 1 ∷ 2 ∷ 4 ∷ 5 ∷ [];
   history = [] ∷ [] ∷ [] ∷ [] ∷ [] ∷ [] ∷ [] ∷ [] ∷ (3 ∷ 6 ∷ 7 ∷ []) ∷ (2 ∷ 5 ∷ []) ∷ [] ∷ [];
   internal = [];
@@ -850,7 +883,7 @@ session-073 : fits numbers-003 (record {
   mode = Running;
 }) ≡ false
 unfolding everything fits
-session-073 = refl
+session-076 = refl
 
 abbrev numbers-004 : List ℕ
 numbers-004 = 5 ∷ 1 ∷ 1 ∷ 1 ∷ 1 ∷ 6 ∷ 0 ∷ 65535 ∷ 65535 ∷ 0 ∷ 0 ∷ 0 ∷ 0 ∷ 0 ∷ 0 ∷ 0 ∷ 0 ∷ 1 ∷ 0 ∷ 0 ∷ 0 ∷ 0 ∷ 0 ∷ 0 ∷
@@ -858,7 +891,7 @@ numbers-004 = 5 ∷ 1 ∷ 1 ∷ 1 ∷ 1 ∷ 6 ∷ 0 ∷ 65535 ∷ 65535 ∷ 0 �
     0 ∷ 0 ∷ 0 ∷ 0 ∷ 0 ∷ 0 ∷ 0 ∷ 0 ∷ 1 ∷ 0 ∷ 1 ∷ 65535 ∷ 0 ∷ 0 ∷ 1 ∷ 0 ∷ 0 ∷ 3 ∷ 4 ∷ 0 ∷ 5 ∷ 0 ∷ 0 ∷ []
 
 -- well formed
-session-074 : fits numbers-004 (record {
+session-077 : fits numbers-004 (record {
   configuration = 1 ∷ 2 ∷ [];
   history = [] ∷ [] ∷ [] ∷ [] ∷ [] ∷ [];
   internal = (100 ∷ 111 ∷ 110 ∷ 101 ∷ 46 ∷ 115 ∷ 116 ∷ 97 ∷ 116 ∷ 101 ∷ 46 ∷ 115 ∷ []) ∷ [];
@@ -866,10 +899,10 @@ session-074 : fits numbers-004 (record {
   mode = Running;
 }) ≡ true
 unfolding everything fits
-session-074 = refl
+session-077 = refl
 
 -- closing, the final not under root
-session-075 : fits numbers-004 (record {
+session-078 : fits numbers-004 (record {
   configuration = 1 ∷ 2 ∷ [];
   history = [] ∷ [] ∷ [] ∷ [] ∷ [] ∷ [];
   internal = (100 ∷ 111 ∷ 110 ∷ 101 ∷ 46 ∷ 115 ∷ 116 ∷ 97 ∷ 116 ∷ 101 ∷ 46 ∷ 115 ∷ []) ∷ [];
@@ -877,10 +910,10 @@ session-075 : fits numbers-004 (record {
   mode = Closing;
 }) ≡ false
 unfolding everything fits
-session-075 = refl
+session-078 = refl
 
 -- closing
-session-076 : fits numbers-004 (record {
+session-079 : fits numbers-004 (record {
   configuration = 3 ∷ [];
   history = [] ∷ [] ∷ [] ∷ [] ∷ [] ∷ [];
   internal = (100 ∷ 111 ∷ 110 ∷ 101 ∷ 46 ∷ 115 ∷ 116 ∷ 97 ∷ 116 ∷ 101 ∷ 46 ∷ 115 ∷ []) ∷ [];
@@ -888,10 +921,10 @@ session-076 : fits numbers-004 (record {
   mode = Closing;
 }) ≡ true
 unfolding everything fits
-session-076 = refl
+session-079 = refl
 
 -- closing on another final, names queued
-session-077 : fits numbers-004 (record {
+session-080 : fits numbers-004 (record {
   configuration = 4 ∷ [];
   history = [] ∷ [] ∷ [] ∷ [] ∷ [] ∷ [];
   internal = (101 ∷ []) ∷ [];
@@ -899,10 +932,10 @@ session-077 : fits numbers-004 (record {
   mode = Closing;
 }) ≡ true
 unfolding everything fits
-session-077 = refl
+session-080 = refl
 
 -- running on a final under root
-session-078 : fits numbers-004 (record {
+session-081 : fits numbers-004 (record {
   configuration = 3 ∷ [];
   history = [] ∷ [] ∷ [] ∷ [] ∷ [] ∷ [];
   internal = (100 ∷ 111 ∷ 110 ∷ 101 ∷ 46 ∷ 115 ∷ 116 ∷ 97 ∷ 116 ∷ 101 ∷ 46 ∷ 115 ∷ []) ∷ [];
@@ -910,10 +943,10 @@ session-078 : fits numbers-004 (record {
   mode = Running;
 }) ≡ false
 unfolding everything fits
-session-078 = refl
+session-081 = refl
 
 -- ended on a final under root
-session-079 : fits numbers-004 (record {
+session-082 : fits numbers-004 (record {
   configuration = 3 ∷ [];
   history = [] ∷ [] ∷ [] ∷ [] ∷ [] ∷ [];
   internal = (100 ∷ 111 ∷ 110 ∷ 101 ∷ 46 ∷ 115 ∷ 116 ∷ 97 ∷ 116 ∷ 101 ∷ 46 ∷ 115 ∷ []) ∷ [];
@@ -921,10 +954,10 @@ session-079 : fits numbers-004 (record {
   mode = Ended;
 }) ≡ false
 unfolding everything fits
-session-079 = refl
+session-082 = refl
 
 -- closing on two finals
-session-080 : fits numbers-004 (record {
+session-083 : fits numbers-004 (record {
   configuration = 3 ∷ 4 ∷ [];
   history = [] ∷ [] ∷ [] ∷ [] ∷ [] ∷ [];
   internal = (100 ∷ 111 ∷ 110 ∷ 101 ∷ 46 ∷ 115 ∷ 116 ∷ 97 ∷ 116 ∷ 101 ∷ 46 ∷ 115 ∷ []) ∷ [];
@@ -932,10 +965,10 @@ session-080 : fits numbers-004 (record {
   mode = Closing;
 }) ≡ false
 unfolding everything fits
-session-080 = refl
+session-083 = refl
 
 -- closing with another row
-session-081 : fits numbers-004 (record {
+session-084 : fits numbers-004 (record {
   configuration = 1 ∷ 2 ∷ 3 ∷ [];
   history = [] ∷ [] ∷ [] ∷ [] ∷ [] ∷ [];
   internal = (100 ∷ 111 ∷ 110 ∷ 101 ∷ 46 ∷ 115 ∷ 116 ∷ 97 ∷ 116 ∷ 101 ∷ 46 ∷ 115 ∷ []) ∷ [];
@@ -943,10 +976,10 @@ session-081 : fits numbers-004 (record {
   mode = Closing;
 }) ≡ false
 unfolding everything fits
-session-081 = refl
+session-084 = refl
 
 -- closing with the root
-session-082 : fits numbers-004 (record {
+session-085 : fits numbers-004 (record {
   configuration = 0 ∷ 3 ∷ [];
   history = [] ∷ [] ∷ [] ∷ [] ∷ [] ∷ [];
   internal = (100 ∷ 111 ∷ 110 ∷ 101 ∷ 46 ∷ 115 ∷ 116 ∷ 97 ∷ 116 ∷ 101 ∷ 46 ∷ 115 ∷ []) ∷ [];
@@ -954,4 +987,4 @@ session-082 : fits numbers-004 (record {
   mode = Closing;
 }) ≡ false
 unfolding everything fits
-session-082 = refl
+session-085 = refl

@@ -22,7 +22,11 @@ fn main() -> ExitCode {
     }
     print!("{coverage}");
     println!("{} charts agreed, {failed} failed", count - failed);
-    if failed == 0 { ExitCode::SUCCESS } else { ExitCode::FAILURE }
+    if failed == 0 {
+        ExitCode::SUCCESS
+    } else {
+        ExitCode::FAILURE
+    }
 }
 
 fn work(first: u64, count: u64, worker: u64) -> (Coverage, u64) {

@@ -2,10 +2,10 @@
 
 use second::compiled::CompiledChart;
 use second::encode::encode_plainly;
+use second::numbers::RowNumber;
 use second::readings::chart_a;
 use second::session::{Answer, Session, STATUS_ENDED, STATUS_IDLE, STATUS_MORE};
 use second::tables::Chart;
-use second::numbers::RowNumber;
 
 const ROOM: usize = 1_000;
 

@@ -1,6 +1,6 @@
 //! Runs every check on two threads and ends with how many passed and failed.
 
-use second::checks::{agreement, small, Check};
+use second::checks::{agreement, enough_happened, small, Check};
 use second::coverage::Coverage;
 use std::process::ExitCode;
 use std::sync::atomic::{AtomicUsize, Ordering};
@@ -27,6 +27,10 @@ fn main() -> ExitCode {
         }
     });
     let mut results = results.into_inner().expect("no worker failed");
+    match enough_happened(&results.coverage) {
+        Ok(()) => results.passed += 1,
+        Err(what) => results.failures.push(format!("coverage: {what}")),
+    }
     results.failures.sort();
     print!("{}", results.coverage);
     for failure in &results.failures {

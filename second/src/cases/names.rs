@@ -146,7 +146,17 @@ pub fn input() -> String {
     for name in ["a", "_", "*", "ab", "a.", ".*", "a*", "abc", "a.b", "a.*", "_-9", "..*", "9.Z"] {
         cases.push(format!("b {name}"));
     }
-    let units = [("a", ""), ("a", ".*"), ("a", "*"), ("a", "."), ("a.", ""), ("ab.", ".*"), ("_9", ""), ("9", ""), ("x.y-", "")];
+    let units = [
+        ("a", ""),
+        ("a", ".*"),
+        ("a", "*"),
+        ("a", "."),
+        ("a.", ""),
+        ("ab.", ".*"),
+        ("_9", ""),
+        ("9", ""),
+        ("x.y-", ""),
+    ];
     for (unit, tail) in units {
         cases.push(format!("l {unit} {tail}"));
     }

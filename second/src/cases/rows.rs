@@ -96,7 +96,13 @@ fn expected_line(case: &Case) -> String {
     let Case { a, b, row, number } = case;
     let tests = [a.contains(row), !a.is_disjoint(b), a.is_subset(b), a == b, a.is_empty(), a.len() == 1];
     let found = |row: Option<&u16>| row.map_or("-".to_string(), |row| row.to_string());
-    let searches = [found(a.first()), found(a.range(number..).next()), found(a.range(..number).next_back()), a.len().to_string(), a.len().to_string()];
+    let searches = [
+        found(a.first()),
+        found(a.range(number..).next()),
+        found(a.range(..number).next_back()),
+        a.len().to_string(),
+        a.len().to_string(),
+    ];
     let below = (0..ROWS).filter(|row| row < number).collect();
     let sets = [one(*row), below, a | &one(*row), a - &one(*row), a | b, a & b, a - b];
     format!(

@@ -4,6 +4,7 @@ use super::Check;
 use crate::builder::{empty_row, Builder};
 use crate::compiled::{compile, needed_place, CompiledChart};
 use crate::encode::{encode_plainly, Spelt};
+use crate::faults::{may_stand, pair_of_kinds};
 use crate::generate::{self, Flavour};
 use crate::invariants::{ensure, Found};
 use crate::limits::*;
@@ -85,8 +86,7 @@ fn repeated_numbers() -> Found {
     Ok(())
 }
 
-const LIMITS: [u64; 6] =
-    [MAX_ROWS, MAX_TRANSITIONS, MAX_REFERENCES, MAX_DESCRIPTORS, MAX_ACTIONS, MAX_SLOTS];
+const LIMITS: [u64; 6] = [MAX_ROWS, MAX_TRANSITIONS, MAX_REFERENCES, MAX_DESCRIPTORS, MAX_ACTIONS, MAX_SLOTS];
 
 fn counts_past_limits() -> Found {
     ensure(LIMITS == [64, 128, 5_120, 512, 2_560, 192], "the limits are document 01's")?;
@@ -100,7 +100,8 @@ fn counts_past_limits() -> Found {
         numbers[..6].copy_from_slice(&header);
         numbers.resize(length, 0);
         let names = slot_of(b"a").repeat(header[5] as usize);
-        let place = Place { numbers: length + 16 * header[0] as usize + 4 * header[1] as usize, names: names.len() };
+        let place =
+            Place { numbers: length + 16 * header[0] as usize + 4 * header[1] as usize, names: names.len() };
         ensure(verdict(&numbers, &names, place) == 1, "one past the limit")?;
     }
     Ok(())
@@ -108,7 +109,17 @@ fn counts_past_limits() -> Found {
 
 fn huge_counts() -> Found {
     let good = encode_plainly(&sample());
-    let huge = [u64::MAX, u64::MAX - 1, 1 << 63, (1 << 63) - 1, u64::MAX / 9, u64::MAX / 11, 1 << 58, 1 << 32, 65_536];
+    let huge = [
+        u64::MAX,
+        u64::MAX - 1,
+        1 << 63,
+        (1 << 63) - 1,
+        u64::MAX / 9,
+        u64::MAX / 11,
+        1 << 58,
+        1 << 32,
+        65_536,
+    ];
     for first in 0..6 {
         for second in 0..6 {
             for value in huge {
@@ -226,8 +237,15 @@ fn lists_at_ends() -> Found {
     for (cell, table) in columns {
         let end = good.numbers[table];
         for (start, count, expected) in [
-            (end, 0, 0), (end + 1, 0, 1), (end, 1, 1), (0, end + 1, 1), (u64::MAX, 1, 1),
-            (u64::MAX, 0, 1), (u64::MAX, u64::MAX, 1), (1, u64::MAX, 1), (2, u64::MAX - 1, 1),
+            (end, 0, 0),
+            (end + 1, 0, 1),
+            (end, 1, 1),
+            (0, end + 1, 1),
+            (u64::MAX, 1, 1),
+            (u64::MAX, 0, 1),
+            (u64::MAX, u64::MAX, 1),
+            (1, u64::MAX, 1),
+            (2, u64::MAX - 1, 1),
         ] {
             let mut changed = good.clone();
             changed.numbers[cell] = start;
@@ -337,48 +355,15 @@ fn every_byte_of_a_slot() -> Found {
     Ok(())
 }
 
-/// "under root: state, parallel, final; under state: all but root; under parallel: state,
-/// parallel, both histories; under final and history: nothing."
 fn every_pair_of_kinds() -> Found {
-    use Kind::*;
     for parent in Kind::ALL {
         for child in Kind::ALL {
-            let allowed = match parent {
-                Root => matches!(child, State | Parallel | Final),
-                State => child != Root,
-                Parallel => matches!(child, State | Parallel | ShallowHistory | DeepHistory),
-                Final | ShallowHistory | DeepHistory => false,
-            };
             let chart = pair_of_kinds(parent, child);
-            expect(&chart, if allowed { 0 } else { 3 }, &format!("{child:?} under {parent:?}"))?;
+            let rule = if may_stand(parent, child) { 0 } else { 3 };
+            expect(&chart, rule, &format!("{child:?} under {parent:?}"))?;
         }
     }
     Ok(())
-}
-
-/// A chart in which nothing but the child under the parent can be wrong.
-fn pair_of_kinds(parent: Kind, child: Kind) -> Chart {
-    let mut b = Builder::new();
-    b.state("", "s").state("s", "first");
-    let mut owner = "".to_string();
-    if parent != Kind::Root {
-        b.add(parent, "s", "owner");
-        owner = "owner".to_string();
-    }
-    b.add(child, &owner, "child");
-    if child == Kind::Parallel {
-        b.state("child", "region");
-    }
-    if child.is_history() || parent == Kind::Parallel {
-        b.state(&owner, "other");
-    }
-    if child.is_history() {
-        b.list("child", "other", &[]);
-    }
-    if parent.is_history() {
-        b.list("owner", "first", &[]);
-    }
-    b.chart()
 }
 
 fn compiled_cells() -> Found {

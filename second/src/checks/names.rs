@@ -121,14 +121,32 @@ fn ids() -> Found {
 
 fn matching_by_hand() -> Found {
     let right = [
-        ("*", "a"), ("*", "a.b.c"), ("a", "a"), ("a", "a.b"), ("a.*", "a"), ("a.*", "a.b.c"),
-        ("a.b", "a.b"), ("a.b", "a.b.c"), ("a.b.*", "a.b"), ("done.state", "done.state.p"),
-        ("done.state.p", "done.state.p.q"), ("error", "error.send.failed"),
+        ("*", "a"),
+        ("*", "a.b.c"),
+        ("a", "a"),
+        ("a", "a.b"),
+        ("a.*", "a"),
+        ("a.*", "a.b.c"),
+        ("a.b", "a.b"),
+        ("a.b", "a.b.c"),
+        ("a.b.*", "a.b"),
+        ("done.state", "done.state.p"),
+        ("done.state.p", "done.state.p.q"),
+        ("error", "error.send.failed"),
     ];
     let wrong = [
-        ("a", "ab"), ("a", "b"), ("a.b", "a"), ("a.b", "a.bc"), ("a.*", "ab"), ("a.b.*", "a"),
-        ("error", "errors.my.custom"), ("error", "errorhandler.mistake"), ("A", "a"),
-        ("e", "E"), ("a-b", "a.b"), ("a.b.c", "a.b"),
+        ("a", "ab"),
+        ("a", "b"),
+        ("a.b", "a"),
+        ("a.b", "a.bc"),
+        ("a.*", "ab"),
+        ("a.b.*", "a"),
+        ("error", "errors.my.custom"),
+        ("error", "errorhandler.mistake"),
+        ("A", "a"),
+        ("e", "E"),
+        ("a-b", "a.b"),
+        ("a.b.c", "a.b"),
     ];
     for (descriptor, event) in right {
         ensure(matches(descriptor.as_bytes(), event.as_bytes()), &format!("{descriptor} matches {event}"))?;

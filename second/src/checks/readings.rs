@@ -41,6 +41,8 @@ pub fn checks() -> Vec<Check> {
         Check::new("examples: every reading has one", every_reading),
         Check::new("examples: generated ones are accepted and differ", generated_examples),
         Check::new("examples: every near miss has one", refused_examples),
+        Check::new("examples: changed charts get every number", changed_examples),
+        Check::new("examples: by hand", by_hand_examples),
     ]
 }
 
@@ -213,8 +215,17 @@ fn reading_14() -> Found {
     let example = first(charts::reading_14());
     let given: Vec<u64> = example.dumps.iter().map(|dump| dump.answer_and_rounds[0]).collect();
     let expected = [
-        STATUS_ENDED, ACCEPTED, STATUS_IDLE, ACCEPTED, STATUS_MORE, STATUS_IDLE, ACCEPTED, STATUS_MORE,
-        STATUS_MORE, STATUS_ENDED, STATUS_ENDED,
+        STATUS_ENDED,
+        ACCEPTED,
+        STATUS_IDLE,
+        ACCEPTED,
+        STATUS_MORE,
+        STATUS_IDLE,
+        ACCEPTED,
+        STATUS_MORE,
+        STATUS_MORE,
+        STATUS_ENDED,
+        STATUS_ENDED,
     ];
     ensure(given == expected, &format!("{given:?}"))
 }
@@ -290,4 +301,28 @@ fn refused_examples() -> Found {
     ensure(all.len() == near_misses.len(), "one for each kind")?;
     let right = all.iter().zip(&near_misses).all(|(example, kind)| example.verdict == kind.rule);
     ensure(right, "each gets its number")
+}
+
+fn changed_examples() -> Found {
+    let all = examples::changed(100);
+    let every = (0..=5).all(|rule| all.iter().any(|example| example.verdict == rule));
+    ensure(all.len() == 100 && every, "each number is among them")
+}
+
+/// The last call's trace, or what it answered, tells each of these charts from a wrong one.
+fn by_hand_examples() -> Found {
+    let all = examples::by_hand();
+    let answers = |place: usize| -> Vec<u64> {
+        all[place].dumps.iter().map(|dump| dump.answer_and_rounds[0]).collect()
+    };
+    let last = |place: usize| &all[place].dumps[all[place].dumps.len() - 1];
+    ensure(answers(0)[33] == QUEUE_FULL && answers(0)[32] == ACCEPTED, "the thirty-third post")?;
+    ensure(answers(1) == [7, 11, STATUS_ENDED, 7], "a refused start")?;
+    ensure(last(2).configuration == [3], "a done event of 63 bytes")?;
+    let done_of_outer = all[3].dumps.iter().any(|dump| dump.trace.contains(&(6 * 65_536 + 1)));
+    let done_of_inner = all[3].dumps.iter().any(|dump| dump.trace.contains(&(6 * 65_536 + 4)));
+    ensure(done_of_inner && !done_of_outer, "one level only")?;
+    ensure(last(4).configuration == [2, 3, 4, 7, 9], "the stored state and the other target")?;
+    let taken = last(5).trace.iter().filter(|&&entry| entry / 65_536 == 2).count();
+    ensure(taken == 2, "chosen twice, taken once")
 }

@@ -89,17 +89,15 @@ fn marked_run_8() -> Found {
 fn chart_a_is_right() -> Found {
     let chart = chart_a();
     let ids: Vec<&[u8]> = chart.row_numbers().skip(1).map(|row| chart.id(row)).collect();
-    let expected: Vec<&[u8]> = vec![
-        b"p", b"S1", b"S11", b"S12", b"S1Final", b"S2", b"S21", b"S22", b"S2Final", b"someOtherState",
-    ];
+    let expected: Vec<&[u8]> =
+        vec![b"p", b"S1", b"S11", b"S12", b"S1Final", b"S2", b"S21", b"S22", b"S2Final", b"someOtherState"];
     ensure(ids == expected, "the ids")?;
     let transitions: Vec<(usize, &[u8], usize)> = chart
         .transitions
         .iter()
         .map(|one| (one.source.0, chart.name(one.descriptors[0]), one.targets[0].0))
         .collect();
-    let expected: Vec<(usize, &[u8], usize)> = vec![
-        (1, b"done.state.p", 10), (3, b"e4", 4), (4, b"e1", 5), (7, b"e1", 8), (8, b"e2", 9),
-    ];
+    let expected: Vec<(usize, &[u8], usize)> =
+        vec![(1, b"done.state.p", 10), (3, b"e4", 4), (4, b"e1", 5), (7, b"e1", 8), (8, b"e2", 9)];
     ensure(transitions == expected, "the transitions")
 }

@@ -1,0 +1,158 @@
+//! The telling points of the charts written by hand, at the limits and with single faults.
+
+use super::Check;
+use crate::at_limits;
+use crate::by_hand;
+use crate::encode::Layout;
+use crate::examples::Example;
+use crate::faults;
+use crate::invariants::{ensure, Found};
+use crate::near_misses::Lent;
+use crate::places;
+use crate::rules::verdict;
+use crate::session::*;
+
+pub fn checks() -> Vec<Check> {
+    vec![
+        Check::new("by hand: a parallel of parallels is done", parallel_of_parallels),
+        Check::new("by hand: a final two levels down", final_two_levels_down),
+        Check::new("by hand: an initial list of two", initial_list_of_two),
+        Check::new("by hand: a default list of two", default_list_of_two),
+        Check::new("by hand: three targets", three_targets),
+        Check::new("by hand: started again", started_again),
+        Check::new("by hand: chosen twice", chosen_twice),
+        Check::new("by hand: 6 before 7", star_posted_last),
+        Check::new("by hand: a run of 0 with room 0", run_of_none),
+        Check::new("by hand: a raised done name", raised_done_name),
+        Check::new("by hand: bytes next to a name's", posted_bytes),
+        Check::new("by hand: a descriptor of 63 bytes", longest_descriptor),
+        Check::new("by hand: small letters and capital ones", letter_case),
+        Check::new("limits: no rule is broken at a limit", limits_are_kept),
+        Check::new("faults: every chart gets its number", faults_get_their_numbers),
+        Check::new("faults: without its fault a chart is accepted", faults_are_single),
+        Check::new("places: the right size alone is accepted", lent_places),
+        Check::new("places: what a compiled chart is", opened_places),
+    ]
+}
+
+/// What a call wrote, as kinds and indices.
+fn wrote(example: &Example, call: usize, expected: &[(u64, u64)]) -> Found {
+    let trace: Vec<(u64, u64)> =
+        example.dumps[call].trace.iter().map(|entry| (entry / 65_536, entry % 65_536)).collect();
+    ensure(trace == expected, &format!("call {call} wrote {trace:?}"))
+}
+
+/// The answers of all calls.
+fn answers(example: &Example) -> Vec<u64> {
+    example.dumps.iter().map(|dump| dump.answer_and_rounds[0]).collect()
+}
+
+fn parallel_of_parallels() -> Found {
+    let example = by_hand::parallel_of_parallels();
+    let entered = [(3, 1), (3, 2), (3, 3), (3, 4), (6, 3), (3, 5), (3, 6), (6, 5), (6, 2), (3, 7), (3, 8)];
+    wrote(&example, 0, &entered)?;
+    wrote(&example, 2, &[(1, 8), (2, 0), (3, 9), (6, 7), (6, 1)])
+}
+
+fn final_two_levels_down() -> Found {
+    wrote(&by_hand::final_two_levels_down(), 2, &[(1, 6), (2, 0), (3, 7), (6, 5)])
+}
+
+fn initial_list_of_two() -> Found {
+    let expected = [(1, 1), (2, 0), (3, 2), (4, 1), (3, 3), (3, 4), (3, 6), (3, 7), (3, 9), (3, 10), (3, 11)];
+    wrote(&by_hand::initial_list_of_two(), 2, &expected)
+}
+
+fn default_list_of_two() -> Found {
+    let example = by_hand::default_list_of_two();
+    let by_default = [(1, 1), (2, 0), (3, 2), (4, 2), (3, 3), (3, 5), (3, 6), (3, 7), (3, 9), (3, 11)];
+    wrote(&example, 2, &by_default)?;
+    let as_stored = [(1, 1), (2, 0), (3, 2), (3, 3), (3, 5), (3, 6), (3, 8), (3, 9), (3, 11)];
+    wrote(&example, 7, &as_stored)
+}
+
+fn three_targets() -> Found {
+    let expected = [(1, 1), (2, 0), (3, 2), (3, 3), (3, 5), (3, 6), (3, 8), (3, 9), (3, 11)];
+    wrote(&by_hand::three_targets(), 2, &expected)
+}
+
+fn started_again() -> Found {
+    let example = by_hand::started_again();
+    ensure(answers(&example) == [0, 0, 0, 101, 0, 0, 0, 101, NO_TRACE_ROOM], "the answers")?;
+    let stored: Vec<bool> = example.dumps.iter().map(|dump| !dump.stored.is_empty()).collect();
+    let expected = [false, false, false, true, false, false, false, true, false];
+    ensure(stored == expected, &format!("stored after each call: {stored:?}"))
+}
+
+fn chosen_twice() -> Found {
+    wrote(&by_hand::chosen_twice(), 2, &[(2, 0), (4, 1), (2, 1), (4, 2)])
+}
+
+fn star_posted_last() -> Found {
+    let answers = answers(&by_hand::star_posted_last());
+    ensure(answers[..33] == [ACCEPTED; 33], "32 posts are taken")?;
+    ensure(answers[33..] == [BAD_NAME, QUEUE_FULL], &format!("{answers:?}"))
+}
+
+fn run_of_none() -> Found {
+    let answers = answers(&by_hand::run_of_none());
+    ensure(answers == [ACCEPTED, ACCEPTED, STATUS_MORE, NO_TRACE_ROOM], &format!("{answers:?}"))
+}
+
+fn raised_done_name() -> Found {
+    wrote(&by_hand::raised_done_name(), 1, &[(1, 1), (2, 0), (3, 2)])
+}
+
+fn posted_bytes() -> Found {
+    let answers = answers(&by_hand::posted_bytes());
+    ensure(answers[1..9] == [BAD_NAME; 8] && answers[9] == ACCEPTED, &format!("{answers:?}"))
+}
+
+fn longest_descriptor() -> Found {
+    wrote(&by_hand::longest_descriptor(), 4, &[(2, 0), (4, 1), (2, 0), (4, 1)])
+}
+
+fn letter_case() -> Found {
+    let example = by_hand::letter_case();
+    wrote(&example, 2, &[])?;
+    wrote(&example, 4, &[(2, 0), (4, 1)])
+}
+
+/// The chart of 64 rows comes first; its first slot is no name.
+fn limits_are_kept() -> Found {
+    let verdicts: Vec<u64> = at_limits::all().iter().map(|example| example.verdict).collect();
+    ensure(verdicts == [2, 0, 0, 0, 0, 0], &format!("{verdicts:?}"))?;
+    let fits: Vec<bool> = at_limits::headers().iter().map(|header| header.fits).collect();
+    ensure(fits[..3] == [true, true, false] && fits[3..] == [false; 6], &format!("{fits:?}"))
+}
+
+fn faults_get_their_numbers() -> Found {
+    for fault in faults::all() {
+        let given = fault.example().verdict;
+        ensure(given == fault.rule, &format!("{}: {given}, not {}", fault.about, fault.rule))?;
+    }
+    Ok(())
+}
+
+/// Each pair of targets of the charts of rule 4 that may stand together, alone.
+fn faults_are_single() -> Found {
+    for targets in ["h", "k", "r0 r1", "u0 u1", "v0 u1", "r0 u1", "u0 r1"] {
+        let lent = Lent::of(&faults::with_targets(targets), Layout::Plain);
+        let given = verdict(&lent.spelt.numbers, &lent.spelt.names, lent.place);
+        ensure(given == 0, &format!("targets {targets}: {given}"))?;
+    }
+    Ok(())
+}
+
+fn lent_places() -> Found {
+    let verdicts: Vec<u64> = places::lent().iter().map(|lent| lent.verdict).collect();
+    ensure(verdicts == [0, 1, 1, 1, 1, 1, 1], &format!("{verdicts:?}"))
+}
+
+fn opened_places() -> Found {
+    let right = ["a compiled chart", "row 3 a final, which has the same sets", "another name"];
+    for opened in places::opened() {
+        ensure(opened.opens == right.contains(&opened.about), opened.about)?;
+    }
+    Ok(())
+}
