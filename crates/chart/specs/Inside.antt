@@ -23,7 +23,7 @@ map-mem f P [] h a m = absurd (no m)
 map-mem f P (x ∷ xs) h a m =
     mem-cases a (f x) (map f xs) (λ e. rw e (h x (mem-head x xs))) (map-mem f P xs (λ y n. h y (mem-tail x y xs n)) a) m
 
-root-plain : (k : Kind) → isRoot k ≡ true → isHistory k ≡ false
+pub root-plain : (k : Kind) → isRoot k ≡ true → isHistory k ≡ false
 root-plain Root h = refl
 root-plain State h = absurd (no h)
 root-plain Parallel h = absurd (no h)

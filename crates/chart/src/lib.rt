@@ -1,57 +1,22 @@
-// Readers of a compiled chart: kinds, and the sets behind the numbers.
+// Readers of a compiled chart: the sets behind the numbers, and what they say of a row.
 ghost use mathlib.Core.Path.{_≡_};
 ghost use mathlib.Core.List.{[]};
 ghost use Prim.Native.Nat.{_+_, _*_, _≤_, _<_};
 ghost use lib.ListN.{length};
 ghost use Rattle.definition.specs.Rows.{union};
-ghost use Rattle.definition.specs.Chart.{isRoot, isState, isParallel, isFinal, isShallow, isHistory};
 ghost use Rattle.definition.specs.Tables.{rowCount, tablesSize, chartOf};
 ghost use Rattle.definition.specs.Tree.{ancestors, descendants, children, isCompound, isAtomic, isDomainKind, defaultTargets, anchors};
 ghost use Rattle.rowset.specs.Member.{rowsOf};
 ghost use Rattle.chart.specs.Ready.{setAt, RowReady, TransitionReady, ParentRow, SetInside};
-use definition::Kind;
 use numbers::Row;
 use numbers::Transition;
 use rowset::RowSet;
-
-// ---- kinds
-
-pub fn is_root(k: Kind) -> bool
-    ensures { λ b. ⌜ b ≡ isRoot k ⌝ }
-{
-    tables::kind_number(k) == 0
-}
-
-pub fn is_state(k: Kind) -> bool
-    ensures { λ b. ⌜ b ≡ isState k ⌝ }
-{
-    tables::kind_number(k) == 1
-}
-
-pub fn is_parallel(k: Kind) -> bool
-    ensures { λ b. ⌜ b ≡ isParallel k ⌝ }
-{
-    tables::kind_number(k) == 2
-}
-
-pub fn is_final(k: Kind) -> bool
-    ensures { λ b. ⌜ b ≡ isFinal k ⌝ }
-{
-    tables::kind_number(k) == 3
-}
-
-pub fn is_shallow(k: Kind) -> bool
-    ensures { λ b. ⌜ b ≡ isShallow k ⌝ }
-{
-    tables::kind_number(k) == 4
-}
-
-pub fn is_history(k: Kind) -> bool
-    ensures { λ b. ⌜ b ≡ isHistory k ⌝ }
-{
-    let n = tables::kind_number(k);
-    (n == 4) | (n == 5)
-}
+pub use tables::is_final;
+pub use tables::is_history;
+pub use tables::is_parallel;
+pub use tables::is_root;
+pub use tables::is_shallow;
+pub use tables::is_state;
 
 // ---- the sets. The words of each row that stand before its set in a column are counted.
 
@@ -72,12 +37,7 @@ pub fn set_at(chart: &[u64], w: usize) -> RowSet
     requires { ⌜ w + 4 ≤ length (now chart) ⌝ }
     ensures { λ s. ⌜ s ≡ setAt (now (chart .entry)) w ⌝ }
 {
-    RowSet {
-        w0: chart[w],
-        w1: chart[w + 1],
-        w2: chart[w + 2],
-        w3: chart[w + 3],
-    }
+    tables::set_at(chart, w)
 }
 
 // The set of row or transition i in a column.
