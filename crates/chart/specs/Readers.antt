@@ -105,7 +105,3 @@ parent-is chart i p h l e =
     let b = parent-before chart i h l in
     let k = h .inside in
     record { is = e; before = omega arith; row = record { ready = h .ready; inside = omega arith } }
-
--- a call that answers a test of a kind that a call gave
-pub told : {A : Type 0} (f : A → Bool) (a b : A) (r t : Bool) → a ≡ b → r ≡ f a → r ≡ t → f b ≡ t
-told f a b r t e g h = ap f (sym e) ∙ sym g ∙ h

@@ -22,15 +22,15 @@ pub use tables::is_state;
 
 const ANCESTORS: usize = 0;
 
-const DESCENDANTS: usize = 4;
+pub const DESCENDANTS: usize = 4;
 
-const CHILDREN: usize = 8;
+pub const CHILDREN: usize = 8;
 
 const DEFAULT_TARGETS: usize = 12;
 
-const ANCHORS: usize = 16;
+pub const ANCHORS: usize = 16;
 
-const SET_WIDTH: usize = 4;
+pub const SET_WIDTH: usize = 4;
 
 // Four words from w on.
 pub fn set_at(chart: &[u64], w: usize) -> RowSet

@@ -36,6 +36,10 @@ said-not-yes r b e t = sym e ∙ not-true r t
 pub said-not-no : (r b : Bool) → r ≡ b → not r ≡ false → b ≡ true
 said-not-no r b e t = sym e ∙ not-false r t
 
+-- the same of a test of b, where the call was given a
+pub told : {A : Type 0} (f : A → Bool) (a b : A) (r t : Bool) → a ≡ b → r ≡ f a → r ≡ t → f b ≡ t
+told f a b r t e g h = ap f (sym e) ∙ sym g ∙ h
+
 pub ruleset said-laws = (said-yes, said-no, said-not-yes, said-not-no, not-true, not-false)
 
 -- ---- the numbers below n
@@ -129,6 +133,10 @@ module _ (p : ℕ → Bool) where
 
   pub each-below : (n : ℕ) → all p (from n 0) ≡ true → (i : ℕ) → i < n → p i ≡ true
   each-below n e i l = bool-case (p i) (λ h. h) (λ h. absurd (no (all-leave i n n l refl h ∙ e)))
+
+  pub below-each : (n : ℕ) → ((i : ℕ) → i < n → p i ≡ true) → all p (from n 0) ≡ true
+  below-each zero f = all-begin
+  below-each (suc n) f = rw add-one at (all-turn n (below-each n (λ i l. f i (omega arith))) (f n (omega arith)))
 
   -- some number below n passes; the first that does
 

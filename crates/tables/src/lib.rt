@@ -18,7 +18,7 @@ use numbers::Row;
 use numbers::Transition;
 use rowset::RowSet;
 
-mod columns;
+pub mod columns;
 pub mod limits;
 
 // A block: its actions are count from start on.

@@ -1,4 +1,5 @@
-use Rattle.chart.specs.Readers.{atomic-final, atomic-state, atomic-other, told}
+use Rattle.chart.specs.Readers.{atomic-final, atomic-state, atomic-other}
+use Rattle.laws.specs.Loops.{told}
 use Rattle.definition.specs.Chart.{isState, isFinal}
 use borrow.Author.Needs.{needs}
 use Rattle.chart.proofs.is_atomic.Statement.{statement}

@@ -1,4 +1,5 @@
-use Rattle.chart.specs.Readers.{compound-state, compound-other, told}
+use Rattle.chart.specs.Readers.{compound-state, compound-other}
+use Rattle.laws.specs.Loops.{told}
 use Rattle.definition.specs.Chart.{isState}
 use borrow.Author.Needs.{needs}
 use Rattle.chart.proofs.is_compound.Statement.{statement}

@@ -1,4 +1,5 @@
-use Rattle.chart.specs.Readers.{domain-root, domain-other, told}
+use Rattle.chart.specs.Readers.{domain-root, domain-other}
+use Rattle.laws.specs.Loops.{told}
 use Rattle.definition.specs.Chart.{isRoot}
 use borrow.Author.Needs.{needs}
 use Rattle.chart.proofs.is_domain_kind.Statement.{statement}

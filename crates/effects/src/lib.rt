@@ -1,0 +1,377 @@
+// Writes the effects of a round into the lent trace, and counts them. An entry that finds no room is counted alone, so a round is
+// counted first, with an empty trace, and written when its entries are known to fit.
+ghost use mathlib.Core.Path.{_≡_};
+ghost use mathlib.Core.Bool.{cond};
+ghost use mathlib.Core.List.{[], _∷_};
+ghost use Prim.Native.Nat.{_+_};
+ghost use lib.Dec.{leb};
+ghost use Rattle.definition.specs.Rows.{any, flat};
+ghost use Rattle.definition.specs.Tables.{rowCount, transitionCount, chartOf};
+ghost use Rattle.definition.specs.Microstep.{perform, performed, exitEffects, exiting, transitionEffects, initialBlock, isInFinal, addInFinal, isDoneAbove, doneEffects, entryEffects, entering};
+ghost use Rattle.tables.specs.Ranges.{InTables, RowIn, TransitionIn};
+ghost use Rattle.rowset.specs.Member.{rowsOf};
+ghost use Rattle.chart.specs.Ready.{Ready, RowReady};
+ghost use Rattle.effects.specs.Trace.{Wrote, Room};
+ghost use Rattle.effects.specs.Kinds.{effectOf, InEntry, ActionFits};
+ghost use Rattle.effects.specs.Blocks.{BlockIn, actionsOf};
+ghost use Rattle.matching.specs.Chosen.{Within, ChosenIn, chosenOf};
+ghost use Rattle.effects.specs.Entering.{defaultEffects, activeAt, isFinalRow, finalBelow, entryIs, HistoryRow, HistoryRows};
+use chart::children_of;
+use chart::descendants_of;
+use chart::is_compound;
+use chart::parent_row;
+use definition::Action;
+use matching::Chosen;
+use numbers::Row;
+use numbers::Transition;
+use numbers::same_row;
+use rowset::Found;
+use rowset::RowSet;
+use tables::Block;
+use tables::action_of;
+use tables::entry_block_of;
+use tables::exit_block_of;
+use tables::is_final;
+use tables::is_parallel;
+use tables::is_root;
+use tables::kind_of;
+use tables::list_block_of;
+use tables::transition_block_of;
+
+// How many entries there are, and how many names join the internal queue.
+pub struct Tally {
+    pub entries: u64,
+    pub names: u64,
+}
+
+// The kinds of an entry.
+const EXITED: u32 = 1;
+
+const TAKEN: u32 = 2;
+
+const ENTERED: u32 = 3;
+
+const ACTED: u32 = 4;
+
+const RAISED: u32 = 5;
+
+const DONE: u32 = 6;
+
+// The number after a row's: where the search for the next row starts.
+pub fn row_after(r: Row) -> u16
+    ensures { λ k. ⌜ k ≡ r .0 + 1 ⌝ }
+{
+    r.0 as u16 + 1
+}
+
+// Raised names and done events join the queue.
+fn queued_by(kind: u32) -> u64
+    ensures { λ n. ⌜ n ≡ cond (leb 5 kind) 1 0 ⌝ }
+{
+    if RAISED <= kind { 1 } else { 0 }
+}
+
+fn emit(trace: &mut [u32], tally: Tally, kind: u32, index: u32) -> Tally
+    requires { ⌜ InEntry kind index × Room tally (effectOf kind index ∷ []) ⌝ }
+    ensures { λ r. ⌜ Wrote (now (trace .entry)) (now (trace .exit)) tally r (effectOf kind index ∷ []) ⌝ }
+{
+    let at = tally.entries as usize;
+    if at < trace.len() {
+        trace[at] = kind * 65536 + index;
+    }
+    Tally {
+        entries: tally.entries + 1,
+        names: tally.names + queued_by(kind),
+    }
+}
+
+fn perform_action(trace: &mut [u32], tally: Tally, action: Action) -> Tally
+    requires { ⌜ ActionFits action × Room tally (perform action ∷ []) ⌝ }
+    ensures { λ r. ⌜ Wrote (now (trace .entry)) (now (trace .exit)) tally r (perform action ∷ []) ⌝ }
+{
+    match action {
+        Action::Raise(n) => emit(trace, tally, RAISED, n as u32),
+        Action::Host(n) => emit(trace, tally, ACTED, n as u32),
+    }
+}
+
+// ---- blocks
+
+fn perform_block(chart: &[u64], block: Block, trace: &mut [u32], tally: Tally) -> Tally
+    requires { ⌜ InTables (now chart) × BlockIn (now chart) block × Room tally (performed (actionsOf (now chart) block)) ⌝ }
+    ensures { λ r. ⌜ Wrote (now (trace .entry)) (now (trace .exit)) tally r (performed (actionsOf (now (chart .entry)) block)) ⌝ }
+{
+    let end = block.start + block.count;
+    let mut sum = tally;
+    let mut a = block.start;
+    while a < end {
+        let action = action_of(chart, a);
+        sum = perform_action(trace, sum, action);
+        a += 1;
+    }
+    sum
+}
+
+// ---- exits: "descendants first, reverse document order"
+
+fn exit_row(chart: &[u64], r: Row, trace: &mut [u32], tally: Tally) -> Tally
+    requires { ⌜ RowIn (now chart) (r .0) × Room tally (exitEffects (chartOf (now chart)) (r .0)) ⌝ }
+    ensures { λ s. ⌜ Wrote (now (trace .entry)) (now (trace .exit)) tally s (exitEffects (chartOf (now (chart .entry))) (r .0)) ⌝ }
+{
+    let sum = emit(trace, tally, EXITED, r.0 as u32);
+    let block = exit_block_of(chart, r);
+    perform_block(chart, block, trace, sum)
+}
+
+pub fn exit_effects(chart: &[u64], out: RowSet, trace: &mut [u32], tally: Tally) -> Tally
+    requires { ⌜ InTables (now chart) × Within (rowCount (now chart)) (rowsOf out) × Room tally (exiting (chartOf (now chart)) (rowsOf out)) ⌝ }
+    ensures { λ s. ⌜ Wrote (now (trace .entry)) (now (trace .exit)) tally s (exiting (chartOf (now (chart .entry))) (rowsOf out)) ⌝ }
+{
+    let mut sum = tally;
+    let mut k: u16 = 256;
+    loop {
+        match out.prev_below(k) {
+            Found::At(r) => {
+                sum = exit_row(chart, r, trace, sum);
+                k = r.0 as u16;
+            }
+            Found::Nothing => {
+                return sum;
+            }
+        }
+    }
+}
+
+// ---- transitions
+
+fn take_transition(chart: &[u64], t: Transition, trace: &mut [u32], tally: Tally) -> Tally
+    requires { ⌜ TransitionIn (now chart) (t .0) × Room tally (transitionEffects (chartOf (now chart)) (t .0)) ⌝ }
+    ensures { λ s. ⌜ Wrote (now (trace .entry)) (now (trace .exit)) tally s (transitionEffects (chartOf (now (chart .entry))) (t .0)) ⌝ }
+{
+    let sum = emit(trace, tally, TAKEN, t.0 as u32);
+    let block = transition_block_of(chart, t);
+    perform_block(chart, block, trace, sum)
+}
+
+// In selection order.
+pub fn transition_effects(chart: &[u64], chosen: Chosen, trace: &mut [u32], tally: Tally) -> Tally
+    requires { ⌜ InTables (now chart) × ChosenIn (transitionCount (now chart)) chosen × Room tally (flat (transitionEffects (chartOf (now chart))) (chosenOf chosen)) ⌝ }
+    ensures { λ s. ⌜ Wrote (now (trace .entry)) (now (trace .exit)) tally s (flat (transitionEffects (chartOf (now (chart .entry)))) (chosenOf chosen)) ⌝ }
+{
+    let n = chosen.len;
+    let mut sum = tally;
+    let mut i = 0;
+    while i < n {
+        sum = take_transition(chart, Transition(chosen.items[i]), trace, sum);
+        i += 1;
+    }
+    sum
+}
+
+// ---- done events
+
+// Whether a row of the set is a final.
+fn any_final(chart: &[u64], set: RowSet) -> bool
+    requires { ⌜ InTables (now chart) × Within (rowCount (now chart)) (rowsOf set) ⌝ }
+    ensures { λ b. ⌜ b ≡ any (isFinalRow (chartOf (now (chart .entry)))) (rowsOf set) ⌝ }
+{
+    let mut k: u16 = 0;
+    loop {
+        match set.next_from(k) {
+            Found::At(r) => {
+                if is_final(kind_of(chart, r)) {
+                    return true;
+                }
+                k = row_after(r);
+            }
+            Found::Nothing => {
+                return false;
+            }
+        }
+    }
+}
+
+// Whether row r is in a final state, by the rows below it that are.
+fn is_in_final(chart: &[u64], active: RowSet, set: RowSet, r: Row) -> bool
+    requires { ⌜ RowReady (now chart) (r .0) ⌝ }
+    ensures { λ b. ⌜ b ≡ isInFinal (chartOf (now (chart .entry))) (rowsOf active) (rowsOf set) (r .0) ⌝ }
+{
+    if is_parallel(kind_of(chart, r)) {
+        return children_of(chart, r).subset(set);
+    }
+    if is_compound(chart, r) {
+        return any_final(chart, children_of(chart, r).intersection(active));
+    }
+    false
+}
+
+fn add_in_final(chart: &[u64], active: RowSet, set: RowSet, r: Row) -> RowSet
+    requires { ⌜ RowReady (now chart) (r .0) ⌝ }
+    ensures { λ s. ⌜ rowsOf s ≡ addInFinal (chartOf (now (chart .entry))) (rowsOf active) (rowsOf set) (r .0) ⌝ }
+{
+    if is_in_final(chart, active, set, r) {
+        return set.with(r);
+    }
+    set
+}
+
+// The rows below g in a final state. A row's state hangs on the rows below it alone, so no others are visited.
+fn final_below(chart: &[u64], active: RowSet, g: Row) -> RowSet
+    requires { ⌜ RowReady (now chart) (g .0) ⌝ }
+    ensures { λ s. ⌜ rowsOf s ≡ finalBelow (chartOf (now (chart .entry))) (rowsOf active) (g .0) ⌝ }
+{
+    let below = descendants_of(chart, g);
+    let mut set = RowSet::empty();
+    let mut k: u16 = 256;
+    loop {
+        match below.prev_below(k) {
+            Found::At(r) => {
+                set = add_in_final(chart, active, set, r);
+                k = r.0 as u16;
+            }
+            Found::Nothing => {
+                return set;
+            }
+        }
+    }
+}
+
+// Whether g is parallel and all its children are in a final state.
+fn is_done_above(chart: &[u64], active: RowSet, g: Row) -> bool
+    requires { ⌜ RowReady (now chart) (g .0) ⌝ }
+    ensures { λ b. ⌜ b ≡ isDoneAbove (chartOf (now (chart .entry))) (rowsOf active) (g .0) ⌝ }
+{
+    if is_parallel(kind_of(chart, g)) {
+        return children_of(chart, g).subset(final_below(chart, active, g));
+    }
+    false
+}
+
+// The rows that are active when row r is entered: those that stay, and those of the set up to it.
+fn active_at(stay: RowSet, set: RowSet, r: Row) -> RowSet
+    ensures { λ s. ⌜ rowsOf s ≡ activeAt (rowsOf stay) (rowsOf set) (r .0) ⌝ }
+{
+    let n = row_after(r);
+    stay.union(set.intersection(RowSet::below(n)))
+}
+
+// The done events of an entered row, if it is a final that is not under the root.
+fn done_effects(
+    chart: &[u64],
+    stay: RowSet,
+    set: RowSet,
+    r: Row,
+    trace: &mut [u32],
+    tally: Tally,
+) -> Tally
+    requires { ⌜ RowReady (now chart) (r .0) × Room tally (doneEffects (chartOf (now chart)) (activeAt (rowsOf stay) (rowsOf set) (r .0)) (r .0)) ⌝ }
+    ensures { λ s. ⌜ Wrote (now (trace .entry)) (now (trace .exit)) tally s (doneEffects (chartOf (now (chart .entry))) (activeAt (rowsOf stay) (rowsOf set) (r .0)) (r .0)) ⌝ }
+{
+    if !is_final(kind_of(chart, r)) {
+        return tally;
+    }
+    let p = parent_row(chart, r);
+    if is_root(kind_of(chart, p)) {
+        return tally;
+    }
+    let g = parent_row(chart, p);
+    let both = is_done_above(chart, active_at(stay, set, r), g);
+    let sum = emit(trace, tally, DONE, p.0 as u32);
+    if both {
+        return emit(trace, sum, DONE, g.0 as u32);
+    }
+    sum
+}
+
+// ---- entries: "entry block; initial block, if its child came by default; default block, if a history of this row fell to its
+// default list", then the done events
+
+fn initial_block(chart: &[u64], defaults: RowSet, r: Row, trace: &mut [u32], tally: Tally) -> Tally
+    requires { ⌜ RowIn (now chart) (r .0) × Room tally (performed (initialBlock (chartOf (now chart)) (rowsOf defaults) (r .0))) ⌝ }
+    ensures { λ s. ⌜ Wrote (now (trace .entry)) (now (trace .exit)) tally s (performed (initialBlock (chartOf (now (chart .entry))) (rowsOf defaults) (r .0))) ⌝ }
+{
+    if !defaults.has(r) {
+        return tally;
+    }
+    let block = list_block_of(chart, r);
+    perform_block(chart, block, trace, tally)
+}
+
+fn default_block(chart: &[u64], r: Row, h: Row, trace: &mut [u32], tally: Tally) -> Tally
+    requires { ⌜ HistoryRow (now chart) (h .0) × Room tally (defaultEffects (chartOf (now chart)) (r .0) (h .0)) ⌝ }
+    ensures { λ s. ⌜ Wrote (now (trace .entry)) (now (trace .exit)) tally s (defaultEffects (chartOf (now (chart .entry))) (r .0) (h .0)) ⌝ }
+{
+    if !same_row(r, parent_row(chart, h)) {
+        return tally;
+    }
+    let block = list_block_of(chart, h);
+    perform_block(chart, block, trace, tally)
+}
+
+fn default_blocks(chart: &[u64], r: Row, fallen: RowSet, trace: &mut [u32], tally: Tally) -> Tally
+    requires { ⌜ HistoryRows (now chart) (rowsOf fallen) × Room tally (flat (defaultEffects (chartOf (now chart)) (r .0)) (rowsOf fallen)) ⌝ }
+    ensures { λ s. ⌜ Wrote (now (trace .entry)) (now (trace .exit)) tally s (flat (defaultEffects (chartOf (now (chart .entry))) (r .0)) (rowsOf fallen)) ⌝ }
+{
+    let mut sum = tally;
+    let mut k: u16 = 0;
+    loop {
+        match fallen.next_from(k) {
+            Found::At(h) => {
+                sum = default_block(chart, r, h, trace, sum);
+                k = row_after(h);
+            }
+            Found::Nothing => {
+                return sum;
+            }
+        }
+    }
+}
+
+fn enter_row(
+    chart: &[u64],
+    stay: RowSet,
+    set: RowSet,
+    defaults: RowSet,
+    fallen: RowSet,
+    r: Row,
+    trace: &mut [u32],
+    tally: Tally,
+) -> Tally
+    requires { ⌜ RowReady (now chart) (r .0) × HistoryRows (now chart) (rowsOf fallen) × Room tally (entryEffects (chartOf (now chart)) (rowsOf stay) (entryIs set defaults) (rowsOf fallen) (r .0)) ⌝ }
+    ensures { λ s. ⌜ Wrote (now (trace .entry)) (now (trace .exit)) tally s (entryEffects (chartOf (now (chart .entry))) (rowsOf stay) (entryIs set defaults) (rowsOf fallen) (r .0)) ⌝ }
+{
+    let s1 = emit(trace, tally, ENTERED, r.0 as u32);
+    let block = entry_block_of(chart, r);
+    let s2 = perform_block(chart, block, trace, s1);
+    let s3 = initial_block(chart, defaults, r, trace, s2);
+    let s4 = default_blocks(chart, r, fallen, trace, s3);
+    done_effects(chart, stay, set, r, trace, s4)
+}
+
+// Entries in document order.
+pub fn entry_effects(
+    chart: &[u64],
+    stay: RowSet,
+    set: RowSet,
+    defaults: RowSet,
+    fallen: RowSet,
+    trace: &mut [u32],
+    tally: Tally,
+) -> Tally
+    requires { ⌜ Ready (now chart) × Within (rowCount (now chart)) (rowsOf set) × HistoryRows (now chart) (rowsOf fallen) × Room tally (entering (chartOf (now chart)) (rowsOf stay) (entryIs set defaults) (rowsOf fallen)) ⌝ }
+    ensures { λ s. ⌜ Wrote (now (trace .entry)) (now (trace .exit)) tally s (entering (chartOf (now (chart .entry))) (rowsOf stay) (entryIs set defaults) (rowsOf fallen)) ⌝ }
+{
+    let mut sum = tally;
+    let mut k: u16 = 0;
+    loop {
+        match set.next_from(k) {
+            Found::At(r) => {
+                sum = enter_row(chart, stay, set, defaults, fallen, r, trace, sum);
+                k = row_after(r);
+            }
+            Found::Nothing => {
+                return sum;
+            }
+        }
+    }
+}

@@ -1,0 +1,152 @@
+-- The tests of the code over one row and over a set of rows, as the definition has them.
+use mathlib.Core.Path.{_≡_, refl, sym, ap, _∙_}
+use mathlib.Core.Bool.{Bool, true, false, not, _||_}
+use mathlib.Core.List.{List}
+use Prim.Native.Nat.{ℕ, zero, suc, _+_, _≤_, _<_, min}
+use native.Mathlib.Omega.{arith}
+use lib.Dec.{leb}
+use borrow.Author.Tests.{not-true, not-false, ltb-true}
+use Rattle.definition.specs.declared.Kind.{Kind}
+use Rattle.definition.specs.declared.Kind.the-variants.{Root, State, Parallel, Final, Shallow, Deep}
+use Rattle.definition.specs.Rows.{from, mem, all, isSet, isSingle, intersection, subset}
+use Rattle.definition.specs.Chart.{Chart, kind, parent, isRoot, isParallel, isFinal, isHistory}
+use Rattle.definition.specs.Tables.{rowCount, kindAt, chartOf}
+use Rattle.definition.specs.Tree.{children, isDomainKind}
+use Rattle.definition.specs.Follower.{isFinalUnderRoot}
+use Rattle.definition.specs.Legal.{childrenFit, rowFits, isLegal}
+use Rattle.laws.specs.Bools.{no, both-ways, clash, and-right}
+use Rattle.laws.specs.Sets.{Ascends, mem-below, mem-from}
+use Rattle.laws.specs.Lists.{subset-mem, mem-subset, ascends-set, set-below}
+use Rattle.theory.specs.Tree.{root-kind}
+use Rattle.chart.specs.Ready.{Ready, RowReady}
+use Rattle.rowset.specs.declared.RowSet.{RowSet}
+use Rattle.rowset.specs.Member.{rowsOf}
+use Rattle.rowset.specs.Rows.{ascends-rows}
+
+-- a set of the chart's rows
+pub record RowsReady (chart set : List ℕ) : Type 0 where
+  pub ready : Ready chart
+  pub inside : (i : ℕ) → mem i set ≡ true → i < rowCount chart
+
+-- a history of the chart
+pub record HistoryReady (chart : List ℕ) (h : ℕ) : Type 0 where
+  pub row : RowReady chart h
+  pub history : isHistory (kindAt chart h) ≡ true
+
+pub row-ready : (chart set : List ℕ) (i : ℕ) → RowsReady chart set → mem i set ≡ true → RowReady chart i
+row-ready chart set i h m = record { ready = h .ready; inside = h .inside i m }
+
+-- the parent is active; the root always is
+unfoldable pub isHeld : Chart → List ℕ → ℕ → Bool
+isHeld c set i = isRoot (kind c (parent c i)) || mem (parent c i) set
+
+-- ---- one row
+
+module _ (c : Chart) (set : List ℕ) (i : ℕ) where
+  pub fit-parallel : (kids : List ℕ) (b : Bool) → isParallel (kind c i) ≡ true → kids ≡ children c i → b ≡ subset kids set → b ≡ childrenFit c set i
+  unfolding childrenFit
+  fit-parallel kids b p e h = rw (p, ← e) h
+
+  pub fit-none : (d : Bool) → isParallel (kind c i) ≡ false → d ≡ isDomainKind c i → not d ≡ true → true ≡ childrenFit c set i
+  unfolding childrenFit
+  fit-none d p e n = rw (p, ← e, not-true d n)
+
+  pub fit-single : (kids both : List ℕ) (d b : Bool) → isParallel (kind c i) ≡ false → d ≡ isDomainKind c i → not d ≡ false → kids ≡ children c i →
+      both ≡ intersection kids set → b ≡ isSingle both → b ≡ childrenFit c set i
+  unfolding childrenFit
+  fit-single kids both d b p e n k q h = rw (p, ← e, not-false d n, ← k, ← q) h
+
+  pub row-root : isRoot (kind c i) ≡ true → false ≡ rowFits c set i
+  unfolding rowFits
+  row-root h = rw h
+
+  pub row-history : isRoot (kind c i) ≡ false → isHistory (kind c i) ≡ true → false ≡ rowFits c set i
+  unfolding rowFits
+  row-history r h = rw (r, h)
+
+  pub held-root : (p : ℕ) (k : Kind) → p ≡ parent c i → k ≡ kind c p → isRoot k ≡ true → true ≡ isHeld c set i
+  unfolding isHeld
+  held-root p k e q r = rw (← e, ← q, r)
+
+  pub held-mem : (p : ℕ) (k : Kind) (b : Bool) → p ≡ parent c i → k ≡ kind c p → isRoot k ≡ false → b ≡ mem p set → b ≡ isHeld c set i
+  unfolding isHeld
+  held-mem p k b e q r m = rw (← e, ← q, r) m
+
+  pub row-alone : isRoot (kind c i) ≡ false → isHistory (kind c i) ≡ false → isHeld c set i ≡ false → false ≡ rowFits c set i
+  unfolding rowFits isHeld
+  row-alone r h n = rw (r, h, n)
+
+  pub row-held : (b : Bool) → isRoot (kind c i) ≡ false → isHistory (kind c i) ≡ false → isHeld c set i ≡ true → b ≡ childrenFit c set i → b ≡ rowFits c set i
+  unfolding rowFits isHeld
+  row-held b r h k m = rw (r, h, k) m
+
+module _ (c : Chart) (i : ℕ) where
+  pub final-not : isFinal (kind c i) ≡ false → false ≡ isFinalUnderRoot c i
+  unfolding isFinalUnderRoot
+  final-not h = rw h
+
+  pub final-under : (p : ℕ) (k : Kind) (b : Bool) → isFinal (kind c i) ≡ true → p ≡ parent c i → k ≡ kind c p → b ≡ isRoot k → b ≡ isFinalUnderRoot c i
+  unfolding isFinalUnderRoot
+  final-under p k b h e q m = rw (h, ← e, ← q) m
+
+-- only row 0 is the root
+pub not-first : (chart : List ℕ) (i : ℕ) → Ready chart → isRoot (kind (chartOf chart) i) ≡ false → 0 < i
+not-first chart zero h n = absurd (clash _ (root-kind (chartOf chart) (h .sound .tree)) n)
+not-first chart (suc i) h n = omega arith
+
+final-no-root : (k : Kind) → isFinal k ≡ true → isRoot k ≡ false
+final-no-root Root h = absurd (no h)
+final-no-root State h = refl
+final-no-root Parallel h = refl
+final-no-root Final h = refl
+final-no-root Shallow h = refl
+final-no-root Deep h = refl
+
+history-no-root : (k : Kind) → isHistory k ≡ true → isRoot k ≡ false
+history-no-root Root h = absurd (no h)
+history-no-root State h = refl
+history-no-root Parallel h = refl
+history-no-root Final h = refl
+history-no-root Shallow h = refl
+history-no-root Deep h = refl
+
+pub final-after : (chart : List ℕ) (i : ℕ) → Ready chart → isFinal (kind (chartOf chart) i) ≡ true → 0 < i
+final-after chart i h f = not-first chart i h (final-no-root (kind (chartOf chart) i) f)
+
+pub history-after : (chart : List ℕ) (i : ℕ) → Ready chart → isHistory (kind (chartOf chart) i) ≡ true → 0 < i
+history-after chart i h f = not-first chart i h (history-no-root (kind (chartOf chart) i) f)
+
+-- ---- a set of rows
+
+-- the rows below n are a set of them
+below-set : (n : ℕ) (xs : List ℕ) → Ascends 0 xs → subset xs (from n 0) ≡ isSet n xs
+below-set n xs a =
+    both-ways (subset xs (from n 0)) (isSet n xs)
+    (λ h. ascends-set n xs a (λ k m. let l : k < 0 + n = ltb-true _ _ (and-right (leb 0 k) _ (sym (mem-from k n 0) ∙ subset-mem xs (from n 0) h k m)) in omega arith))
+    (λ h. mem-subset xs (from n 0) (λ k m. mem-below n k (set-below n xs h k m)))
+
+pub set-inside : (s : RowSet) (below : List ℕ) (k n : ℕ) (b : Bool) → n ≤ 256 → k ≡ n → below ≡ from (min k 256) 0 → b ≡ subset (rowsOf s) below → b ≡ isSet n (rowsOf s)
+set-inside s below k n b l q e h =
+    let m : min k 256 ≡ n = omega arith in
+    h ∙ ap (subset (rowsOf s)) (e ∙ ap (λ (i : ℕ). from i 0) m) ∙ below-set n (rowsOf s) (ascends-rows s)
+
+module _ (c : Chart) (set : List ℕ) where
+  pub legal-outside : isSet (c .rows) set ≡ false → false ≡ isLegal c set
+  unfolding isLegal
+  legal-outside h = rw h
+
+  pub legal-not : isSet (c .rows) set ≡ true → false ≡ all (rowFits c set) set → false ≡ isLegal c set
+  unfolding isLegal
+  legal-not h e = rw (h, ← e)
+
+  pub legal-is : (b : Bool) → isSet (c .rows) set ≡ true → true ≡ all (rowFits c set) set → b ≡ childrenFit c set 0 → b ≡ isLegal c set
+  unfolding isLegal
+  legal-is b h e f = rw (h, ← e) f
+
+-- a set that passed
+pub rows-ready : (chart set : List ℕ) → Ready chart → isSet (rowCount chart) set ≡ true → RowsReady chart set
+rows-ready chart set h s = record { ready = h; inside = set-below (rowCount chart) set s }
+
+-- the root is a row
+pub root-ready : (chart : List ℕ) → Ready chart → RowReady chart 0
+root-ready chart h = let s = h .tables .sized .counts .some in record { ready = h; inside = omega arith }

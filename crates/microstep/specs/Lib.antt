@@ -1,0 +1,5 @@
+pub mod Stored
+pub mod Targets
+pub mod Entry
+pub mod Plan
+pub mod Words

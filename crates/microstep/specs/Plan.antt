@@ -1,0 +1,187 @@
+-- The plan of a round: what stays, what is left, what is entered; and that its effects are the definition's.
+use mathlib.Core.Path.{_≡_, ap, sym, _∙_}
+use mathlib.Core.Bool.{Bool, true, false, cond}
+use mathlib.Core.List.{List, [], _++_}
+use Prim.Native.Nat.{ℕ, _^_, _<_, _≤_}
+use native.Mathlib.Omega.{arith}
+use Rattle.definition.specs.Rows.{keep, mem, isEmpty, flat, union, minus, intersection}
+use Rattle.definition.specs.Chart.{Chart, isHistory}
+use Rattle.definition.specs.Tables.{rowCount, transitionCount, kindAt, chartOf}
+use Rattle.definition.specs.Tree.{descendants, defaultTargets}
+use Rattle.definition.specs.Selection.{History, effectiveTargets, domain, exitSet}
+use Rattle.definition.specs.Microstep.{Effect, stored, addExits, exits, historyAfter, storedIn, staying, exiting, transitionEffects, pathsBelow, addTargets, targeted, Entry, entrySet, entryOf, fellToDefault, addFallen, fallen, entering, configurationAfter, effects}
+use Rattle.definition.specs.Follower.{firstEntry, firstEffects}
+use Rattle.laws.specs.Bools.{no, and-left, or-elim}
+use Rattle.laws.specs.Sets.{mem-union, mem-intersection, mem-minus}
+use Rattle.laws.specs.Lists.{keep-mem}
+use Rattle.laws.specs.Passes.{fold-keeps}
+use Rattle.theory.specs.Accepted.{Sound}
+use Rattle.theory.specs.Entry.{path-inside, entry-inside}
+use Rattle.rowset.specs.Member.{rowsOf}
+use Rattle.chart.specs.Ready.{Ready}
+use Rattle.matching.specs.declared.Chosen.{Chosen}
+use Rattle.matching.specs.Chosen.{Within, ChosenIn, chosenOf, chosen-length, within-none}
+use Rattle.effects.specs.declared.Tally.{Tally}
+use Rattle.effects.specs.Trace.{Wrote, Room, wrote-both, room-first, room-next}
+use Rattle.effects.specs.Entering.{entryIs, HistoryRows}
+use Rattle.effects.specs.Bounds.{round-room}
+use Rattle.microstep.specs.declared.Plan.{Plan}
+use Rattle.microstep.specs.declared.Entered.{Entered}
+use Rattle.microstep.specs.Stored.{after-stored}
+use Rattle.microstep.specs.Targets.{targeted-same, fallen-same}
+use Rattle.microstep.specs.Entry.{enteredAs}
+
+-- the plan is the definition's for these transitions, taken together from a configuration with its stored history
+pub record Planned (c : Chart) (conf : List ℕ) (hist : History) (ts : List ℕ) (p : Plan) : Type 0 where
+  pub stay : rowsOf (p .stay) ≡ staying c conf hist ts
+  pub out : rowsOf (p .out) ≡ exits c conf hist ts
+  pub entry : entryIs (p .set) (p .«by_default») ≡ entryOf c conf hist ts
+  pub fallen : rowsOf (p .fallen) ≡ fallen c (storedIn (historyAfter c conf hist ts)) ts
+
+-- its rows are the chart's
+pub record PlanReady (chart : List ℕ) (p : Plan) : Type 0 where
+  pub ready : Ready chart
+  pub out : Within (rowCount chart) (rowsOf (p .out))
+  pub set : Within (rowCount chart) (rowsOf (p .set))
+  pub fallen : HistoryRows chart (rowsOf (p .fallen))
+
+-- counts so far that leave room for a round
+pub record Small (t : Tally) : Type 0 where
+  pub entries : t .entries ≤ 2 ^ 61
+  pub names : t .names ≤ 2 ^ 61
+
+-- ---- the history after the exits, as a function of the row
+
+module _ (c : Chart) (g : Sound c) (conf : List ℕ) (hist : History) (ts : List ℕ) (w : Within (c .transitions) ts) (out : List ℕ) (e : out ≡ exits c conf hist ts) where
+  agree : (t x : ℕ) → mem t ts ≡ true → mem x ((c .transition) t .targets) ≡ true → storedIn (historyAfter c conf hist ts) x ≡ stored c conf hist out x
+  agree t x m n = after-stored c conf hist ts x (g .targetInside t (w .at t m) x n) ∙ ap (λ (xs : List ℕ). stored c conf hist xs x) (sym e)
+
+  pub plan-entry : (aim : List ℕ) (i : Entry) → i ≡ entrySet c (defaultTargets c) aim → aim ≡ targeted c hist (stored c conf hist out) ts → i ≡ entryOf c conf hist ts
+  unfolding entryOf
+  plan-entry aim i f h =
+      f ∙ ap (entrySet c (defaultTargets c)) (h ∙ sym (targeted-same c hist (storedIn (historyAfter c conf hist ts)) (stored c conf hist out) ts agree))
+
+  pub plan-fallen : (fell : List ℕ) → fell ≡ fallen c (stored c conf hist out) ts → fell ≡ fallen c (storedIn (historyAfter c conf hist ts)) ts
+  plan-fallen fell h = h ∙ sym (fallen-same c hist (storedIn (historyAfter c conf hist ts)) (stored c conf hist out) ts agree)
+
+  pub plan-stay : (stay : List ℕ) → stay ≡ minus conf out → stay ≡ staying c conf hist ts
+  unfolding staying
+  plan-stay stay h = h ∙ ap (minus conf) e
+
+-- ---- the plan's rows are the chart's
+
+union-within : (n : ℕ) (xs ys : List ℕ) → Within n xs → Within n ys → Within n (union xs ys)
+union-within n xs ys v w = record { at = λ i m. or-elim (mem i xs) (mem i ys) (v .at i) (w .at i) (sym (mem-union i xs ys) ∙ m) }
+
+exit-set-within : (c : Chart) (n : ℕ) (conf : List ℕ) (hist : History) (t : ℕ) → Within n conf → Within n (exitSet c conf hist ((c .transition) t))
+unfolding exitSet
+exit-set-within c n conf hist t w = go (isEmpty ((c .transition) t .targets))
+  where
+    go : (b : Bool) → Within n (cond b [] (intersection conf (descendants c (domain c hist ((c .transition) t)))))
+    go true = within-none n
+    go false = record { at = λ i m. w .at i (and-left (mem i conf) _ (sym (mem-intersection i conf (descendants c (domain c hist ((c .transition) t)))) ∙ m)) }
+
+pub exits-within : (c : Chart) (n : ℕ) (conf : List ℕ) (hist : History) (ts out : List ℕ) → Within n conf → out ≡ exits c conf hist ts → Within n out
+unfolding exits addExits
+exits-within c n conf hist ts out w e =
+    rw e (fold-keeps (addExits c conf hist) (Within n) ts [] (λ t set m v. union-within n set (exitSet c conf hist ((c .transition) t)) v (exit-set-within c n conf hist t w)) (within-none n))
+
+pub targeted-within : (c : Chart) (before after : History) (ts aim : List ℕ) → aim ≡ targeted c before after ts → Within (c .rows) aim
+unfolding targeted addTargets
+targeted-within c before after ts aim e =
+    rw e (fold-keeps (addTargets c before after) (Within (c .rows)) ts []
+    (λ t set m v. union-within (c .rows) set _ v (record { at = path-inside c (domain c before ((c .transition) t)) (effectiveTargets c after ((c .transition) t)) })) (within-none (c .rows)))
+
+pub entry-within : (c : Chart) (aim : List ℕ) (i : Entry) → i ≡ entrySet c (defaultTargets c) aim → Within (c .rows) aim → Within (c .rows) (i .set)
+entry-within c aim i e w = rw e (record { at = entry-inside c (defaultTargets c) aim (w .at) })
+
+-- the fallen are histories among the targets
+pub fallen-histories : (chart : List ℕ) → Ready chart → (after : History) (ts fell : List ℕ) → Within (transitionCount chart) ts → fell ≡ fallen (chartOf chart) after ts → HistoryRows chart fell
+unfolding fallen addFallen
+fallen-histories chart g after ts fell w e = record {
+  ready = g;
+  at = rw e (fold-keeps (addFallen (chartOf chart) after) (λ xs. (h : ℕ) → mem h xs ≡ true → (h < rowCount chart) × (isHistory (kindAt chart h) ≡ true)) ts []
+      (λ t set m v h k. or-elim (mem h set) (mem h (keep (fellToDefault (chartOf chart) after) ((chartOf chart .transition) t .targets))) (v h) (λ n. target t m h n)
+      (sym (mem-union h set (keep (fellToDefault (chartOf chart) after) ((chartOf chart .transition) t .targets))) ∙ k))
+      (λ h k. absurd (no (unfold mem in k))));
+}
+  where
+    target : (t : ℕ) → mem t ts ≡ true → (h : ℕ) → mem h (keep (fellToDefault (chartOf chart) after) ((chartOf chart .transition) t .targets)) ≡ true → (h < rowCount chart) × (isHistory (kindAt chart h) ≡ true)
+    target t m h n =
+        let f = keep-mem (fellToDefault (chartOf chart) after) ((chartOf chart .transition) t .targets) h n in
+        (g .sound .targetInside t (w .at t m) h (f .0), unfold fellToDefault in and-left (isHistory (kindAt chart h)) _ (f .1))
+
+-- ---- effects
+
+-- what is written for a plan
+unfoldable pub planEffects : Chart → Plan → List ℕ → List Effect
+planEffects c p ts =
+    exiting c (rowsOf (p .out)) ++ flat (transitionEffects c) ts ++ entering c (rowsOf (p .stay)) (entryIs (p .set) (p .«by_default»)) (rowsOf (p .fallen))
+
+pub plan-effects : (c : Chart) (conf : List ℕ) (hist : History) (ts : List ℕ) (p : Plan) → Planned c conf hist ts p → planEffects c p ts ≡ effects c conf hist ts
+unfolding planEffects effects
+plan-effects c conf hist ts p h = rw (h .out, h .stay, h .entry, h .fallen)
+
+pub plan-next : (c : Chart) (conf : List ℕ) (hist : History) (ts : List ℕ) (p : Plan) → Planned c conf hist ts p → union (rowsOf (p .stay)) (rowsOf (p .set)) ≡ configurationAfter c conf hist ts
+unfolding configurationAfter
+plan-next c conf hist ts p h = rw (h .stay) (ap (λ (e : Entry). union (staying c conf hist ts) (e .set)) (h .entry))
+
+-- the pieces have room, one after the other, and together are the plan's effects
+module _ (chart : List ℕ) (p : Plan) (chosen : Chosen) (old : List ℕ) (t : Tally) (h : PlanReady chart p) (w : ChosenIn (transitionCount chart) chosen) (s : Small t) where
+  whole : Room t (exiting (chartOf chart) (rowsOf (p .out)) ++ flat (transitionEffects (chartOf chart)) (chosenOf chosen) ++ entering (chartOf chart) (rowsOf (p .stay)) (entryIs (p .set) (p .«by_default»)) (rowsOf (p .fallen)))
+  whole =
+      let e = chosen-length (transitionCount chart) chosen w in
+      let m = w .most in
+      round-room chart (h .ready .tables) t (p .out) (chosenOf chosen) (rowsOf (p .stay)) (p .set) (p .«by_default») (p .fallen) (s .entries) (s .names) (h .out) (omega arith) (w .inside) (h .set) (h .fallen)
+
+  before-entries : Room t (exiting (chartOf chart) (rowsOf (p .out)) ++ flat (transitionEffects (chartOf chart)) (chosenOf chosen))
+  before-entries = room-first t (exiting (chartOf chart) (rowsOf (p .out)) ++ flat (transitionEffects (chartOf chart)) (chosenOf chosen)) _ whole
+
+  pub exits-room : Room t (exiting (chartOf chart) (rowsOf (p .out)))
+  exits-room = room-first t (exiting (chartOf chart) (rowsOf (p .out))) (flat (transitionEffects (chartOf chart)) (chosenOf chosen)) before-entries
+
+  module _ (old1 : List ℕ) (t1 : Tally) (w1 : Wrote old old1 t t1 (exiting (chartOf chart) (rowsOf (p .out)))) where
+    pub taken-room : Room t1 (flat (transitionEffects (chartOf chart)) (chosenOf chosen))
+    taken-room = room-next old old1 t t1 (exiting (chartOf chart) (rowsOf (p .out))) (flat (transitionEffects (chartOf chart)) (chosenOf chosen)) before-entries w1
+
+    module _ (old2 : List ℕ) (t2 : Tally) (w2 : Wrote old1 old2 t1 t2 (flat (transitionEffects (chartOf chart)) (chosenOf chosen))) where
+      both : Wrote old old2 t t2 (exiting (chartOf chart) (rowsOf (p .out)) ++ flat (transitionEffects (chartOf chart)) (chosenOf chosen))
+      both = wrote-both old old1 old2 t t1 t2 (exiting (chartOf chart) (rowsOf (p .out))) (flat (transitionEffects (chartOf chart)) (chosenOf chosen)) w1 w2
+
+      pub entries-room : Room t2 (entering (chartOf chart) (rowsOf (p .stay)) (entryIs (p .set) (p .«by_default»)) (rowsOf (p .fallen)))
+      entries-room = room-next old old2 t t2 (exiting (chartOf chart) (rowsOf (p .out)) ++ flat (transitionEffects (chartOf chart)) (chosenOf chosen)) _ whole both
+
+      pub plan-wrote : (old3 : List ℕ) (t3 : Tally) → Wrote old2 old3 t2 t3 (entering (chartOf chart) (rowsOf (p .stay)) (entryIs (p .set) (p .«by_default»)) (rowsOf (p .fallen))) →
+          Wrote old old3 t t3 (planEffects (chartOf chart) p (chosenOf chosen))
+      unfolding planEffects
+      plan-wrote old3 t3 w3 = wrote-both old old2 old3 t t2 t3 (exiting (chartOf chart) (rowsOf (p .out)) ++ flat (transitionEffects (chartOf chart)) (chosenOf chosen)) _ both w3
+
+-- ---- the first entry
+
+pub paths-within : (c : Chart) (d : ℕ) (to xs : List ℕ) → xs ≡ pathsBelow c d to → Within (c .rows) xs
+paths-within c d to xs e = rw e (record { at = path-inside c d to })
+
+pub first-is : (c : Chart) (aim : List ℕ) (i : Entry) → i ≡ entrySet c (defaultTargets c) aim → aim ≡ pathsBelow c 0 (defaultTargets c 0) → i ≡ firstEntry c
+unfolding firstEntry
+first-is c aim i e f = e ∙ ap (entrySet c (defaultTargets c)) f
+
+pub first-effects : (c : Chart) (e : Entered) → enteredAs e ≡ firstEntry c → entering c [] (enteredAs e) [] ≡ firstEffects c
+unfolding firstEffects
+first-effects c e q = ap (λ (i : Entry). entering c [] i []) q
+
+pub no-histories : (chart xs : List ℕ) → Ready chart → xs ≡ [] → HistoryRows chart xs
+unfolding mem
+no-histories chart xs g e = record { ready = g; at = λ h m. absurd (no (rw e at m)) }
+
+pub first-wrote : (c : Chart) (i : Entry) (stay fell old new : List ℕ) (t r : Tally) → stay ≡ [] → fell ≡ [] → Wrote old new t r (entering c stay i fell) → Wrote old new t r (entering c [] i [])
+first-wrote c i stay fell old new t r e f w = rw (e, f) at w
+
+-- ---- after the round
+
+-- the next configuration is inside the chart
+pub next-within : (chart : List ℕ) (conf : List ℕ) (hist : History) (ts : List ℕ) (p : Plan) → Within (rowCount chart) conf → Planned (chartOf chart) conf hist ts p → PlanReady chart p →
+    Within (rowCount chart) (union (rowsOf (p .stay)) (rowsOf (p .set)))
+unfolding staying
+next-within chart conf hist ts p w q h =
+    union-within (rowCount chart) (rowsOf (p .stay)) (rowsOf (p .set))
+    (record { at = λ i m. w .at i (and-left (mem i conf) _ (sym (ap (mem i) (q .stay) ∙ mem-minus i conf (exits (chartOf chart) conf hist ts)) ∙ m)) }) (h .set)

@@ -1,0 +1,106 @@
+-- The entry set's targets: paths, effective targets and fallen histories hang on the members and on what is stored for the targets alone.
+use mathlib.Core.Path.{_≡_, refl, ap, sym, _∙_}
+use mathlib.Core.Bool.{Bool, true, false, _&&_, cond}
+use mathlib.Core.List.{List, [], _∷_}
+use Prim.Native.Nat.{ℕ, _<_}
+use Rattle.definition.specs.Rows.{fold, keep, mem, isEmpty, insert, union}
+use Rattle.definition.specs.Chart.{Chart, Transition, kind, isHistory}
+use Rattle.definition.specs.Tree.{ancestors, descendants, listed, defaultTargets}
+use Rattle.definition.specs.Selection.{History, orDefault, standIns, addStandIns, effectiveTargets, domain}
+use Rattle.definition.specs.Microstep.{addPath, pathsBelow, addTargets, targeted, fellToDefault, addFallen, fallen}
+use Rattle.laws.specs.Sets.{Ascends, ascends-ext, ascends-insert, mem-union, mem-one, union-set}
+use Rattle.laws.specs.Lists.{keep-cong}
+use Rattle.laws.specs.Folds.{fold-same, fold-kept, any-same}
+use Rattle.theory.specs.Accepted.{Sound}
+use Rattle.theory.specs.Domain.{effective-of}
+use Rattle.theory.specs.Entry.{isOnPath, mem-paths, ascends-paths}
+use Rattle.chart.specs.Inside.{default-inside}
+use Rattle.matching.specs.Chosen.{Within}
+
+-- the order of the list does not matter
+pub paths-same : (c : Chart) (d : ℕ) (xs ys : List ℕ) → ((a : ℕ) → mem a xs ≡ mem a ys) → pathsBelow c d xs ≡ pathsBelow c d ys
+paths-same c d xs ys h =
+    ascends-ext 0 0 (pathsBelow c d xs) (pathsBelow c d ys) (ascends-paths c d xs) (ascends-paths c d ys)
+    (λ j. mem-paths c d xs j ∙ ap (λ (b : Bool). b && mem j (descendants c d)) (any-same (isOnPath c j) xs ys h) ∙ sym (mem-paths c d ys j))
+
+-- a list that was made a set
+pub paths-set : (c : Chart) (d : ℕ) (xs : List ℕ) → pathsBelow c d (union [] xs) ≡ pathsBelow c d xs
+unfolding mem
+paths-set c d xs = paths-same c d (union [] xs) xs (λ a. mem-union a [] xs)
+
+-- one row more, by the set of its ancestors
+pub path-added : (c : Chart) (set above : List ℕ) (x : ℕ) → Ascends 0 set → above ≡ union [] (ancestors c x) → union (insert x set) above ≡ addPath c set x
+unfolding addPath
+path-added c set above x a e = ap (union (insert x set)) e ∙ union-set (insert x set) (ancestors c x) (ascends-insert x set a)
+
+-- ---- two histories that agree on the targets of a transition
+
+module _ (c : Chart) (before after : History) where
+  pub effective-same : (t : Transition) → ((x : ℕ) → mem x (t .targets) ≡ true → before x ≡ after x) → effectiveTargets c before t ≡ effectiveTargets c after t
+  unfolding effectiveTargets addStandIns standIns
+  effective-same t h = fold-same (addStandIns c before) (addStandIns c after) (t .targets) [] (λ x set m. rw (h x m))
+
+  pub fell-same : (t : Transition) → ((x : ℕ) → mem x (t .targets) ≡ true → before x ≡ after x) → keep (fellToDefault c before) (t .targets) ≡ keep (fellToDefault c after) (t .targets)
+  unfolding fellToDefault
+  fell-same t h = keep-cong (fellToDefault c before) (fellToDefault c after) (t .targets) (λ x m. rw (h x m))
+
+-- a function that agrees with the stored history after the exits on the targets of the transitions
+module _ (c : Chart) (before after other : History) (ts : List ℕ) (agree : (t x : ℕ) → mem t ts ≡ true → mem x ((c .transition) t .targets) ≡ true → after x ≡ other x) where
+  pub targeted-same : targeted c before after ts ≡ targeted c before other ts
+  unfolding targeted addTargets
+  targeted-same =
+      fold-same (addTargets c before after) (addTargets c before other) ts []
+      (λ t set m. rw (effective-same c after other ((c .transition) t) (λ x n. agree t x m n)))
+
+  pub fallen-same : fallen c after ts ≡ fallen c other ts
+  unfolding fallen addFallen
+  fallen-same = fold-same (addFallen c after) (addFallen c other) ts [] (λ t set m. rw (fell-same c after other ((c .transition) t) (λ x n. agree t x m n)))
+
+-- the fallen histories of one transition, target by target
+unfoldable pub addFell : Chart → History → List ℕ → ℕ → List ℕ
+addFell c after set x = cond (fellToDefault c after x) (insert x set) set
+
+pub fell-pass : (c : Chart) (after : History) (set : List ℕ) (t : ℕ) → fold (addFell c after) set ((c .transition) t .targets) ≡ addFallen c after set t
+unfolding addFallen addFell
+fell-pass c after set t = fold-kept (fellToDefault c after) (addFell c after) (λ s x. refl) set ((c .transition) t .targets)
+
+module _ (c : Chart) (after : History) (set : List ℕ) (x : ℕ) where
+  pub fell-in : isHistory (kind c x) ≡ true → isEmpty (after x) ≡ true → insert x set ≡ addFell c after set x
+  unfolding addFell fellToDefault
+  fell-in h e = rw (h, e)
+
+  pub fell-stored : isHistory (kind c x) ≡ true → isEmpty (after x) ≡ false → set ≡ addFell c after set x
+  unfolding addFell fellToDefault
+  fell-stored h e = rw (h, e)
+
+  pub fell-plain : isHistory (kind c x) ≡ false → set ≡ addFell c after set x
+  unfolding addFell fellToDefault
+  fell-plain h = rw h
+
+-- ---- what is aimed at lies inside the chart
+
+default-rows : (P : ℕ → Type 0) (xs default : List ℕ) → ((e : ℕ) → mem e xs ≡ true → P e) → ((e : ℕ) → mem e default ≡ true → P e) → (e : ℕ) → mem e (orDefault xs default) ≡ true → P e
+unfolding orDefault
+default-rows P [] default f g = g
+default-rows P (x ∷ xs) default f g = f
+
+pub effective-within : (c : Chart) → Sound c → (hist : History) → ((h : ℕ) → h < c .rows → Within (c .rows) (hist h)) → (t : ℕ) → t < c .transitions → (to : List ℕ) →
+    to ≡ effectiveTargets c hist ((c .transition) t) → Within (c .rows) to
+effective-within c g hist w t l to q = record { at = λ e m. let x = effective-of c hist t e (sym (ap (mem e) q) ∙ m) in inside (x .0) (g .targetInside t l (x .0) (x .1)) e (x .2) }
+  where
+    inside : (x : ℕ) → x < c .rows → (e : ℕ) → mem e (standIns c hist x) ≡ true → e < c .rows
+    inside x k e m = unfold standIns in go (isHistory (kind c x)) m
+      where
+        go : (b : Bool) → mem e (cond b (orDefault (hist x) (listed c x)) (x ∷ [])) ≡ true → e < c .rows
+        go true m = default-rows (λ i. i < c .rows) (hist x) (listed c x) (w x k .at) (g .listInside x) e m
+        go false m = rw (mem-one e x m) k
+
+pub default-within : (c : Chart) → Sound c → (i : ℕ) → i < c .rows → (xs : List ℕ) → xs ≡ union [] (defaultTargets c i) → Within (c .rows) xs
+unfolding mem
+default-within c g i l xs e = record { at = λ a m. default-inside c g i l a (sym (ap (mem a) e ∙ mem-union a [] (defaultTargets c i)) ∙ m) }
+
+-- one transition's targets more
+pub targets-added : (c : Chart) (before after : History) (set : List ℕ) (t d : ℕ) (to paths all : List ℕ) → all ≡ union set paths → paths ≡ pathsBelow c d to →
+    d ≡ domain c before ((c .transition) t) → to ≡ effectiveTargets c after ((c .transition) t) → all ≡ addTargets c before after set t
+unfolding addTargets
+targets-added c before after set t d to paths all e f g h = e ∙ rw (f, g, h)

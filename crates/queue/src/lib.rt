@@ -1,0 +1,114 @@
+// Queues of names over lent bytes: 32 slots of 64 bytes, the names from slot 0 on, zeros behind them. The contracts are equations on
+// the bytes; specs/Queues turns them into the names.
+ghost use mathlib.Core.Path.{_≡_};
+ghost use mathlib.Core.List.{_++_};
+ghost use Prim.Native.Nat.{_+_, _-_, _*_, _≤_};
+ghost use lib.ListN.{length, take, drop, replicate};
+ghost use Rattle.definition.specs.Names.{doneName};
+ghost use Rattle.definition.specs.Tables.{slotAt, nameAt};
+ghost use Rattle.definition.specs.Marked.{slotOf};
+ghost use Rattle.queue.specs.Queues.{isQueue, slotHolds};
+
+// "at most 32 names each"
+pub const MOST_NAMES: u64 = 32;
+
+const SLOT: usize = 64;
+
+// Slot k.
+fn slot(queue: &[u8], k: usize) -> &[u8]
+    requires { ⌜ k * 64 + 64 ≤ length (now queue) ⌝ }
+    ensures { λ s. ⌜ now s ≡ slotAt (now (queue .entry)) k ⌝ }
+{
+    let from = k * SLOT;
+    let end = from + SLOT;
+    &queue[from..end]
+}
+
+// The name that has waited longest.
+pub fn first_name(queue: &[u8]) -> &[u8]
+    requires { ⌜ 64 ≤ length (now queue) ⌝ }
+    ensures { λ n. ⌜ now n ≡ nameAt (now (queue .entry)) 0 ⌝ }
+{
+    names::name_of(slot(queue, 0))
+}
+
+// The name into the slot behind the count names.
+pub fn put_last(queue: &mut [u8], count: u64, name: &[u8])
+    requires { ⌜ count * 64 + 64 ≤ length (now queue) ⌝ }
+    ensures { λ _. ⌜ now (queue .exit) ≡ take (count * 64) (now (queue .entry)) ++ (slotOf (now (name .entry)) ++ drop (count * 64 + 64) (now (queue .entry))) ⌝ }
+{
+    let from = count as usize * SLOT;
+    let to = from + SLOT;
+    names::put_name(&mut queue[from..to], name);
+}
+
+// The done name of a row, by its id, into the slot behind the count names.
+pub fn put_done_last(queue: &mut [u8], count: u64, id: &[u8])
+    requires { ⌜ count * 64 + 64 ≤ length (now queue) ⌝ }
+    ensures { λ _. ⌜ now (queue .exit) ≡ take (count * 64) (now (queue .entry)) ++ (slotOf (doneName (now (id .entry))) ++ drop (count * 64 + 64) (now (queue .entry))) ⌝ }
+{
+    let from = count as usize * SLOT;
+    let end = from + SLOT;
+    names::put_done_name(&mut queue[from..end], id);
+}
+
+// Every byte one slot forward; those of the last slot stay.
+fn shift(queue: &mut [u8])
+    requires { ⌜ 64 ≤ length (now queue) ⌝ }
+    ensures { λ _. ⌜ now (queue .exit) ≡ drop 64 (now (queue .entry)) ++ drop (length (now (queue .entry)) - 64) (now (queue .entry)) ⌝ }
+{
+    let n = queue.len() - SLOT;
+    let mut i = 0;
+    while i < n {
+        queue[i] = queue[i + SLOT];
+        i += 1;
+    }
+}
+
+// The first name leaves, the others move up.
+pub fn take_first(queue: &mut [u8])
+    requires { ⌜ 64 ≤ length (now queue) ⌝ }
+    ensures { λ _. ⌜ now (queue .exit) ≡ drop 64 (now (queue .entry)) ++ replicate 64 0 ⌝ }
+{
+    shift(queue);
+    let last = queue.len() - SLOT;
+    names::put_name(&mut queue[last..], b"");
+}
+
+// No name waits.
+pub fn clear(queue: &mut [u8])
+    ensures { λ _. ⌜ now (queue .exit) ≡ replicate (length (now (queue .entry))) 0 ⌝ }
+{
+    names::put_name(queue, b"");
+}
+
+// A slot that holds a name, or one behind the names.
+fn slot_holds(slot: &[u8], used: bool) -> bool
+    ensures { λ b. ⌜ b ≡ slotHolds used (now (slot .entry)) ⌝ }
+{
+    if !used {
+        return names::is_blank(slot);
+    }
+    if !names::zeros_after(slot) {
+        return false;
+    }
+    names::is_name(names::name_of(slot))
+}
+
+// Whether the bytes are those of a queue of count names: at most 32, each a name and zeros to its slot's end, and zeros in every unused slot.
+pub fn queue_fits(queue: &[u8], count: u64) -> bool
+    requires { ⌜ length (now queue) ≡ 2048 ⌝ }
+    ensures { λ b. ⌜ b ≡ isQueue (now (queue .entry)) count ⌝ }
+{
+    if MOST_NAMES < count {
+        return false;
+    }
+    let mut k = 0;
+    while k < MOST_NAMES {
+        if !slot_holds(slot(queue, k as usize), k < count) {
+            return false;
+        }
+        k += 1;
+    }
+    true
+}

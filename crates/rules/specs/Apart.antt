@@ -1,0 +1,112 @@
+-- Lists whose rows stand apart, held against the rows before them one by one.
+use mathlib.Core.Path.{_≡_, refl, sym, _∙_}
+use mathlib.Core.Bool.{Bool, true, false, not, _&&_}
+use mathlib.Core.List.{List, [], _∷_, _++_}
+use Prim.Native.Nat.{ℕ, _+_, _<_, _≤_}
+use native.Mathlib.Omega.{arith}
+use native.Mathlib.Numerals.{add-one}
+use lib.Dec.{eqb}
+use lib.ListN.{length, getD, take, drop, length-take, take-append-drop}
+use lib.Seq.{take-suc, take-all, getD-take}
+use Rattle.definition.specs.Rows.{all, mem}
+use Rattle.definition.specs.Chart.{Chart, kind, isParallel, isHistory}
+use Rattle.definition.specs.Tables.{kindAt, parentAt, chartOf}
+use Rattle.definition.specs.Tree.{ancestors, anchor}
+use Rattle.definition.specs.Rules.{nearestCommon, isApart, areApart}
+use Rattle.laws.specs.Bools.{clash, and-left, and-right, and-true, bool-case}
+use Rattle.laws.specs.Loops.{all-append}
+use Rattle.tables.specs.Ranges.{RowIn, RowsIn}
+use Rattle.tables.specs.Parts.{RowOf}
+
+-- ---- one pair
+
+-- the later row first
+unfoldable pub isApartFrom : Chart → ℕ → ℕ → Bool
+isApartFrom c y x = isApart c x y
+
+pub apart-from : (c : Chart) (x y z : ℕ) (b : Bool) → z ≡ x → b ≡ isApart c z y → b ≡ isApartFrom c y x
+unfolding isApartFrom
+apart-from c x y z b e h = h ∙ rw e
+
+module _ (numbers : List ℕ) (i : ℕ) (r : RowIn numbers i) where
+  pub anchor-self : isHistory (kindAt numbers i) ≡ false → RowOf numbers (anchor (chartOf numbers) i) i
+  unfolding anchor
+  anchor-self h = record { is = sym (rw h); row = r }
+
+  pub anchor-parent : (p : ℕ) → isHistory (kindAt numbers i) ≡ true → RowOf numbers (parentAt numbers i) p → RowOf numbers (anchor (chartOf numbers) i) p
+  unfolding anchor
+  anchor-parent p h q = record { is = q .is ∙ sym (rw h); row = q .row }
+
+-- the anchors a and b of x and y
+module _ (c : Chart) (x y a b : ℕ) (ea : a ≡ anchor c x) (eb : b ≡ anchor c y) where
+  apart-is : isApart c x y ≡ (not (eqb a b) && not (mem a (ancestors c b)) && not (mem b (ancestors c a)) && isParallel (kind c (nearestCommon c a b)))
+  unfolding isApart
+  apart-is = rw (← ea, ← eb)
+
+  pub apart-same : eqb a b ≡ true → false ≡ isApart c x y
+  apart-same h = sym (apart-is ∙ rw h)
+
+  module _ (n : eqb a b ≡ false) where
+    pub apart-under : mem a (ancestors c b) ≡ true → false ≡ isApart c x y
+    apart-under h = sym (apart-is ∙ rw (n, h))
+
+    module _ (u : mem a (ancestors c b) ≡ false) where
+      pub apart-over : mem b (ancestors c a) ≡ true → false ≡ isApart c x y
+      apart-over h = sym (apart-is ∙ rw (n, u, h))
+
+      pub apart-nearest : (r : ℕ) → mem b (ancestors c a) ≡ false → r ≡ nearestCommon c a b → isParallel (kind c r) ≡ isApart c x y
+      apart-nearest r h e = rw e (sym (apart-is ∙ rw (n, u, h)))
+
+-- ---- a list, from its start
+
+module _ (c : Chart) where
+  apart-last : (xs : List ℕ) (y : ℕ) → areApart c (xs ++ (y ∷ [])) ≡ (areApart c xs && all (isApartFrom c y) xs)
+  unfolding areApart all isApartFrom
+  apart-last [] y = refl
+  apart-last (x ∷ xs) y =
+      rw (all-append (isApart c x) xs (y ∷ []), apart-last xs y) (turn (all (isApart c x) xs) (isApart c x y) (areApart c xs) (all (isApartFrom c y) xs))
+    where
+      turn : (p q r s : Bool) → ((p && (q && true)) && (r && s)) ≡ ((p && r) && (q && s))
+      turn true true r s = refl
+      turn true false true s = refl
+      turn true false false s = refl
+      turn false q r s = refl
+
+  -- the start of a list that stands apart does
+  apart-start : (xs ys : List ℕ) → areApart c (xs ++ ys) ≡ true → areApart c xs ≡ true
+  unfolding areApart
+  apart-start [] ys h = refl
+  apart-start (x ∷ xs) ys h =
+      and-true (all (isApart c x) xs) (areApart c xs)
+      (and-left (all (isApart c x) xs) (all (isApart c x) ys) (sym (all-append (isApart c x) xs ys) ∙ and-left (all (isApart c x) (xs ++ ys)) _ h))
+      (apart-start xs ys (and-right (all (isApart c x) (xs ++ ys)) _ h))
+
+  take-more : (xs : List ℕ) (k : ℕ) → k < length xs → take (k + 1) xs ≡ take k xs ++ (getD xs k 0 ∷ [])
+  take-more xs k l = rw (add-one k) (take-suc xs k 0 l)
+
+  module _ (xs : List ℕ) where
+    pub apart-begin : areApart c (take 0 xs) ≡ true
+    unfolding areApart
+    apart-begin = refl
+
+    pub apart-turn : (k y : ℕ) → k < length xs → y ≡ getD xs k 0 → areApart c (take k xs) ≡ true → all (isApartFrom c y) (take k xs) ≡ true → areApart c (take (k + 1) xs) ≡ true
+    apart-turn k y l e h g = rw (take-more xs k l) (apart-last (take k xs) (getD xs k 0) ∙ and-true _ _ h (rw (← e) g))
+
+    pub apart-leave : (k y : ℕ) → k < length xs → y ≡ getD xs k 0 → all (isApartFrom c y) (take k xs) ≡ false → false ≡ areApart c xs
+    apart-leave k y l e h =
+        bool-case (areApart c xs)
+        (λ w.
+        let start : areApart c (take (k + 1) xs) ≡ true = apart-start (take (k + 1) xs) (drop (k + 1) xs) (rw (take-append-drop (k + 1) xs) w) in
+        let last : (areApart c (take k xs) && all (isApartFrom c (getD xs k 0)) (take k xs)) ≡ true = sym (apart-last (take k xs) (getD xs k 0)) ∙ rw (← take-more xs k l) start in
+        absurd (clash _ (and-right (areApart c (take k xs)) _ last) (rw e at h)))
+        (λ w. sym w)
+
+    pub apart-done : (k : ℕ) → length xs ≤ k → areApart c (take k xs) ≡ true → true ≡ areApart c xs
+    apart-done k l h = sym (rw (take-all k xs l) at h)
+
+pub rows-take : (numbers xs : List ℕ) (k : ℕ) → RowsIn numbers xs → RowsIn numbers (take k xs)
+rows-take numbers xs k h =
+    record {
+      tables = h .tables;
+      low = λ j l. let m : j < k = omega (arith, length-take k xs) in rw (getD-take k xs j 0 m) (h .low j (omega (arith, length-take k xs)));
+    }

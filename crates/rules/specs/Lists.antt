@@ -1,0 +1,128 @@
+-- Rule 4: the lists and blocks of rows and transitions, as they were read.
+use mathlib.Core.Path.{_≡_, refl, sym, ap, _∙_}
+use mathlib.Core.Bool.{Bool, true, false, not, _&&_, _||_}
+use mathlib.Core.List.{List, [], _∷_}
+use Prim.Native.Nat.{ℕ, suc}
+use native.Mathlib.Omega.{arith}
+use lib.Dec.{eqb}
+use lib.ListN.{length}
+use borrow.Author.Tests.{eq-eqb, ne-eqb}
+use Rattle.definition.specs.declared.Action.{Action}
+use Rattle.definition.specs.Rows.{all, mem, from, isEmpty}
+use Rattle.definition.specs.Chart.{Chart, kind, isRoot, isState, isShallow, isHistory}
+use Rattle.definition.specs.Tables.{kindAt, parentAt, listAt, listBlockAt, chartOf}
+use Rattle.definition.specs.Tree.{isDescendant, isChild, isCompound, isDomainKind, ancestors}
+use Rattle.definition.specs.Rules.{areApart, initialFits, defaultFits, listFits, blocksFit, rowListsFit, isNoRoot, targetsFit, rule4}
+use Rattle.laws.specs.Lists.{empty-list}
+use Rattle.rowset.specs.declared.RowSet.{RowSet}
+use Rattle.rowset.specs.Member.{rowsOf}
+use Rattle.tables.specs.declared.Block.{Block}
+use Rattle.tables.specs.Parts.{BlockOf, block-empty}
+use Rattle.rules3.specs.Parents.{Marks, marks-children}
+
+-- ---- empty lists and blocks
+
+pub length-empty : {A : Type 0} (xs : List A) → eqb (length xs) 0 ≡ isEmpty xs
+unfolding isEmpty
+length-empty [] = refl
+length-empty (x ∷ xs) = ne-eqb (suc (length xs)) 0 (λ e. omega arith)
+
+pub block-none : (numbers : List ℕ) (xs : List Action) (b : Block) → BlockOf numbers xs b → eqb (b .count) 0 ≡ isEmpty xs
+block-none numbers xs b h = sym (block-empty numbers (b .start) (b .count)) ∙ ap isEmpty (h .is)
+
+module _ (xs l : List ℕ) (e : l ≡ xs) where
+  pub read-none : length l ≡ 0 → isEmpty xs ≡ true
+  read-none h = ap isEmpty (sym e) ∙ sym (length-empty l) ∙ eq-eqb (length l) 0 h
+
+  pub read-some : (length l ≡ 0 → ⊥) → isEmpty xs ≡ false
+  read-some h = ap isEmpty (sym e) ∙ sym (length-empty l) ∙ ne-eqb (length l) 0 h
+
+-- ---- the tests of one row
+
+pub descendant-is : (c : Chart) (a i : ℕ) (xs : List ℕ) (h m : Bool) → h ≡ isHistory (kind c i) → m ≡ mem a xs → ((x : ℕ) → mem x xs ≡ mem x (ancestors c i)) → (not h && m) ≡ isDescendant c a i
+unfolding isDescendant
+descendant-is c a i xs h m e f g = rw (e, f, g a)
+
+pub domain-is : (c : Chart) (s : RowSet) (i : ℕ) (b : Bool) → Marks (isChild c) (c .rows) s → b ≡ mem i (rowsOf s) → (isRoot (kind c i) || (isState (kind c i) && b)) ≡ isDomainKind c i
+unfolding isDomainKind isCompound
+domain-is c s i b m e = rw (e, marks-children c s m i)
+
+module _ (numbers : List ℕ) (i : ℕ) (l : List ℕ) (e : l ≡ listAt numbers i) where
+  abbrev chart : Chart
+  chart = chartOf numbers
+
+  pub initial-none : (b : Block) → length l ≡ 0 → BlockOf numbers (listBlockAt numbers i) b → eqb (b .count) 0 ≡ initialFits chart i
+  unfolding initialFits all
+  initial-none b h k = let z = read-none (listAt numbers i) l e h in block-none numbers (listBlockAt numbers i) b k ∙ sym (rw (z, empty-list (listAt numbers i) z))
+
+  pub initial-some : (t : Bool) → (length l ≡ 0 → ⊥) → t ≡ all (isDescendant chart i) l → t ≡ initialFits chart i
+  unfolding initialFits
+  initial-some t h f = f ∙ rw e (sym (rw (read-some (listAt numbers i) l e h) (and-yes (all (isDescendant chart i) (listAt numbers i)))))
+    where
+      and-yes : (x : Bool) → (x && true) ≡ x
+      and-yes true = refl
+      and-yes false = refl
+
+  pub unused-is : (b : Block) → BlockOf numbers (listBlockAt numbers i) b → (eqb (length l) 0 && eqb (b .count) 0) ≡ (isEmpty (listAt numbers i) && isEmpty (listBlockAt numbers i))
+  unused-is b k = rw (block-none numbers (listBlockAt numbers i) b k, length-empty l, e)
+
+  pub default-none : length l ≡ 0 → false ≡ defaultFits chart i
+  unfolding defaultFits
+  default-none h = sym (rw (read-none (listAt numbers i) l e h))
+
+  module _ (h : length l ≡ 0 → ⊥) (p : ℕ) (q : p ≡ parentAt numbers i) where
+    pub default-children : (t : Bool) → isShallow (kindAt numbers i) ≡ true → t ≡ all (isChild chart p) l → t ≡ defaultFits chart i
+    unfolding defaultFits
+    default-children t k f = f ∙ sym (rw (read-some (listAt numbers i) l e h, k, ← e, ← q))
+
+    pub default-descendants : (t : Bool) → isShallow (kindAt numbers i) ≡ false → t ≡ all (isDescendant chart p) l → t ≡ defaultFits chart i
+    unfolding defaultFits
+    default-descendants t k f = f ∙ sym (rw (read-some (listAt numbers i) l e h, k, ← e, ← q))
+
+module _ (c : Chart) (i : ℕ) where
+  pub list-initial : (t : Bool) → isDomainKind c i ≡ true → t ≡ initialFits c i → t ≡ listFits c i
+  unfolding listFits
+  list-initial t h e = e ∙ sym (rw h)
+
+  pub list-default : (t : Bool) → isDomainKind c i ≡ false → isHistory (kind c i) ≡ true → t ≡ defaultFits c i → t ≡ listFits c i
+  unfolding listFits
+  list-default t h k e = e ∙ sym (rw (h, k))
+
+  pub list-unused : (t : Bool) → isDomainKind c i ≡ false → isHistory (kind c i) ≡ false → t ≡ (isEmpty ((c .row) i .list) && isEmpty ((c .row) i .block)) → t ≡ listFits c i
+  unfolding listFits
+  list-unused t h k e = e ∙ sym (rw (h, k))
+
+  pub row-apart-no : areApart c ((c .row) i .list) ≡ false → false ≡ rowListsFit c i
+  unfolding rowListsFit
+  row-apart-no h = sym (rw h)
+
+  pub row-list-no : areApart c ((c .row) i .list) ≡ true → listFits c i ≡ false → false ≡ rowListsFit c i
+  unfolding rowListsFit
+  row-list-no h k = sym (rw (h, k))
+
+  pub row-blocks : (t : Bool) → areApart c ((c .row) i .list) ≡ true → listFits c i ≡ true → t ≡ blocksFit c i → t ≡ rowListsFit c i
+  unfolding rowListsFit
+  row-blocks t h k e = e ∙ sym (rw (h, k))
+
+  pub targets-apart-no : areApart c ((c .transition) i .targets) ≡ false → false ≡ targetsFit c i
+  unfolding targetsFit
+  targets-apart-no h = sym (rw h)
+
+  pub targets-roots : (t : Bool) → areApart c ((c .transition) i .targets) ≡ true → t ≡ all (isNoRoot c) ((c .transition) i .targets) → t ≡ targetsFit c i
+  unfolding targetsFit
+  targets-roots t h e = e ∙ sym (rw h)
+
+pub no-root-is : (c : Chart) (i x : ℕ) (r t : Bool) → i ≡ x → r ≡ isRoot (kind c i) → r ≡ t → isNoRoot c x ≡ not t
+unfolding isNoRoot
+no-root-is c i x r t e f g = rw (← e, ← f, g)
+
+-- ---- the rule
+
+module _ (c : Chart) where
+  pub lists-decide : all (rowListsFit c) (from (c .rows) 0) ≡ false → false ≡ rule4 c
+  unfolding rule4
+  lists-decide h = sym (rw h)
+
+  pub targets-decide : (t : Bool) → all (rowListsFit c) (from (c .rows) 0) ≡ true → t ≡ all (targetsFit c) (from (c .transitions) 0) → t ≡ rule4 c
+  unfolding rule4
+  targets-decide t h e = e ∙ sym (rw h)

@@ -1,0 +1,398 @@
+// Whether a lent chart is well formed: rules 4 and 5, and the verdict over all five.
+ghost use mathlib.Core.Path.{_≡_};
+ghost use mathlib.Core.Bool.{true};
+ghost use Rattle.definition.specs.Rows.{all, from};
+ghost use Rattle.definition.specs.Chart.{isHistory};
+ghost use Rattle.definition.specs.Tables.{rowCount, transitionCount, kindAt, sourceAt, conditionAt, transitionAt, chartOf};
+ghost use Rattle.definition.specs.Tree.{isDescendant, isChild, isDomainKind, anchor};
+ghost use Rattle.definition.specs.Rules.{isApart, areApart, initialFits, defaultFits, listFits, blocksFit, rowListsFit, isNoRoot, targetsFit, rule4, isInOrder, isSourceKind, hasUse, conditionFits, transitionFits, rule5, verdict, keepsRules};
+ghost use Rattle.rowset.specs.Member.{rowsOf};
+ghost use Rattle.tables.specs.Ranges.{InTables, RowIn, TransitionIn, RowsIn};
+ghost use Rattle.tables.specs.Parts.{RowOf};
+ghost use Rattle.rules3.specs.Parents.{TreeIn, Marks};
+ghost use Rattle.rules3.specs.Ancestry.{Climbed, highest};
+ghost use Rattle.rules.specs.Apart.{isApartFrom};
+use definition::Answer;
+use numbers::Row;
+use numbers::Transition;
+use rowset::Found;
+use rowset::RowSet;
+use tables::Condition;
+
+// ---- rule 4: rows that stand apart
+
+fn anchor_of(numbers: &[u64], r: Row) -> Row
+    requires { ⌜ TreeIn (now numbers) × RowIn (now numbers) (r .0) ⌝ }
+    ensures { λ a. ⌜ RowOf (now (numbers .entry)) (anchor (chartOf (now (numbers .entry))) (r .0)) (a .0) ⌝ }
+{
+    if tables::is_history(tables::kind_of(numbers, r)) {
+        return tables::parent_row(numbers, r);
+    }
+    r
+}
+
+// The last row of both sets, and row 0 where there is none.
+fn highest_common(a: RowSet, b: RowSet) -> Row
+    ensures { λ r. ⌜ r .0 ≡ highest (rowsOf a) (rowsOf b) ⌝ }
+{
+    match a.intersection(b).prev_below(256) {
+        Found::At(r) => r,
+        Found::Nothing => Row(0),
+    }
+}
+
+fn is_apart(numbers: &[u64], sets: &[u64], x: Row, y: Row) -> bool
+    requires { ⌜ Climbed (now numbers) (now sets) × RowIn (now numbers) (x .0) × RowIn (now numbers) (y .0) ⌝ }
+    ensures { λ b. ⌜ b ≡ isApart (chartOf (now (numbers .entry))) (x .0) (y .0) ⌝ }
+{
+    let a = anchor_of(numbers, x);
+    let b = anchor_of(numbers, y);
+    if numbers::same_row(a, b) {
+        return false;
+    }
+    let over_a = rules3::set_of(sets, a);
+    let over_b = rules3::set_of(sets, b);
+    if over_b.has(a) {
+        return false;
+    }
+    if over_a.has(b) {
+        return false;
+    }
+    let nearest = highest_common(over_a, over_b);
+    tables::is_parallel(tables::kind_of(numbers, nearest))
+}
+
+// Whether each row of the list stands apart from y.
+fn all_apart_from(numbers: &[u64], sets: &[u64], y: Row, list: &[u64]) -> bool
+    requires { ⌜ Climbed (now numbers) (now sets) × RowsIn (now numbers) (now list) × RowIn (now numbers) (y .0) ⌝ }
+    ensures { λ b. ⌜ b ≡ all (isApartFrom (chartOf (now (numbers .entry))) (y .0)) (now (list .entry)) ⌝ }
+{
+    let mut k = 0;
+    while k < list.len() {
+        if !is_apart(numbers, sets, tables::row_at(numbers, list, k), y) {
+            return false;
+        }
+        k += 1;
+    }
+    true
+}
+
+// Each row is held against those before it, so that a list longer than the chart ends at a row that it has twice.
+fn are_apart(numbers: &[u64], sets: &[u64], list: &[u64]) -> bool
+    requires { ⌜ Climbed (now numbers) (now sets) × RowsIn (now numbers) (now list) ⌝ }
+    ensures { λ b. ⌜ b ≡ areApart (chartOf (now (numbers .entry))) (now (list .entry)) ⌝ }
+{
+    let mut k = 0;
+    while k < list.len() {
+        let y = tables::row_at(numbers, list, k);
+        if !all_apart_from(numbers, sets, y, &list[..k]) {
+            return false;
+        }
+        k += 1;
+    }
+    true
+}
+
+// ---- rule 4: lists and blocks
+
+fn is_descendant(numbers: &[u64], sets: &[u64], a: Row, r: Row) -> bool
+    requires { ⌜ Climbed (now numbers) (now sets) × RowIn (now numbers) (r .0) ⌝ }
+    ensures { λ b. ⌜ b ≡ isDescendant (chartOf (now (numbers .entry))) (a .0) (r .0) ⌝ }
+{
+    !tables::is_history(tables::kind_of(numbers, r)) & rules3::set_of(sets, r).has(a)
+}
+
+fn all_descendants(numbers: &[u64], sets: &[u64], a: Row, list: &[u64]) -> bool
+    requires { ⌜ Climbed (now numbers) (now sets) × RowsIn (now numbers) (now list) ⌝ }
+    ensures { λ b. ⌜ b ≡ all (isDescendant (chartOf (now (numbers .entry))) (a .0)) (now (list .entry)) ⌝ }
+{
+    let mut k = 0;
+    while k < list.len() {
+        if !is_descendant(numbers, sets, a, tables::row_at(numbers, list, k)) {
+            return false;
+        }
+        k += 1;
+    }
+    true
+}
+
+fn is_child(numbers: &[u64], a: Row, r: Row) -> bool
+    requires { ⌜ RowIn (now numbers) (r .0) ⌝ }
+    ensures { λ b. ⌜ b ≡ isChild (chartOf (now (numbers .entry))) (a .0) (r .0) ⌝ }
+{
+    let p = tables::parent_of(numbers, r);
+    !tables::is_history(tables::kind_of(numbers, r)) & ((p < r.0 as u64) & (a.0 as u64 == p))
+}
+
+fn all_children(numbers: &[u64], a: Row, list: &[u64]) -> bool
+    requires { ⌜ RowsIn (now numbers) (now list) ⌝ }
+    ensures { λ b. ⌜ b ≡ all (isChild (chartOf (now (numbers .entry))) (a .0)) (now (list .entry)) ⌝ }
+{
+    let mut k = 0;
+    while k < list.len() {
+        if !is_child(numbers, a, tables::row_at(numbers, list, k)) {
+            return false;
+        }
+        k += 1;
+    }
+    true
+}
+
+fn no_roots(numbers: &[u64], list: &[u64]) -> bool
+    requires { ⌜ RowsIn (now numbers) (now list) ⌝ }
+    ensures { λ b. ⌜ b ≡ all (isNoRoot (chartOf (now (numbers .entry)))) (now (list .entry)) ⌝ }
+{
+    let mut k = 0;
+    while k < list.len() {
+        if tables::is_root(tables::kind_of(numbers, tables::row_at(numbers, list, k))) {
+            return false;
+        }
+        k += 1;
+    }
+    true
+}
+
+// Whether a row has an initial list: the root and the compounds.
+fn is_domain_kind(numbers: &[u64], children: RowSet, r: Row) -> bool
+    requires { ⌜ RowIn (now numbers) (r .0) × Marks (isChild (chartOf (now numbers))) (rowCount (now numbers)) children ⌝ }
+    ensures { λ b. ⌜ b ≡ isDomainKind (chartOf (now (numbers .entry))) (r .0) ⌝ }
+{
+    let kind = tables::kind_of(numbers, r);
+    tables::is_root(kind) | (tables::is_state(kind) & children.has(r))
+}
+
+fn initial_fits(numbers: &[u64], sets: &[u64], r: Row) -> bool
+    requires { ⌜ Climbed (now numbers) (now sets) × RowIn (now numbers) (r .0) ⌝ }
+    ensures { λ b. ⌜ b ≡ initialFits (chartOf (now (numbers .entry))) (r .0) ⌝ }
+{
+    let list = tables::list_of(numbers, r);
+    if list.len() == 0 {
+        let block = tables::list_block_of(numbers, r);
+        return block.count == 0;
+    }
+    all_descendants(numbers, sets, r, list)
+}
+
+fn default_fits(numbers: &[u64], sets: &[u64], r: Row) -> bool
+    requires { ⌜ Climbed (now numbers) (now sets) × RowIn (now numbers) (r .0) × (isHistory (kindAt (now numbers) (r .0)) ≡ true) ⌝ }
+    ensures { λ b. ⌜ b ≡ defaultFits (chartOf (now (numbers .entry))) (r .0) ⌝ }
+{
+    let list = tables::list_of(numbers, r);
+    if list.len() == 0 {
+        return false;
+    }
+    let p = tables::parent_row(numbers, r);
+    if tables::is_shallow(tables::kind_of(numbers, r)) {
+        return all_children(numbers, p, list);
+    }
+    all_descendants(numbers, sets, p, list)
+}
+
+fn list_fits(numbers: &[u64], sets: &[u64], children: RowSet, r: Row) -> bool
+    requires { ⌜ Climbed (now numbers) (now sets) × Marks (isChild (chartOf (now numbers))) (rowCount (now numbers)) children × RowIn (now numbers) (r .0) ⌝ }
+    ensures { λ b. ⌜ b ≡ listFits (chartOf (now (numbers .entry))) (r .0) ⌝ }
+{
+    if is_domain_kind(numbers, children, r) {
+        return initial_fits(numbers, sets, r);
+    }
+    if tables::is_history(tables::kind_of(numbers, r)) {
+        return default_fits(numbers, sets, r);
+    }
+    let list = tables::list_of(numbers, r);
+    let block = tables::list_block_of(numbers, r);
+    (list.len() == 0) & (block.count == 0)
+}
+
+fn blocks_fit(numbers: &[u64], r: Row) -> bool
+    requires { ⌜ RowIn (now numbers) (r .0) ⌝ }
+    ensures { λ b. ⌜ b ≡ blocksFit (chartOf (now (numbers .entry))) (r .0) ⌝ }
+{
+    let kind = tables::kind_of(numbers, r);
+    let root = tables::is_root(kind);
+    let block = tables::list_block_of(numbers, r);
+    let entry = tables::entry_block_of(numbers, r);
+    let exit = tables::exit_block_of(numbers, r);
+    (!root | (block.count == 0))
+        & (!(root | tables::is_history(kind)) | ((entry.count == 0) & (exit.count == 0)))
+}
+
+fn row_lists_fit(numbers: &[u64], sets: &[u64], children: RowSet, r: Row) -> bool
+    requires { ⌜ Climbed (now numbers) (now sets) × Marks (isChild (chartOf (now numbers))) (rowCount (now numbers)) children × RowIn (now numbers) (r .0) ⌝ }
+    ensures { λ b. ⌜ b ≡ rowListsFit (chartOf (now (numbers .entry))) (r .0) ⌝ }
+{
+    if !are_apart(numbers, sets, tables::list_of(numbers, r)) {
+        return false;
+    }
+    if !list_fits(numbers, sets, children, r) {
+        return false;
+    }
+    blocks_fit(numbers, r)
+}
+
+fn lists_fit(numbers: &[u64], sets: &[u64], children: RowSet) -> bool
+    requires { ⌜ Climbed (now numbers) (now sets) × Marks (isChild (chartOf (now numbers))) (rowCount (now numbers)) children ⌝ }
+    ensures { λ b. ⌜ b ≡ all (rowListsFit (chartOf (now (numbers .entry)))) (from (rowCount (now (numbers .entry))) 0) ⌝ }
+{
+    let n = tables::row_count(numbers);
+    let mut i = 0;
+    while i < n {
+        if !row_lists_fit(numbers, sets, children, Row(i as u8)) {
+            return false;
+        }
+        i += 1;
+    }
+    true
+}
+
+fn targets_fit(numbers: &[u64], sets: &[u64], t: Transition) -> bool
+    requires { ⌜ Climbed (now numbers) (now sets) × TransitionIn (now numbers) (t .0) ⌝ }
+    ensures { λ b. ⌜ b ≡ targetsFit (chartOf (now (numbers .entry))) (t .0) ⌝ }
+{
+    let targets = tables::targets_of(numbers, t);
+    if !are_apart(numbers, sets, targets) {
+        return false;
+    }
+    no_roots(numbers, targets)
+}
+
+fn all_targets_fit(numbers: &[u64], sets: &[u64]) -> bool
+    requires { ⌜ Climbed (now numbers) (now sets) ⌝ }
+    ensures { λ b. ⌜ b ≡ all (targetsFit (chartOf (now (numbers .entry)))) (from (transitionCount (now (numbers .entry))) 0) ⌝ }
+{
+    let n = tables::transition_count(numbers);
+    let mut i = 0;
+    while i < n {
+        if !targets_fit(numbers, sets, Transition(i as u16)) {
+            return false;
+        }
+        i += 1;
+    }
+    true
+}
+
+fn keeps_lists(numbers: &[u64]) -> bool
+    requires { ⌜ TreeIn (now numbers) ⌝ }
+    ensures { λ b. ⌜ b ≡ rule4 (chartOf (now (numbers .entry))) ⌝ }
+{
+    let mut sets = [0u64; 1024];
+    rules3::put_ancestors(numbers, &mut sets);
+    let both = rules3::gather_parents(numbers);
+    let children = both.children;
+    if !lists_fit(numbers, &sets, children) {
+        return false;
+    }
+    all_targets_fit(numbers, &sets)
+}
+
+// ---- rule 5
+
+fn is_in_order(numbers: &[u64], t: Transition) -> bool
+    requires { ⌜ TransitionIn (now numbers) (t .0) ⌝ }
+    ensures { λ b. ⌜ b ≡ isInOrder (chartOf (now (numbers .entry))) (t .0) ⌝ }
+{
+    let k = t.0;
+    if k == 0 {
+        return true;
+    }
+    let before = tables::source_of(numbers, Transition(k - 1));
+    let own = tables::source_of(numbers, t);
+    before.0 <= own.0
+}
+
+fn has_source(numbers: &[u64], t: Transition) -> bool
+    requires { ⌜ TransitionIn (now numbers) (t .0) ⌝ }
+    ensures { λ b. ⌜ b ≡ isSourceKind (kindAt (now (numbers .entry)) (sourceAt (now (numbers .entry)) (t .0))) ⌝ }
+{
+    let kind = tables::kind_of(numbers, tables::source_of(numbers, t));
+    tables::is_state(kind) | tables::is_parallel(kind)
+}
+
+fn has_use(numbers: &[u64], t: Transition) -> bool
+    requires { ⌜ TransitionIn (now numbers) (t .0) ⌝ }
+    ensures { λ b. ⌜ b ≡ hasUse (transitionAt (now (numbers .entry)) (t .0)) ⌝ }
+{
+    let descriptors = tables::descriptors_of(numbers, t);
+    if descriptors.len() != 0 {
+        return true;
+    }
+    let targets = tables::targets_of(numbers, t);
+    if targets.len() != 0 {
+        return true;
+    }
+    match tables::condition_of(numbers, t) {
+        Condition::Always => false,
+        Condition::In(_) => true,
+    }
+}
+
+fn condition_fits(numbers: &[u64], t: Transition) -> bool
+    requires { ⌜ TransitionIn (now numbers) (t .0) ⌝ }
+    ensures { λ b. ⌜ b ≡ conditionFits (chartOf (now (numbers .entry))) (conditionAt (now (numbers .entry)) (t .0)) ⌝ }
+{
+    match tables::condition_of(numbers, t) {
+        Condition::Always => true,
+        Condition::In(r) => {
+            let kind = tables::kind_of(numbers, r);
+            tables::is_state(kind) | tables::is_parallel(kind) | tables::is_final(kind)
+        }
+    }
+}
+
+fn transition_fits(numbers: &[u64], t: Transition) -> bool
+    requires { ⌜ TransitionIn (now numbers) (t .0) ⌝ }
+    ensures { λ b. ⌜ b ≡ transitionFits (chartOf (now (numbers .entry))) (t .0) ⌝ }
+{
+    is_in_order(numbers, t)
+        & has_source(numbers, t)
+        & has_use(numbers, t)
+        & condition_fits(numbers, t)
+}
+
+fn keeps_transitions(numbers: &[u64]) -> bool
+    requires { ⌜ InTables (now numbers) ⌝ }
+    ensures { λ b. ⌜ b ≡ rule5 (chartOf (now (numbers .entry))) ⌝ }
+{
+    let n = tables::transition_count(numbers);
+    let mut i = 0;
+    while i < n {
+        if !transition_fits(numbers, Transition(i as u16)) {
+            return false;
+        }
+        i += 1;
+    }
+    true
+}
+
+// ---- the verdict
+
+// The answer to compiling the chart into places of room numbers and name_room bytes: the first rule broken, for any numbers and bytes.
+pub fn verdict(numbers: &[u64], names: &[u8], room: usize, name_room: usize) -> Answer
+    ensures { λ r. ⌜ r ≡ verdict (now (numbers .entry)) (now (names .entry)) room «name_room» ⌝ }
+{
+    if !rules1::keeps_sizes(numbers, names, room, name_room) {
+        return Answer::Size;
+    }
+    if !rules1::keeps_names(numbers, names) {
+        return Answer::Names;
+    }
+    if !rules3::keeps_tree(numbers) {
+        return Answer::Tree;
+    }
+    if !keeps_lists(numbers) {
+        return Answer::Lists;
+    }
+    if !keeps_transitions(numbers) {
+        return Answer::Transitions;
+    }
+    Answer::Done
+}
+
+// The same where the places are of the right size: does the chart keep the rules.
+pub fn keeps_rules(numbers: &[u64], names: &[u8]) -> Answer
+    ensures { λ r. ⌜ r ≡ keepsRules (now (numbers .entry)) (now (names .entry)) ⌝ }
+{
+    if !tables::counts_fit(numbers) {
+        return Answer::Size;
+    }
+    verdict(numbers, names, tables::compiled_size(numbers), names.len())
+}

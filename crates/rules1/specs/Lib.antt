@@ -1,0 +1,4 @@
+pub mod Inside
+pub mod Ids
+pub mod Raises
+pub mod Verdicts

@@ -1,0 +1,231 @@
+-- The ancestors of every row, as sets of four words each, one after the other; and the nearest common ancestor as the last row of two sets.
+use mathlib.Core.Path.{_≡_, refl, sym, ap, _∙_}
+use mathlib.Core.Bool.{true, _&&_}
+use mathlib.Core.List.{List, [], _∷_}
+use mathlib.Core.Option.{Option, none, some}
+use Prim.Native.Nat.{ℕ, zero, suc, _+_, _*_, _<_, _≤_}
+use native.Mathlib.Omega.{arith}
+use lib.ListN.{length, getD, set, length-set}
+use lib.Seq.{getD-set-same, getD-set-other}
+use Rattle.definition.specs.Rows.{mem, isIn, first, orElse, insert, intersection}
+use Rattle.definition.specs.Chart.{Chart, parent}
+use Rattle.definition.specs.Tables.{rowCount, part, chartOf}
+use Rattle.definition.specs.Tree.{ancestors}
+use Rattle.definition.specs.Rules.{nearestCommon}
+use Rattle.laws.specs.Bools.{no, not-so, eq-case, and-left, and-right, and-true}
+use Rattle.laws.specs.Sets.{Ascends, ascends-intersection, mem-intersection, mem-insert}
+use Rattle.laws.specs.Lists.{Pairs, first-some}
+use Rattle.laws.specs.Orders.{lt-case, first-missing, leads-first}
+use Rattle.theory.specs.Tree.{ancestors-on, ancestors-top, ancestor-low}
+use Rattle.numbers.specs.declared.Row.{Row}
+use Rattle.rowset.specs.declared.RowSet.{RowSet}
+use Rattle.rowset.specs.declared.Found.{Found}
+use Rattle.rowset.specs.declared.Found.the-variants.{At, Nothing}
+use Rattle.rowset.specs.Member.{rowsOf, prevIn}
+use Rattle.rowset.specs.Rows.{ascends-rows, rows-low}
+use Rattle.rowset.specs.Search.{PrevAt, prev-at, none-prev}
+use Rattle.tables.specs.Ranges.{RowIn}
+use Rattle.tables.specs.Parts.{part-four}
+use Rattle.rules3.specs.Parents.{TreeIn}
+
+-- ---- sets of four words
+
+unfoldable pub setOf : List ℕ → ℕ → RowSet
+setOf sets i = record { w0 = getD sets (i * 4) 0; w1 = getD sets (i * 4 + 1) 0; w2 = getD sets (i * 4 + 2) 0; w3 = getD sets (i * 4 + 3) 0 }
+
+-- the set of row i is s, and no other has changed
+pub record Put (sets : List ℕ) (i : ℕ) (s : RowSet) (after : List ℕ) : Type 0 where
+  pub size : length after ≡ length sets
+  pub own : setOf after i ≡ s
+  pub other : (k : ℕ) → (k ≡ i → ⊥) → setOf after k ≡ setOf sets k
+
+pub set-read : (sets : List ℕ) (i : ℕ) (s : RowSet) → i * 4 + 4 ≤ length sets → s .w0 ∷ s .w1 ∷ s .w2 ∷ s .w3 ∷ [] ≡ part sets (i * 4) 4 → s ≡ setOf sets i
+unfolding setOf
+set-read sets i s l e =
+    let q : s .w0 ∷ s .w1 ∷ s .w2 ∷ s .w3 ∷ [] ≡ getD sets (i * 4) 0 ∷ getD sets (i * 4 + 1) 0 ∷ getD sets (i * 4 + 2) 0 ∷ getD sets (i * 4 + 3) 0 ∷ [] = e ∙ sym (part-four sets (i * 4) l) in
+    go s (getD sets (i * 4) 0) (getD sets (i * 4 + 1) 0) (getD sets (i * 4 + 2) 0) (getD sets (i * 4 + 3) 0) q
+  where
+    go : (s : RowSet) (a b c d : ℕ) → s .w0 ∷ s .w1 ∷ s .w2 ∷ s .w3 ∷ [] ≡ a ∷ b ∷ c ∷ d ∷ [] → s ≡ record { w0 = a; w1 = b; w2 = c; w3 = d }
+    go s a b c d q =
+        let e0 : s .w0 ≡ a = cc in
+        let e1 : s .w1 ≡ b = cc in
+        let e2 : s .w2 ≡ c = cc in
+        let e3 : s .w3 ≡ d = cc in
+        rw (← e0, ← e1, ← e2, ← e3)
+
+-- four stores, one after the other
+module _ (xs : List ℕ) (j a b c d : ℕ) where
+  abbrev xs1 : List ℕ
+  xs1 = set xs j a
+
+  abbrev xs2 : List ℕ
+  xs2 = set xs1 (j + 1) b
+
+  abbrev xs3 : List ℕ
+  xs3 = set xs2 (j + 2) c
+
+  abbrev xs4 : List ℕ
+  xs4 = set xs3 (j + 3) d
+
+  stored-outside : (k : ℕ) → (k ≡ j → ⊥) → (k ≡ j + 1 → ⊥) → (k ≡ j + 2 → ⊥) → (k ≡ j + 3 → ⊥) → getD xs4 k 0 ≡ getD xs k 0
+  stored-outside k n0 n1 n2 n3 =
+      getD-set-other xs3 (j + 3) k d 0 n3 ∙ getD-set-other xs2 (j + 2) k c 0 n2 ∙ getD-set-other xs1 (j + 1) k b 0 n1 ∙ getD-set-other xs j k a 0 n0
+
+  stored-length : length xs4 ≡ length xs
+  stored-length = simp length-set
+
+  module _ (l : j + 4 ≤ length xs) where
+    stored0 : getD xs4 j 0 ≡ a
+    stored0 =
+        getD-set-other xs3 (j + 3) j d 0 (λ e. omega arith) ∙ getD-set-other xs2 (j + 2) j c 0 (λ e. omega arith) ∙
+        getD-set-other xs1 (j + 1) j b 0 (λ e. omega arith) ∙ getD-set-same xs j a 0 (omega arith)
+
+    stored1 : getD xs4 (j + 1) 0 ≡ b
+    stored1 =
+        getD-set-other xs3 (j + 3) (j + 1) d 0 (λ e. omega arith) ∙ getD-set-other xs2 (j + 2) (j + 1) c 0 (λ e. omega arith) ∙
+        getD-set-same xs1 (j + 1) b 0 (omega (arith, length-set xs j a))
+
+    stored2 : getD xs4 (j + 2) 0 ≡ c
+    stored2 =
+        getD-set-other xs3 (j + 3) (j + 2) d 0 (λ e. omega arith) ∙ getD-set-same xs2 (j + 2) c 0 (omega (arith, length-set xs j a, length-set xs1 (j + 1) b))
+
+    stored3 : getD xs4 (j + 3) 0 ≡ d
+    stored3 = getD-set-same xs3 (j + 3) d 0 (omega (arith, length-set xs j a, length-set xs1 (j + 1) b, length-set xs2 (j + 2) c))
+
+pub set-put : (sets : List ℕ) (i : ℕ) (s : RowSet) → i * 4 + 4 ≤ length sets → Put sets i s (xs4 sets (i * 4) (s .w0) (s .w1) (s .w2) (s .w3))
+unfolding setOf
+set-put sets i s l =
+    record {
+      size = stored-length sets (i * 4) (s .w0) (s .w1) (s .w2) (s .w3);
+      own = rw (
+        stored0 sets (i * 4) (s .w0) (s .w1) (s .w2) (s .w3) l,
+        stored1 sets (i * 4) (s .w0) (s .w1) (s .w2) (s .w3) l,
+        stored2 sets (i * 4) (s .w0) (s .w1) (s .w2) (s .w3) l,
+        stored3 sets (i * 4) (s .w0) (s .w1) (s .w2) (s .w3) l,
+      );
+      other = λ k d. rw (
+        out k d (k * 4) (omega arith) (omega arith),
+        out k d (k * 4 + 1) (omega arith) (omega arith),
+        out k d (k * 4 + 2) (omega arith) (omega arith),
+        out k d (k * 4 + 3) (omega arith) (omega arith),
+      );
+    }
+  where
+    out : (k : ℕ) → (k ≡ i → ⊥) → (x : ℕ) → k * 4 ≤ x → x < k * 4 + 4 → getD (xs4 sets (i * 4) (s .w0) (s .w1) (s .w2) (s .w3)) x 0 ≡ getD sets x 0
+    out k d x a b =
+        stored-outside sets (i * 4) (s .w0) (s .w1) (s .w2) (s .w3) x (λ e. d (omega arith)) (λ e. d (omega arith)) (λ e. d (omega arith)) (λ e. d (omega arith))
+
+-- ---- the ancestors of the first n rows
+
+pub record Ancestry (numbers : List ℕ) (n : ℕ) (sets : List ℕ) : Type 0 where
+  pub size : rowCount numbers * 4 ≤ length sets
+  pub at : (i : ℕ) → i < n → (a : ℕ) → mem a (rowsOf (setOf sets i)) ≡ mem a (ancestors (chartOf numbers) i)
+
+-- tables whose parents fit, and beside them the sets
+pub record Climbed (numbers sets : List ℕ) : Type 0 where
+  pub tree : TreeIn numbers
+  pub ancestry : Ancestry numbers (rowCount numbers) sets
+
+-- the set of row i, as it was read
+pub set-mem : (numbers sets : List ℕ) (i : ℕ) (s : RowSet) → Climbed numbers sets → i < rowCount numbers → s ≡ setOf sets i → (a : ℕ) → mem a (rowsOf s) ≡ mem a (ancestors (chartOf numbers) i)
+set-mem numbers sets i s h l e a = rw e (h .ancestry .at i l a)
+
+module _ (numbers sets : List ℕ) (s : RowSet) (after : List ℕ) where
+  pub ancestry-begin : rowCount numbers * 4 ≤ length sets → rowsOf s ≡ [] → Put sets 0 s after → Ancestry numbers 1 after
+  unfolding ancestors mem
+  ancestry-begin l e p =
+      let q = p .size in
+      record { size = omega arith; at = λ i m a. let z : i ≡ 0 = omega arith in rw (z, p .own, e) }
+
+  pub ancestry-turn : (i q : ℕ) (above : RowSet) → Ancestry numbers i sets → 0 < i → q ≡ parent (chartOf numbers) i → parent (chartOf numbers) i < i → above ≡ setOf sets q →
+      rowsOf s ≡ insert q (rowsOf above) → Put sets i s after → Ancestry numbers (i + 1) after
+  unfolding mem
+  ancestry-turn i q above h z e m f g p =
+      let y = h .size in
+      let w = p .size in
+      record { size = omega arith; at = λ k n a. eq-case k i (λ d. rw d (own a)) (λ d. ap (λ (r : RowSet). mem a (rowsOf r)) (p .other k d) ∙ h .at k (omega arith) a) }
+    where
+      own : (a : ℕ) → mem a (rowsOf (setOf after i)) ≡ mem a (ancestors (chartOf numbers) i)
+      own a =
+          let n : q < i = rw e m in
+          rw (p .own, g, mem-insert a q (rowsOf above), f, h .at q n a, ancestors-on (chartOf numbers) i m, e)
+
+pub ancestry-end : (numbers sets : List ℕ) (i m n : ℕ) → m ≤ i → m ≡ n → Ancestry numbers i sets → Ancestry numbers n sets
+ancestry-end numbers sets i m n l e h = record { size = h .size; at = λ k b. h .at k (omega arith) }
+
+-- ---- the nearest common ancestor
+
+-- the ancestors of a row go down
+module _ (c : Chart) where
+  ancestors-down : (i : ℕ) → Pairs (λ x y. y < x) (ancestors c i)
+  ancestors-down i = go i i (omega arith)
+    where
+      go : (n i : ℕ) → i ≤ n → Pairs (λ x y. y < x) (ancestors c i)
+      go zero i l = rw (ancestors-top c i (omega arith)) tt
+      go (suc n) i l =
+          lt-case (parent c i) i (λ h. rw (ancestors-on c i h) ((λ y m. ancestor-low c (parent c i) y m), go n (parent c i) (omega arith)))
+          (λ h. rw (ancestors-top c i h) tt)
+
+abbrev rowIn : Found → ℕ
+rowIn (At r) = r .0
+rowIn Nothing = 0
+
+-- the last row of both, and 0 where there is none
+unfoldable pub highest : List ℕ → List ℕ → ℕ
+highest xs ys = rowIn (prevIn (intersection xs ys) 256)
+
+module _ (xs ys zs : List ℕ) (o : Found) (e : zs ≡ intersection xs ys) (f : o ≡ prevIn zs 256) where
+  pub highest-at : (r : Row) → o ≡ At r → r .0 ≡ highest xs ys
+  unfolding highest
+  highest-at r h = sym (rw (← e, ← f, h))
+
+  pub highest-none : o ≡ Nothing → 0 ≡ highest xs ys
+  unfolding highest
+  highest-none h = sym (rw (← e, ← f, h))
+
+module _ (c : Chart) (a b : ℕ) (s t : RowSet) (hs : (x : ℕ) → mem x (rowsOf s) ≡ mem x (ancestors c a)) (ht : (x : ℕ) → mem x (rowsOf t) ≡ mem x (ancestors c b)) where
+  abbrev both : List ℕ
+  both = intersection (rowsOf s) (rowsOf t)
+
+  in-both : (x : ℕ) → mem x both ≡ (mem x (ancestors c a) && mem x (ancestors c b))
+  in-both x = mem-intersection x (rowsOf s) (rowsOf t) ∙ rw (hs x, ht x)
+
+  up-both : Ascends 0 both
+  up-both = ascends-intersection (rowsOf s) (rowsOf t) (ascends-rows s)
+
+  ancestor-small : (x : ℕ) → mem x (ancestors c a) ≡ true → x < 256
+  ancestor-small x m = rows-low s x (hs x ∙ m)
+
+  pub nearest-highest : highest (rowsOf s) (rowsOf t) ≡ nearestCommon c a b
+  unfolding highest nearestCommon orElse
+  nearest-highest = go (prevIn both 256) refl
+    where
+      go : (o : Found) → prevIn both 256 ≡ o → rowIn o ≡ orElse (first (isIn (ancestors c b)) (ancestors c a)) 0
+      go (At r) e =
+          let p : PrevAt both 256 (r .0) = prev-at both up-both 256 r e in
+          let m : (mem (r .0) (ancestors c a) && mem (r .0) (ancestors c b)) ≡ true = sym (in-both (r .0)) ∙ p .here in
+          let q : first (isIn (ancestors c b)) (ancestors c a) ≡ some (r .0) =
+          leads-first (λ x y. y < x) (isIn (ancestors c b)) (ancestors c a) (r .0) (ancestors-down c a) (record {
+            isin = and-left (mem (r .0) (ancestors c a)) _ m;
+            passes = and-right (mem (r .0) (ancestors c a)) _ m;
+            before = λ x n l. not-so _ (λ k. no (sym (p .none x l (ancestor-small x n)) ∙ in-both x ∙ and-true _ _ n k));
+          }) in
+          rw q
+      go Nothing e =
+          let q : first (isIn (ancestors c b)) (ancestors c a) ≡ none =
+          first-missing (isIn (ancestors c b)) (ancestors c a) (λ x n. not-so _ (λ k. no (sym (none-prev both 256 e x (ancestor-small x n)) ∙ in-both x ∙ and-true _ _ n k))) in
+          rw q
+
+pub nearest-low : (c : Chart) (a b : ℕ) → nearestCommon c a b ≤ a
+unfolding nearestCommon orElse
+nearest-low c a b = go (first (isIn (ancestors c b)) (ancestors c a)) refl
+  where
+    go : (o : Option ℕ) → first (isIn (ancestors c b)) (ancestors c a) ≡ o → orElse o 0 ≤ a
+    go none e = omega arith
+    go (some x) e = let l = ancestor-low c a x (first-some (isIn (ancestors c b)) (ancestors c a) x e .0) in omega arith
+
+pub nearest-row : (numbers : List ℕ) (a b r : ℕ) → RowIn numbers a → r ≡ nearestCommon (chartOf numbers) a b → RowIn numbers r
+nearest-row numbers a b r h e =
+    let l = nearest-low (chartOf numbers) a b in
+    let m = h .below in
+    record { tables = h .tables; below = rw e (omega arith) }
