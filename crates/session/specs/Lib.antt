@@ -4,3 +4,4 @@ pub mod Judged
 pub mod Parts
 pub mod Posting
 pub mod DoneNames
+pub mod Calling

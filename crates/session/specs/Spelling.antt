@@ -1,17 +1,16 @@
 -- A well-formed state has one spelling: the state is found again in its session, and a session that passes the test is the session of its state.
-use mathlib.Core.Path.{_≡_, refl, sym, ap, _∙_, fun-ext}
+use mathlib.Core.Path.{_≡_, refl, sym, ap, _∙_}
 use mathlib.Core.Bool.{true}
-use mathlib.Core.List.{List, [], map}
+use mathlib.Core.List.{[], map}
 use Prim.Native.Nat.{ℕ, _≤_}
 use native.Mathlib.Nat.{zero-add}
 use borrow.Author.Tests.{eqb-true, eq-eqb}
 use Rattle.definition.specs.Rows.{from}
 use Rattle.definition.specs.Chart.{Chart}
-use Rattle.definition.specs.Follower.{modeNo, Follower, nothingAt, noHistory, endedFollower}
+use Rattle.definition.specs.Follower.{modeNo, Follower, noHistory, endedFollower}
 use Rattle.definition.specs.Legal.{WellFormed, isWellFormed}
 use Rattle.laws.specs.Bools.{and7, and-left, and-right, and-true}
 use Rattle.laws.specs.Lists.{same-eq, same-self}
-use Rattle.laws.specs.Cells.{blank}
 use Rattle.laws.specs.Maps.{map-reads}
 use Rattle.theory.specs.Tree.{Tree}
 use Rattle.theory.specs.Accepted.{Sound}
@@ -22,7 +21,7 @@ use Rattle.session.specs.declared.Session.{Session}
 use Rattle.state.specs.State.{historyWords}
 use Rattle.session.specs.Sessions.{session, sessionOf, endedSession, view, sameSession, isSession}
 use Rattle.state.specs.Found.{mode-again, queue-again, history-reads, configuration-is}
-use Rattle.state.specs.Words.{words-none, none-stored, history-none}
+use Rattle.state.specs.Words.{words-none, history-none}
 
 -- ---- the state is found again
 
@@ -82,11 +81,10 @@ module _ (c : Chart) (g : Sound c) where
 
 -- ---- the session before any start, for every chart
 
-pub ended-spells : (c : Chart) → c .rows ≤ 256 → endedSession ≡ sessionOf (endedFollower c)
+pub ended-spells : (c : Chart) → endedSession ≡ sessionOf (endedFollower c)
 unfolding endedSession sessionOf endedFollower noHistory modeNo
-ended-spells c few =
-    let h : blank 1024 ≡ historyWords (map nothingAt (from (c .rows) 0)) =
-    history-none (c .rows) few ∙ ap (λ (f : ℕ → List ℕ). historyWords (map f (from (c .rows) 0))) (fun-ext (none-stored 1024)) in
+ended-spells c =
+    let h = history-none (c .rows) in
     let w = sym words-none in
     let q = sym queue-none in
     λ i. session (w i) (h i) (q i) (q i) 0 0 0

@@ -8,12 +8,16 @@ ghost use Rattle.definition.specs.Tables.{chartOf};
 ghost use Rattle.definition.specs.Marked.{slotOf};
 ghost use Rattle.rowset.specs.Member.{rowsOf};
 ghost use Rattle.chart.specs.Ready.{Ready};
-ghost use Rattle.session.specs.Sessions.{session, endedSession, isSession, postChecked};
+ghost use Rattle.session.specs.Sessions.{session, endedSession, isSession, postChecked, postOf, refusedRun};
+ghost use Rattle.session.specs.Calling.{Taken};
+ghost use Rattle.definition.specs.Compiled.{words};
+ghost use Rattle.definition.specs.Follower.{modeNo};
 ghost use Rattle.session.specs.Judged.{Lengths, holdsPlace, modeHolds};
 use definition::Answer;
 use definition::Status;
 use numbers::Row;
 use rowset::RowSet;
+use state::State;
 
 #[repr(C)]
 pub struct Session {
@@ -160,6 +164,49 @@ impl Session {
         }
     }
 
+    // The session that these parts make up.
+    fn of(state: State, history: [u64; 1024], internal: [u8; 2048], external: [u8; 2048]) -> Session
+        ensures { λ s. ⌜ s ≡ session (words (rowsOf (state .configuration))) history internal external (state .internal) (state .external) (modeNo (state .mode)) ⌝ }
+    {
+        let internal_count = state.internal;
+        let external_count = state.external;
+        let configuration = state.configuration;
+        let mode = state.mode;
+        Session {
+            configuration: state::words_of(configuration),
+            history: history,
+            internal: internal,
+            external: external,
+            internal_count: internal_count,
+            external_count: external_count,
+            mode: state::mode_number(mode),
+        }
+    }
+
+    // The parts that a run hands on by value.
+    fn state(self) -> State
+        ensures { λ p. ⌜ Taken self p ⌝ }
+    {
+        let configuration = chart::set_at(&self.configuration, 0);
+        State {
+            configuration: configuration,
+            internal: self.internal_count,
+            external: self.external_count,
+            mode: state::mode_from(self.mode),
+        }
+    }
+
+    fn refused(self, answer: Answer) -> Ran
+        ensures { λ r. ⌜ r ≡ refusedRun self answer ⌝ }
+    {
+        Ran {
+            session: self,
+            status: Status::Refused(answer),
+            rounds: 0,
+            count: 0,
+        }
+    }
+
     pub fn is_session(self, chart: &[u64]) -> bool
         requires { ⌜ Ready (now chart) ⌝ }
         ensures { λ b. ⌜ b ≡ isSession (chartOf (now (chart .entry))) self ⌝ }
@@ -180,7 +227,7 @@ impl Session {
     }
 
     // A post, the chart once checked: answers 9, 6, 11, 7 in this order, or the name last in the external queue.
-    pub fn post_checked(mut self, chart: &[u64], name: &[u8]) -> Posted
+    fn post_checked(mut self, chart: &[u64], name: &[u8]) -> Posted
         requires { ⌜ Ready (now chart) ⌝ }
         ensures { λ r. ⌜ r ≡ postChecked (chartOf (now (chart .entry))) self (now (name .entry)) ⌝ }
     {
@@ -226,5 +273,18 @@ impl Session {
             session: self,
             answer: Answer::Done,
         }
+    }
+
+    // A post: answers 8, 9, 6, 11, 7 in this order leave the session as it was.
+    pub fn post(self, chart: &[u64], names: &[u8], name: &[u8]) -> Posted
+        ensures { λ r. ⌜ r ≡ postOf self (now (chart .entry)) (now (names .entry)) (now (name .entry)) ⌝ }
+    {
+        if !compiler::check(chart, names) {
+            return Posted {
+                session: self,
+                answer: Answer::BadChart,
+            };
+        }
+        self.post_checked(chart, name)
     }
 }

@@ -5,17 +5,18 @@ use mathlib.Core.List.{List, [], _∷_, map}
 use Prim.Native.Nat.{ℕ, zero, suc, _+_, _*_, _^_, _≤_, _<_}
 use native.Mathlib.Nat.{zero-add, add-zero}
 use native.Mathlib.Omega.{arith}
-use lib.Dec.{ltb, lit<}
-use lib.ListN.{length, getD, drop, length-drop, length-replicate, List·getD-eq-default}
+use lib.Dec.{ltb}
+use lib.ListN.{length, getD, drop, length-drop, List·getD-eq-default, replicate-append-replicate}
 use lib.Seq.{getD-take, getD-drop, take-all, length-take-le}
 use borrow.Author.Tests.{ltb-true, ltb-false}
 use Rattle.definition.specs.Rows.{from, mem, fold, union, isSet}
 use Rattle.definition.specs.Compiled.{word, words}
 use Rattle.definition.specs.Microstep.{storedIn}
+use Rattle.definition.specs.Follower.{nothingAt}
 use Rattle.laws.specs.Bools.{bool-case, no}
 use Rattle.laws.specs.Lists.{set-ascends, set-below, ascends-set}
 use Rattle.laws.specs.Orders.{union-none}
-use Rattle.laws.specs.Cells.{cells, cell, blank, cells-ext, cells-length, cells-cut, cell-in, cell-behind}
+use Rattle.laws.specs.Cells.{cells, cell, blank, cells-ext, cells-length, cells-cut, cell-in, cell-behind, cells-none}
 use Rattle.laws.specs.Maps.{map-length, map-at}
 use Rattle.rowset.specs.declared.RowSet.{RowSet}
 use Rattle.rowset.specs.Member.{rowsOf, Fitting}
@@ -168,7 +169,14 @@ unfolding storedAt setAt
 none-stored n h =
     ap rowsOf (λ i. record { w0 = blank-at n (h * 4) i; w1 = blank-at n (h * 4 + 1) i; w2 = blank-at n (h * 4 + 2) i; w3 = blank-at n (h * 4 + 3) i }) ∙ rows-empty
 
--- the words of a history with nothing stored
-pub history-none : (rows : ℕ) → rows ≤ 256 → blank 1024 ≡ historyWords (map (storedAt (blank 1024)) (from rows 0))
-history-none rows few =
-    blank-history (blank 1024) rows (record { fits = λ k. rw (blank-at 1024 k) (lit< tt) }) (length-replicate {A = ℕ} 1024 0) few (λ h g l. none-stored 1024 h)
+-- the words of a history with nothing stored, for any number of rows
+nothing-cells : (k n i : ℕ) → cells words 4 k (map nothingAt (from n i)) ≡ blank (k * 4)
+unfolding from cells
+nothing-cells zero n i = refl
+nothing-cells (suc k) zero i = cells-none words 4 (suc k)
+nothing-cells (suc k) (suc n) i =
+    let e : 4 + k * 4 ≡ suc k * 4 = omega arith in
+    rw (words-none, nothing-cells k n (suc i)) (replicate-append-replicate 4 (k * 4) 0 ∙ ap blank e)
+
+pub history-none : (rows : ℕ) → blank 1024 ≡ historyWords (map nothingAt (from rows 0))
+history-none rows = sym (history-cells (map nothingAt (from rows 0)) ∙ nothing-cells 256 rows 0)

@@ -1,0 +1,11 @@
+pub mod Writing
+pub mod Upward
+pub mod Downward
+pub mod Compilable
+pub mod Targets
+pub mod Turns
+pub mod Copies
+pub mod Whole
+pub mod Compared
+pub mod Results
+pub mod Theorems

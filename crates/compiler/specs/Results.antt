@@ -1,0 +1,149 @@
+-- What compiling answers and leaves behind, and what the check says of a place.
+use mathlib.Core.Path.{_≡_, refl, sym, ap, _∙_}
+use mathlib.Core.Bool.{Bool, true, false, cond}
+use mathlib.Core.List.{List, [], _∷_, _++_, append-nil}
+use Prim.Native.Nat.{ℕ, _+_, _≤_, _<_}
+use native.Mathlib.Omega.{arith}
+use lib.Dec.{eqb}
+use lib.ListN.{length, take, drop, length-append, length-drop, take-append-drop}
+use lib.Seq.{length-take-le}
+use borrow.Author.Tests.{eq-eqb}
+use Rattle.definition.specs.declared.Answer.{Answer}
+use Rattle.definition.specs.declared.Answer.the-variants.{Done}
+use Rattle.definition.specs.Rows.{same}
+use Rattle.definition.specs.Tables.{tablesSize, chartOf}
+use Rattle.definition.specs.Rules.{countsFit, compiledSize, verdict}
+use Rattle.definition.specs.Follower.{answerNo}
+use Rattle.definition.specs.Compiled.{columns, compiled, ownNumbers, isCompiled}
+use Rattle.laws.specs.Bools.{clash, not-so}
+use Rattle.laws.specs.Passes.{drop-end}
+use Rattle.laws.specs.Parts.{part-end}
+use Rattle.theory.specs.Accepted.{verdict-rule1, verdict-sound}
+use Rattle.tables.specs.Ranges.{rule1-tables}
+use Rattle.chart.specs.Own.{Sizes, rule1-sizes, compiled-ready}
+use Rattle.chart.specs.Readers.{counts-fit}
+use Rattle.compiler.specs.Compilable.{Compilable, ColumnsRoom}
+use Rattle.compiler.specs.Whole.{lent, back, lent-is, back-is}
+
+abbrev pub isDone : Answer → Bool
+isDone a = eqb (answerNo a) 0
+
+-- the answer; and the two places afterwards: the compiled chart and its names, or what was there
+pub record Compiles (numbers names place namePlace : List ℕ) (answer : Answer) (after namesAfter : List ℕ) : Type 0 where
+  pub is : answer ≡ verdict numbers names (length place) (length namePlace)
+  pub chart : after ≡ cond (isDone answer) (compiled numbers) place
+  pub slots : namesAfter ≡ cond (isDone answer) names namePlace
+
+-- ---- the sizes that the counts ask for
+
+pub size-none : (fit : Bool) (n : ℕ) → fit ≡ false → 0 ≡ cond fit n 0
+size-none fit n e = rw e
+
+pub size-some : (fit : Bool) (n r : ℕ) → fit ≡ true → r ≡ n → r ≡ cond fit n 0
+size-some fit n r e f = rw (e) f
+
+-- ---- numbers that keep the rules
+
+module _ (numbers names : List ℕ) (room nameRoom : ℕ) (kept : verdict numbers names room nameRoom ≡ Done) where
+  pub verdict-compilable : Compilable numbers
+  verdict-compilable = record {
+    tables = rule1-tables numbers names room nameRoom (verdict-rule1 numbers names room nameRoom kept);
+    sound = verdict-sound numbers names room nameRoom kept;
+  }
+
+  pub verdict-sizes : Sizes numbers names room nameRoom
+  verdict-sizes = rule1-sizes numbers names room nameRoom (verdict-rule1 numbers names room nameRoom kept)
+
+  -- the sets fill what the numbers leave
+  pub columns-room : (sets : List ℕ) → length numbers + length sets ≡ room → ColumnsRoom numbers sets
+  unfolding compiledSize
+  columns-room sets e =
+      let z = verdict-sizes in
+      let p = z .place in
+      let q = z .tables in
+      record { numbersKeep = verdict-compilable; room = omega arith }
+
+-- ---- compiling
+
+pub refused : (numbers names place namePlace : List ℕ) (a : Answer) → a ≡ verdict numbers names (length place) (length namePlace) → isDone a ≡ false →
+    Compiles numbers names place namePlace a place namePlace
+refused numbers names place namePlace a e d = record { is = e; chart = rw d; slots = rw d }
+
+module _ (numbers names place namePlace copy : List ℕ) (a : Answer) (e : a ≡ verdict numbers names (length place) (length namePlace)) (d : a ≡ Done)
+    (copied : copy ≡ numbers ++ drop (length numbers) place) where
+  kept : verdict numbers names (length place) (length namePlace) ≡ Done
+  kept = sym e ∙ d
+
+  inside : length numbers ≤ length place
+  unfolding compiledSize
+  inside = let z = verdict-sizes numbers names (length place) (length namePlace) kept in let p = z .place in let q = z .tables in omega arith
+
+  copy-size : length copy ≡ length place
+  copy-size = let l = inside in ap length copied ∙ length-append numbers (drop (length numbers) place) ∙ rw (length-drop (length numbers) place) (omega arith)
+
+  behind : lent (length numbers) copy ≡ drop (length numbers) place
+  behind = lent-is numbers (drop (length numbers) place) copy (length numbers) copied refl
+
+  pub behind-room : ColumnsRoom numbers (lent (length numbers) copy)
+  behind-room =
+      let l = inside in
+      columns-room numbers names (length place) (length namePlace) kept (lent (length numbers) copy)
+      (rw behind (rw (length-drop (length numbers) place) (omega arith)))
+
+  pub accepted : (sets slots : List ℕ) → sets ≡ columns (chartOf numbers) → slots ≡ names ++ drop (length names) namePlace →
+      Compiles numbers names place namePlace Done (back (length numbers) copy sets) slots
+  unfolding compiled answerNo
+  accepted sets slots f g =
+      let s = verdict-sizes numbers names (length place) (length namePlace) kept .namePlace in
+      record {
+        is = sym kept;
+        chart = back-is numbers (drop (length numbers) place) copy (length numbers) copied refl sets ∙ rw f;
+        slots = g ∙ rw (drop-end (length names) namePlace (omega arith), append-nil names);
+      }
+
+-- the copy holds the numbers
+pub copy-holds : (numbers place copy : List ℕ) → copy ≡ numbers ++ drop (length numbers) place → length numbers ≤ length copy
+copy-holds numbers place copy e = let s = ap length e ∙ length-append numbers (drop (length numbers) place) in omega arith
+
+-- the copies fit
+pub numbers-fit : (numbers names place namePlace : List ℕ) (a : Answer) → a ≡ verdict numbers names (length place) (length namePlace) → a ≡ Done → length numbers ≤ length place
+numbers-fit numbers names place namePlace a e d = inside numbers names place namePlace (numbers ++ drop (length numbers) place) a e d refl
+
+pub names-fit : (numbers names place namePlace : List ℕ) (a : Answer) → a ≡ verdict numbers names (length place) (length namePlace) → a ≡ Done → length names ≤ length namePlace
+names-fit numbers names place namePlace a e d =
+    let s = verdict-sizes numbers names (length place) (length namePlace) (sym e ∙ d) .namePlace in omega arith
+
+-- ---- the check
+
+module _ (place names : List ℕ) where
+  pub no-counts : countsFit place ≡ false → false ≡ isCompiled place names
+  no-counts h =
+      sym (not-so (isCompiled place names) (λ e. clash (countsFit place) (counts-fit place (compiled-ready place names e .ready .tables .sized .counts)) h))
+
+  pub too-short : (n : ℕ) → n ≡ tablesSize place → length place < n → false ≡ isCompiled place names
+  too-short n e l =
+      sym (not-so (isCompiled place names) (λ h. let s = compiled-ready place names h .ready .tables .sized .size in omega arith))
+
+  pub check-refused : (n : ℕ) (a : Answer) → n ≡ tablesSize place → a ≡ verdict (take n place) names (length place) (length names) → isDone a ≡ false →
+      false ≡ isCompiled place names
+  unfolding isCompiled ownNumbers
+  check-refused n a e f d = rw (← e, ← f, d)
+
+same-behind : (p xs ys : List ℕ) → same (p ++ xs) (p ++ ys) ≡ same xs ys
+unfolding same
+same-behind [] xs ys = refl
+same-behind (x ∷ p) xs ys = rw (eq-eqb x x refl) (same-behind p xs ys)
+
+module _ (place names : List ℕ) (n : ℕ) (a : Answer) (size : n ≡ tablesSize place) (e : a ≡ verdict (take n place) names (length place) (length names)) (d : a ≡ Done)
+    (l : n ≤ length place) where
+  pub check-room : ColumnsRoom (take n place) (lent n place)
+  check-room =
+      columns-room (take n place) names (length place) (length names) (sym e ∙ d) (lent n place)
+      (rw (part-end n place, length-take-le n place l, length-drop n place) (omega arith))
+
+  pub checked : (b : Bool) → b ≡ same (lent n place) (columns (chartOf (take n place))) → b ≡ isCompiled place names
+  unfolding isCompiled ownNumbers compiled answerNo
+  checked b f =
+      f ∙ rw (part-end n place, ← size, ← e, d)
+      (sym (ap (λ (xs : List ℕ). same xs (take n place ++ columns (chartOf (take n place)))) (sym (take-append-drop n place)) ∙
+      same-behind (take n place) (drop n place) (columns (chartOf (take n place)))))

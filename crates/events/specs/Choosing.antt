@@ -1,0 +1,177 @@
+-- The choice of a round, case by case: what the code finds is what the definition's round goes by.
+use mathlib.Core.Path.{_≡_, refl, sym, ap, subst, _∙_}
+use mathlib.Core.Bool.{true}
+use mathlib.Core.List.{List, [], _∷_}
+use mathlib.Core.Option.{Option, none, some}
+use Prim.Native.Nat.{ℕ, _≤_, _<_}
+use native.Mathlib.Omega.{arith}
+use lib.ListN.{length, getD, drop}
+use Rattle.definition.specs.declared.Mode.the-variants.{Running}
+use Rattle.definition.specs.Rows.{mem, all}
+use Rattle.definition.specs.Names.{Name, isName}
+use Rattle.definition.specs.Chart.{Chart, Names}
+use Rattle.definition.specs.Tables.{nameAt, chartOf}
+use Rattle.definition.specs.Selection.{selected}
+use Rattle.definition.specs.Microstep.{storedIn}
+use Rattle.definition.specs.Follower.{Follower, taking, selectedBy, byExternal, byInternal, byEventless, roundIn}
+use Rattle.laws.specs.Lists.{set-below}
+use Rattle.laws.specs.Maps.{all-at}
+use Rattle.theory.specs.NameFacts.{name-length}
+use Rattle.theory.specs.Tree.{Tree}
+use Rattle.rowset.specs.Member.{rowsOf}
+use Rattle.chart.specs.Ready.{CompiledWith}
+use Rattle.matching.specs.Events.{eventOf}
+use Rattle.matching.specs.Chosen.{Within, chosenOf, chosen-length}
+use Rattle.selection.specs.declared.Selected.{Selected}
+use Rattle.selection.specs.History.{storedAt}
+use Rattle.selection.specs.Ready.{IsSelected, Selects}
+use Rattle.selection.specs.Kept.{selects-of}
+use Rattle.queue.specs.Queues.{queueBytes, first-name, queue-length}
+use Rattle.state.specs.declared.State.{State}
+use Rattle.state.specs.State.{Holds}
+use Rattle.state.specs.Words.{history-length}
+use Rattle.state.specs.Found.{configuration-set, history-is}
+use Rattle.events.specs.declared.Source.the-variants.{Nothing, Eventless, Internal, External}
+use Rattle.events.specs.Rounds.{internalAfter, externalAfter, roundBy, Chooses}
+
+-- ---- the name that has waited longest
+
+no-names : {A : Type 0} (xs : List A) → length xs ≤ 0 → xs ≡ []
+no-names [] l = refl
+no-names (x ∷ xs) l = absurd (omega arith)
+
+oldest-first : (queue : List Name) → 0 < length queue → queue ≡ getD queue 0 [] ∷ drop 1 queue
+oldest-first [] l = absurd (omega arith)
+oldest-first (name ∷ names) l = refl
+
+-- a name is never empty
+name-event : (name : Name) → isName name ≡ true → eventOf name ≡ some name
+unfolding eventOf
+name-event [] h = let l = name-length [] h .0 in absurd (omega arith)
+name-event (b ∷ bs) h = refl
+
+oldest-event : (queue : List Name) (bytes event : List ℕ) → bytes ≡ queueBytes queue → 0 < length queue → all isName queue ≡ true → event ≡ nameAt bytes 0 → eventOf event ≡ some (getD queue 0 [])
+oldest-event queue bytes event e l h q =
+    let n : isName (getD queue 0 []) ≡ true = all-at isName queue [] h 0 l in
+    ap eventOf (q ∙ ap (λ (xs : List ℕ). nameAt xs 0) (e ∙ ap queueBytes (oldest-first queue l)) ∙ first-name (getD queue 0 []) (drop 1 queue) n) ∙
+    name-event (getD queue 0 []) n
+
+-- ---- the definition's round
+
+module _ (c : Chart) (names : Names) (f : Follower) where
+  round-eventless : (ts : List ℕ) → 0 < length ts → byEventless c names f ts ≡ roundBy Eventless c names f ts
+  unfolding byEventless roundBy internalAfter externalAfter
+  round-eventless [] l = absurd (omega arith)
+  round-eventless (t ∷ ts) l = refl
+
+  round-internal : (queue : List Name) → 0 < length queue → byInternal c names f queue ≡ taking c names f (drop 1 queue) (f .external) (selectedBy c names f (some (getD queue 0 [])))
+  unfolding byInternal
+  round-internal [] l = absurd (omega arith)
+  round-internal (e ∷ es) l = refl
+
+  round-external : (queue : List Name) → 0 < length queue → byExternal c names f queue ≡ taking c names f [] (drop 1 queue) (selectedBy c names f (some (getD queue 0 [])))
+  unfolding byExternal
+  round-external [] l = absurd (omega arith)
+  round-external (e ∷ es) l = refl
+
+module _ (chart slots : List ℕ) (g : CompiledWith chart slots) (f : Follower) (s : State) (history internal external : List ℕ) (h : Holds (chartOf chart) f s history internal external) where
+  abbrev c : Chart
+  c = chartOf chart
+
+  abbrev names : Names
+  names = nameAt slots
+
+  abbrev t : Tree c
+  t = g .ready .sound .tree
+
+  pub conf-within : Within (c .rows) (rowsOf (s .configuration))
+  conf-within =
+      record { at = λ i m. set-below (c .rows) (f .configuration) (configuration-set c t f (h .formed)) i (sym (ap (mem i) (h .spells .configuration)) ∙ m) }
+
+  pub history-size : length history ≡ 1024
+  history-size = ap length (h .spells .historyIs) ∙ history-length (f .history)
+
+  pub internal-size : length internal ≡ 2048
+  internal-size = ap length (h .spells .internalIs) ∙ queue-length (f .internal)
+
+  pub external-size : length external ≡ 2048
+  external-size = ap length (h .spells .externalIs) ∙ queue-length (f .external)
+
+  history-read : storedAt history ≡ storedIn (f .history)
+  history-read = ap storedAt (h .spells .historyIs) ∙ history-is c t (let few = g .ready .tables .sized .counts .rows in omega arith) f (h .formed)
+
+  -- what was selected for the event
+  abbrev Found : List ℕ → Selected → Type 0
+  Found event r = IsSelected c (rowsOf (s .configuration)) (storedAt history) (selected c names (rowsOf (s .configuration)) (storedAt history) (eventOf event)) r
+
+  found-is : (event : List ℕ) (r : Selected) (o : Option Name) → Found event r → eventOf event ≡ o → chosenOf (r .chosen) ≡ selectedBy c names f o
+  unfolding selectedBy
+  found-is event r o k e = k .is ∙ rw (h .spells .configuration, history-read, e)
+
+  found-selects : (event : List ℕ) (r : Selected) → Found event r → Selects c (f .configuration) (storedAt history) r
+  found-selects event r k = subst (λ (conf : List ℕ). Selects c conf (storedAt history) r) (h .spells .configuration) (selects-of c _ (storedAt history) _ r k)
+
+  module _ (first : Selected) (k : Found [] first) where
+    eventless-is : chosenOf (first .chosen) ≡ selectedBy c names f none
+    eventless-is = found-is [] first none k (unfold eventOf in refl)
+
+    first-length : length (chosenOf (first .chosen)) ≡ first .chosen .len
+    first-length = chosen-length (c .transitions) (first .chosen) (k .fits)
+
+    pub choose-eventless : 0 < first .chosen .len → Chooses c names f (storedAt history) (record { source = Eventless; selected = first })
+    unfolding roundIn
+    choose-eventless l = record {
+      is = ap (byEventless c names f) (sym eventless-is) ∙ round-eventless c names f (chosenOf (first .chosen)) (let e = first-length in omega arith);
+      selected = found-selects [] first k;
+      internal = λ e. absurd (let z : _≡_ {A = ℕ} 0 1 = cc in omega arith);
+      external = λ e. absurd (let z : _≡_ {A = ℕ} 0 1 = cc in omega arith);
+    }
+
+    module _ (idle : first .chosen .len ≤ 0) where
+      not-eventless : roundIn Running c names f ≡ byInternal c names f (f .internal)
+      unfolding roundIn byEventless
+      not-eventless = ap (byEventless c names f) (sym eventless-is ∙ no-names (chosenOf (first .chosen)) (let e = first-length in omega arith))
+
+      pub choose-internal : 0 < s .internal → (event : List ℕ) (r : Selected) → event ≡ nameAt internal 0 → Found event r → Chooses c names f (storedAt history) (record { source = Internal; selected = r })
+      unfolding roundBy internalAfter externalAfter
+      choose-internal l event r q m =
+          let n = h .spells .internalCount in
+          let some-name : 0 < length (f .internal) = omega arith in
+          let e = oldest-event (f .internal) internal event (h .spells .internalIs) some-name (h .formed .internalNames) q in
+          record {
+            is = not-eventless ∙ round-internal c names f (f .internal) some-name ∙ ap (taking c names f (drop 1 (f .internal)) (f .external)) (sym (found-is event r _ m e));
+            selected = found-selects event r m;
+            internal = λ z y. let w = ap {B = ℕ} length y in absurd (omega arith);
+            external = λ z. absurd (let w : _≡_ {A = ℕ} 0 1 = cc in omega arith);
+          }
+
+      module _ (none-in : s .internal ≤ 0) where
+        internal-none : f .internal ≡ []
+        internal-none = let n = h .spells .internalCount in no-names (f .internal) (omega arith)
+
+        not-internal : roundIn Running c names f ≡ byExternal c names f (f .external)
+        unfolding byInternal
+        not-internal = not-eventless ∙ ap (byInternal c names f) internal-none
+
+        pub choose-external : 0 < s .external → (event : List ℕ) (r : Selected) → event ≡ nameAt external 0 → Found event r → Chooses c names f (storedAt history) (record { source = External; selected = r })
+        unfolding roundBy internalAfter externalAfter
+        choose-external l event r q m =
+            let n = h .spells .externalCount in
+            let some-name : 0 < length (f .external) = omega arith in
+            let e = oldest-event (f .external) external event (h .spells .externalIs) some-name (h .formed .externalNames) q in
+            record {
+              is = not-internal ∙ round-external c names f (f .external) some-name ∙ ap (taking c names f [] (drop 1 (f .external))) (sym (found-is event r _ m e)) ∙
+                  ap (λ (queue : List Name). taking c names f queue (drop 1 (f .external)) (chosenOf (r .chosen))) (sym internal-none);
+              selected = found-selects event r m;
+              internal = λ z. absurd (let w : _≡_ {A = ℕ} 0 1 = cc in omega arith);
+              external = λ z y. let w = ap {B = ℕ} length y in absurd (omega arith);
+            }
+
+        pub choose-nothing : s .external ≤ 0 → Chooses c names f (storedAt history) (record { source = Nothing; selected = first })
+        unfolding roundBy byExternal
+        choose-nothing l = record {
+          is = not-internal ∙ ap (byExternal c names f) (let n = h .spells .externalCount in no-names (f .external) (omega arith));
+          selected = found-selects [] first k;
+          internal = λ e. absurd (let z : _≡_ {A = ℕ} 0 1 = cc in omega arith);
+          external = λ e. absurd (let z : _≡_ {A = ℕ} 0 1 = cc in omega arith);
+        }

@@ -1,0 +1,260 @@
+-- The entries of a round or start: they are found again in the trace, and the names that they queue stand in the tables.
+use mathlib.Core.Path.{_≡_, refl, sym, ap, ap₂, _∙_}
+use mathlib.Core.Bool.{Bool, true, false, not, _&&_, cond}
+use mathlib.Core.List.{List, [], _∷_, _++_, map}
+use Prim.Native.Nat.{ℕ, zero, suc, _+_, _*_, _/_, _%_, _≤_, _<_}
+use native.Mathlib.Omega.{arith}
+use lib.Dec.{eqb, leb, ltb}
+use borrow.Author.Tests.{eqb-true, eq-eqb, leb-true, le-leb, ltb-true, lt-ltb, not-true}
+use Rattle.definition.specs.declared.Action.{Action}
+use Rattle.definition.specs.declared.Action.the-variants.{Raise, Host}
+use Rattle.definition.specs.declared.Kind.{Kind}
+use Rattle.definition.specs.Rows.{from, mem, all, flat, backwards}
+use Rattle.definition.specs.Names.{isId}
+use Rattle.definition.specs.Chart.{Chart, kindNo, kind, parent, isRoot, isParallel, isFinal}
+use Rattle.definition.specs.Tables.{noNumber, rowCount, transitionCount, actionCount, nameCount, rowCell, transitionCell, actionAt, blockAt, entryAt, exitAt, idAt, listBlockAt, transitionBlockAt, nameAt, chartOf}
+use Rattle.definition.specs.Rules.{each, argumentFits, slotFits, idDiffers, idFits, actionNamed, rule2}
+use Rattle.definition.specs.Selection.{History}
+use Rattle.definition.specs.Microstep.{Effect, exited, taken, entered, acted, raised, done, traceNo, queued, perform, performed, exits, exitEffects, exiting, transitionEffects, targeted, Entry, initialBlock, defaultBlock, isDoneAbove, doneEffects, entryEffects, entering, storedIn, staying, historyAfter, entryOf, fallen, effects}
+use Rattle.definition.specs.Follower.{firstEntry, firstEffects}
+use Rattle.definition.specs.Compiled.{ownNumbers}
+use Rattle.laws.specs.Bools.{clash, not-so, and3, and-left, and-right, and-true}
+use Rattle.laws.specs.Lists.{all-both, all-flat}
+use Rattle.laws.specs.Loops.{each-below}
+use Rattle.laws.specs.Orders.{mem-backwards}
+use Rattle.theory.specs.Tree.{low}
+use Rattle.tables.specs.Ranges.{RowIn, row-fits, transition-fits, argument-fits, optional-below}
+use Rattle.chart.specs.Ready.{Ready, CompiledWith}
+use Rattle.chart.specs.Own.{own-chart}
+use Rattle.matching.specs.Chosen.{Within}
+use Rattle.effects.specs.Entering.{defaultEffects, activeAt, entry-pieces, final-later, not-root-later, HistoryRows}
+use Rattle.microstep.specs.Plan.{exits-within, targeted-within, entry-within, fallen-histories, paths-within, no-histories}
+use Rattle.events.specs.Rounds.{effectAt, queuedNames, isKnown, EntriesIn}
+
+-- ---- the trace read back
+
+unfoldable pub indexOf : Effect → ℕ
+indexOf (exited i) = i
+indexOf (taken t) = t
+indexOf (entered i) = i
+indexOf (acted n) = n
+indexOf (raised n) = n
+indexOf (done i) = i
+
+-- "kind × 65,536 + index": the index leaves the kind alone
+unfoldable pub indexFits : Effect → Bool
+indexFits e = leb (indexOf e) 65535
+
+module _ (k i : ℕ) (l : i ≤ 65535) where
+  kind-back : (k * 65536 + i) / 65536 ≡ k
+  kind-back = omega arith
+
+  index-back : (k * 65536 + i) % 65536 ≡ i
+  index-back = omega arith
+
+effect-back : (e : Effect) → indexFits e ≡ true → effectAt (traceNo e) ≡ e
+unfolding effectAt traceNo indexFits indexOf
+effect-back (exited i) h = let l : i ≤ 65535 = leb-true _ _ h in rw (kind-back 1 i l, index-back 1 i l)
+effect-back (taken i) h = let l : i ≤ 65535 = leb-true _ _ h in rw (kind-back 2 i l, index-back 2 i l)
+effect-back (entered i) h = let l : i ≤ 65535 = leb-true _ _ h in rw (kind-back 3 i l, index-back 3 i l)
+effect-back (acted i) h = let l : i ≤ 65535 = leb-true _ _ h in rw (kind-back 4 i l, index-back 4 i l)
+effect-back (raised i) h = let l : i ≤ 65535 = leb-true _ _ h in rw (kind-back 5 i l, index-back 5 i l)
+effect-back (done i) h = let l : i ≤ 65535 = leb-true _ _ h in rw (kind-back 6 i l, index-back 6 i l)
+
+pub entries-back : (es : List Effect) → all indexFits es ≡ true → map effectAt (map traceNo es) ≡ es
+unfolding all
+entries-back [] h = refl
+entries-back (e ∷ es) h =
+    ap₂ {C = List Effect} (λ x xs. x ∷ xs) (effect-back e (and-left (indexFits e) _ h)) (entries-back es (and-right (indexFits e) _ h))
+
+-- ---- every effect passes a test, if those of each row, transition and action do
+
+pub record Passes (chart : List ℕ) (p : Effect → Bool) : Type 0 where
+  pub exit : (i : ℕ) → i < rowCount chart → p (exited i) ≡ true
+  pub take : (t : ℕ) → t < transitionCount chart → p (taken t) ≡ true
+  pub enter : (i : ℕ) → i < rowCount chart → p (entered i) ≡ true
+  pub act : (a : ℕ) → a < actionCount chart → p (perform (actionAt chart a)) ≡ true
+  -- the root is never done
+  pub finish : (i : ℕ) → suc i < rowCount chart → p (done (suc i)) ≡ true
+
+parallel-plain : (k : Kind) → isParallel k ≡ true → isRoot k ≡ false
+parallel-plain k h = not-so (isRoot k) (λ r. let a : kindNo k ≡ 2 = eqb-true _ _ h in let b : kindNo k ≡ 0 = eqb-true _ _ r in omega arith)
+
+module _ (chart : List ℕ) (g : Ready chart) (p : Effect → Bool) (h : Passes chart p) where
+  block-passes : (count start : ℕ) → start + count ≤ actionCount chart → all p (performed (blockAt chart start count)) ≡ true
+  unfolding performed blockAt all from
+  block-passes zero start l = refl
+  block-passes (suc n) start l = and-true (p (perform (actionAt chart start))) _ (h .act start (omega arith)) (block-passes n (suc start) (omega arith))
+
+  row-in : (i : ℕ) → i < rowCount chart → RowIn chart i
+  row-in i l = record { tables = g .tables; below = l }
+
+  exit-passes : (i : ℕ) → i < rowCount chart → all p (exitEffects (chartOf chart) i) ≡ true
+  unfolding exitEffects exitAt all
+  exit-passes i l =
+      and-true (p (exited i)) _ (h .exit i l) (block-passes (rowCell chart i 6) (rowCell chart i 5) (row-fits chart i (row-in i l) .exit .inside))
+
+  transition-passes : (t : ℕ) → t < transitionCount chart → all p (transitionEffects (chartOf chart) t) ≡ true
+  unfolding transitionEffects transitionBlockAt all
+  transition-passes t l =
+      and-true (p (taken t)) _ (h .take t l)
+      (block-passes (transitionCell chart t 8) (transitionCell chart t 7) (transition-fits chart t (record { tables = g .tables; below = l }) .block .inside))
+
+  entry-block : (i : ℕ) → i < rowCount chart → all p (performed (entryAt chart i)) ≡ true
+  unfolding entryAt
+  entry-block i l = block-passes (rowCell chart i 4) (rowCell chart i 3) (row-fits chart i (row-in i l) .entry .inside)
+
+  list-block : (b : Bool) (i : ℕ) → i < rowCount chart → all p (performed (cond b (listBlockAt chart i) [])) ≡ true
+  unfolding listBlockAt
+  list-block true i l = block-passes (rowCell chart i 10) (rowCell chart i 9) (row-fits chart i (row-in i l) .block .inside)
+  list-block false i l = unfold performed all in refl
+
+  done-passes : (i : ℕ) → i < rowCount chart → isRoot (kind (chartOf chart) i) ≡ false → p (done i) ≡ true
+  done-passes zero l r = let z = not-root-later chart 0 g r in absurd (omega arith)
+  done-passes (suc i) l r = h .finish i l
+
+  -- the parent of a row that has one
+  parent-inside : (i : ℕ) → 0 < i → i < rowCount chart → parent (chartOf chart) i < rowCount chart
+  parent-inside zero z l = absurd (omega arith)
+  parent-inside (suc i) z l = omega (arith, low (chartOf chart) (g .sound .tree) i)
+
+  done-effects : (conf : List ℕ) (i : ℕ) → i < rowCount chart → all p (doneEffects (chartOf chart) conf i) ≡ true
+  unfolding doneEffects isDoneAbove all
+  done-effects conf i l = outer (isFinal (kind c i) && not (isRoot (kind c (parent c i)))) refl
+    where
+      c : Chart
+      c = chartOf chart
+
+      inner : (b : Bool) → isDoneAbove c conf (parent c (parent c i)) ≡ b → parent c (parent c i) < rowCount chart → all p (cond b (done (parent c (parent c i)) ∷ []) []) ≡ true
+      inner true e m =
+          and-true (p (done (parent c (parent c i)))) true
+          (done-passes (parent c (parent c i)) m (parallel-plain (kind c (parent c (parent c i))) (and-left (isParallel (kind c (parent c (parent c i)))) _ e))) refl
+      inner false e m = refl
+
+      outer : (b : Bool) → (isFinal (kind c i) && not (isRoot (kind c (parent c i)))) ≡ b →
+          all p (cond b (done (parent c i) ∷ cond (isDoneAbove c conf (parent c (parent c i))) (done (parent c (parent c i)) ∷ []) []) []) ≡ true
+      outer true e =
+          let r = not-true _ (and-right (isFinal (kind c i)) _ e) in
+          let m = parent-inside i (final-later chart i g (and-left (isFinal (kind c i)) _ e)) l in
+          and-true (p (done (parent c i))) _ (done-passes (parent c i) m r)
+          (inner (isDoneAbove c conf (parent c (parent c i))) refl (parent-inside (parent c i) (not-root-later chart (parent c i) g r) m))
+      outer false e = refl
+
+  entry-passes : (stay : List ℕ) (e : Entry) (fell : List ℕ) → HistoryRows chart fell → (i : ℕ) → i < rowCount chart → all p (entryEffects (chartOf chart) stay e fell i) ≡ true
+  unfolding initialBlock defaultEffects defaultBlock
+  entry-passes stay e fell w i l =
+      ap (all p) (entry-pieces (chartOf chart) stay e fell i) ∙
+      all-both p (entered i ∷ []) _ (unfold all in and-true (p (entered i)) true (h .enter i l) refl)
+      (all-both p (performed (entryAt chart i)) _ (entry-block i l)
+      (all-both p (performed (initialBlock (chartOf chart) (e .byDefault) i)) _ (list-block (mem i (e .byDefault)) i l)
+      (all-both p (flat (defaultEffects (chartOf chart) i) fell) _
+      (all-flat p (defaultEffects (chartOf chart) i) fell (λ k m. list-block (eqb i (parent (chartOf chart) k)) k (w .at k m .0)))
+      (done-effects (activeAt stay (e .set) i) i l))))
+
+  entering-passes : (stay : List ℕ) (e : Entry) (fell : List ℕ) → Within (rowCount chart) (e .set) → HistoryRows chart fell → all p (entering (chartOf chart) stay e fell) ≡ true
+  unfolding entering
+  entering-passes stay e fell w v = all-flat p (entryEffects (chartOf chart) stay e fell) (e .set) (λ i m. entry-passes stay e fell v i (w .at i m))
+
+  exiting-passes : (out : List ℕ) → Within (rowCount chart) out → all p (exiting (chartOf chart) out) ≡ true
+  unfolding exiting
+  exiting-passes out w = all-flat p (exitEffects (chartOf chart)) (backwards out) (λ i m. exit-passes i (w .at i (sym (mem-backwards i out) ∙ m)))
+
+  -- of a round from this configuration
+  pub round-passes : (conf : List ℕ) (hist : History) (ts : List ℕ) → Within (rowCount chart) conf → Within (transitionCount chart) ts → all p (effects (chartOf chart) conf hist ts) ≡ true
+  unfolding effects entryOf
+  round-passes conf hist ts w v =
+      let c = chartOf chart in
+      let after = storedIn (historyAfter c conf hist ts) in
+      all-both p (exiting c (exits c conf hist ts) ++ flat (transitionEffects c) ts) _
+      (all-both p (exiting c (exits c conf hist ts)) _ (exiting-passes (exits c conf hist ts) (exits-within c (rowCount chart) conf hist ts _ w refl))
+      (all-flat p (transitionEffects c) ts (λ t m. transition-passes t (v .at t m))))
+      (entering-passes (staying c conf hist ts) (entryOf c conf hist ts) (fallen c after ts)
+      (entry-within c (targeted c hist after ts) _ refl (targeted-within c hist after ts _ refl)) (fallen-histories chart g after ts _ v refl))
+
+  -- and of a start
+  pub start-passes : all p (firstEffects (chartOf chart)) ≡ true
+  unfolding firstEffects firstEntry
+  start-passes =
+      entering-passes [] (firstEntry (chartOf chart)) []
+      (entry-within (chartOf chart) _ _ refl (paths-within (chartOf chart) 0 _ _ refl)) (no-histories chart [] g refl)
+
+-- ---- what the tables give
+
+action-known : (chart : List ℕ) (a : Action) → argumentFits chart a ≡ true → isKnown chart (perform a) ≡ true
+unfolding argumentFits isKnown perform
+action-known chart (Raise n) h = h
+action-known chart (Host n) h = refl
+
+action-index : (chart : List ℕ) (a : Action) → nameCount chart ≤ 65535 → argumentFits chart a ≡ true → indexFits (perform a) ≡ true
+unfolding argumentFits indexFits indexOf perform
+action-index chart (Raise n) l h = let m : n < nameCount chart = ltb-true _ _ h in le-leb n 65535 (omega arith)
+action-index chart (Host n) l h = h
+
+module _ (chart names : List ℕ) (k : CompiledWith chart names) where
+  own-is : chartOf (ownNumbers chart) ≡ chartOf chart
+  own-is = own-chart chart (k .ready .tables)
+
+  -- every row but the root has an id
+  id-known : (i : ℕ) → suc i < rowCount chart → idAt chart (suc i) < nameCount chart
+  unfolding rule2 idFits idAt
+  id-known i l =
+      let own = ownNumbers chart in
+      let r : rowCount own ≡ rowCount chart = ap (λ (c : Chart). c .rows) own-is in
+      let e : idAt own (suc i) ≡ idAt chart (suc i) = ap (λ (c : Chart). (c .row) (suc i) .id) own-is in
+      let q = and3 (each (nameCount own) (slotFits names)) (each (rowCount own) (idFits own names)) (each (actionCount own) (actionNamed own names)) (k .rule2) in
+      let f = and3 (not (eqb (idAt own (suc i)) noNumber)) (isId (nameAt names (idAt own (suc i)))) (each (rowCount own) (idDiffers own names (suc i)))
+      (each-below (idFits own names) (rowCount own) (q .1) (suc i) (omega arith)) in
+      optional-below (nameCount chart) (idAt chart (suc i)) (row-fits chart (suc i) (record { tables = k .ready .tables; below = l }) .id)
+      (λ z. clash (eqb (idAt own (suc i)) noNumber) (eq-eqb _ _ (e ∙ z)) (not-true _ (f .0)))
+
+  indices-pass : Passes chart indexFits
+  unfolding indexFits indexOf
+  indices-pass =
+      let n = k .ready .tables .sized .counts .names in
+      let r = k .ready .tables .sized .counts .rows in
+      let t = k .ready .tables .sized .counts .transitions in
+      record {
+        exit = λ i l. le-leb i 65535 (omega arith);
+        take = λ i l. le-leb i 65535 (omega arith);
+        enter = λ i l. le-leb i 65535 (omega arith);
+        act = λ a l. action-index chart (actionAt chart a) (omega arith) (argument-fits chart a (record { tables = k .ready .tables; below = l }));
+        finish = λ i l. le-leb (suc i) 65535 (omega arith);
+      }
+
+  known-pass : Passes chart (isKnown chart)
+  unfolding isKnown
+  known-pass = record {
+    exit = λ i l. refl;
+    take = λ i l. refl;
+    enter = λ i l. refl;
+    act = λ a l. action-known chart (actionAt chart a) (argument-fits chart a (record { tables = k .ready .tables; below = l }));
+    finish = λ i l. and-true (ltb (suc i) (rowCount chart)) _ (lt-ltb _ _ l) (lt-ltb _ _ (id-known i l));
+  }
+
+-- ---- the entries of a round and of a start, as they join the queue
+
+pub record EntriesOf (chart names : List ℕ) (es : List Effect) : Type 0 where
+  pub inside : EntriesIn chart (map traceNo es)
+  pub back : map effectAt (map traceNo es) ≡ es
+  pub queues : queuedNames (chartOf chart) (nameAt names) (map traceNo es) ≡ flat (queued (chartOf chart) (nameAt names)) es
+
+module _ (chart names : List ℕ) (k : CompiledWith chart names) where
+  entered-as : (es : List Effect) → all indexFits es ≡ true → all (isKnown chart) es ≡ true → EntriesOf chart names es
+  unfolding queuedNames
+  entered-as es a b =
+      let e = entries-back es a in
+      record {
+        inside = record { known = ap (all (isKnown chart)) e ∙ b };
+        back = e;
+        queues = ap (flat (queued (chartOf chart) (nameAt names))) e;
+      }
+
+  pub round-entries : (conf : List ℕ) (hist : History) (ts : List ℕ) → Within (rowCount chart) conf → Within (transitionCount chart) ts → EntriesOf chart names (effects (chartOf chart) conf hist ts)
+  round-entries conf hist ts w v =
+      entered-as (effects (chartOf chart) conf hist ts) (round-passes chart (k .ready) indexFits (indices-pass chart names k) conf hist ts w v)
+      (round-passes chart (k .ready) (isKnown chart) (known-pass chart names k) conf hist ts w v)
+
+  pub start-entries : EntriesOf chart names (firstEffects (chartOf chart))
+  start-entries =
+      entered-as (firstEffects (chartOf chart)) (start-passes chart (k .ready) indexFits (indices-pass chart names k))
+      (start-passes chart (k .ready) (isKnown chart) (known-pass chart names k))

@@ -1,0 +1,5 @@
+pub mod Rounds
+pub mod Joining
+pub mod Choosing
+pub mod Entries
+pub mod Left

@@ -1,0 +1,87 @@
+-- Where the event of a round comes from, and the queues once it has left.
+use mathlib.Core.Path.{_≡_}
+use mathlib.Core.Bool.{Bool, true, _&&_}
+use mathlib.Core.List.{List, [], _++_, map}
+use Prim.Native.Nat.{ℕ, _+_, _/_, _%_}
+use lib.Dec.{ltb}
+use lib.ListN.{length, drop, replicate}
+use Rattle.definition.specs.declared.Mode.the-variants.{Running}
+use Rattle.definition.specs.Rows.{all, flat}
+use Rattle.definition.specs.Names.{Name}
+use Rattle.definition.specs.Chart.{Chart, Names}
+use Rattle.definition.specs.Tables.{rowCount, nameCount, idAt}
+use Rattle.definition.specs.Selection.{History}
+use Rattle.definition.specs.Microstep.{Effect, exited, taken, entered, acted, raised, done, queued}
+use Rattle.definition.specs.Follower.{Follower, Round, idle, taking, roundIn}
+use Rattle.matching.specs.Chosen.{chosenOf}
+use Rattle.selection.specs.Ready.{Selects}
+use Rattle.effects.specs.Kinds.{effectOf}
+use Rattle.queue.specs.Queues.{queueBytes}
+use Rattle.events.specs.declared.Source.{Source}
+use Rattle.events.specs.declared.Source.the-variants.{Nothing, Eventless, Internal, External}
+use Rattle.events.specs.declared.Choice.{Choice}
+
+unfoldable pub internalAfter : Source → Follower → List Name
+internalAfter Nothing f = f .internal
+internalAfter Eventless f = f .internal
+internalAfter Internal f = drop 1 (f .internal)
+internalAfter External f = f .internal
+
+unfoldable pub externalAfter : Source → Follower → List Name
+externalAfter Nothing f = f .external
+externalAfter Eventless f = f .external
+externalAfter Internal f = f .external
+externalAfter External f = drop 1 (f .external)
+
+-- the round that takes these transitions for an event from there
+unfoldable pub roundBy : Source → Chart → Names → Follower → List ℕ → Round
+roundBy Nothing c names f ts = idle
+roundBy Eventless c names f ts = taking c names f (internalAfter Eventless f) (externalAfter Eventless f) ts
+roundBy Internal c names f ts = taking c names f (internalAfter Internal f) (externalAfter Internal f) ts
+roundBy External c names f ts = taking c names f (internalAfter External f) (externalAfter External f) ts
+
+-- the choice of a running session's next round: hist reads the stored history of f
+pub record Chooses (c : Chart) (names : Names) (f : Follower) (hist : History) (r : Choice) : Type 0 where
+  pub is : roundIn Running c names f ≡ roundBy (r .source) c names f (chosenOf (r .selected .chosen))
+  pub selected : Selects c (f .configuration) hist (r .selected)
+  pub internal : r .source ≡ Internal → f .internal ≡ [] → ⊥
+  pub external : r .source ≡ External → f .external ≡ [] → ⊥
+
+-- ---- the queues' bytes once the event has left
+
+unfoldable pub internalBytes : Source → List ℕ → List ℕ
+internalBytes Nothing bytes = bytes
+internalBytes Eventless bytes = bytes
+internalBytes Internal bytes = drop 64 bytes ++ replicate 64 0
+internalBytes External bytes = bytes
+
+unfoldable pub externalBytes : Source → List ℕ → List ℕ
+externalBytes Nothing bytes = bytes
+externalBytes Eventless bytes = bytes
+externalBytes Internal bytes = bytes
+externalBytes External bytes = drop 64 bytes ++ replicate 64 0
+
+-- ---- the names that trace entries queue
+
+unfoldable pub effectAt : ℕ → Effect
+effectAt entry = effectOf (entry / 65536) (entry % 65536)
+
+unfoldable pub queuedNames : Chart → Names → List ℕ → List Name
+queuedNames c names entries = flat (queued c names) (map effectAt entries)
+
+-- what an effect queues stands in the tables: a raised name is one of theirs, a done event is of a row that has an id
+unfoldable pub isKnown : List ℕ → Effect → Bool
+isKnown chart (exited i) = true
+isKnown chart (taken t) = true
+isKnown chart (entered i) = true
+isKnown chart (acted n) = true
+isKnown chart (raised n) = ltb n (nameCount chart)
+isKnown chart (done i) = ltb i (rowCount chart) && ltb (idAt chart i) (nameCount chart)
+
+pub record EntriesIn (chart entries : List ℕ) : Type 0 where
+  pub known : all (isKnown chart) (map effectAt entries) ≡ true
+
+-- these names join whatever count names the bytes of a queue hold
+pub record Joins (more : List Name) (before after : List ℕ) (count n : ℕ) : Type 0 where
+  pub bytes : (names : List Name) → before ≡ queueBytes names → count ≡ length names → after ≡ queueBytes (names ++ more)
+  pub number : n ≡ count + length more

@@ -1,0 +1,136 @@
+// The event of a round: where it comes from, what it selects, how it leaves its queue, and the names that a round queues.
+ghost use mathlib.Core.Path.{_≡_};
+ghost use mathlib.Core.Bool.{true};
+ghost use mathlib.Core.List.{_++_};
+ghost use Prim.Native.Nat.{_+_, _≤_};
+ghost use lib.ListN.{length};
+ghost use Rattle.definition.specs.Tables.{rowCount, nameAt, chartOf};
+ghost use Rattle.definition.specs.Microstep.{queued};
+ghost use Rattle.chart.specs.Ready.{CompiledWith};
+ghost use Rattle.matching.specs.Ready.{Prepared};
+ghost use Rattle.selection.specs.History.{storedAt};
+ghost use Rattle.queue.specs.Queues.{queueBytes, queueOf};
+ghost use Rattle.state.specs.State.{stateOf, Holds};
+ghost use Rattle.events.specs.Rounds.{Chooses, internalBytes, externalBytes, effectAt, queuedNames, isKnown, EntriesIn, Joins};
+use numbers::NameNumber;
+use numbers::Row;
+use rowset::RowSet;
+use selection::Selected;
+use state::State;
+
+// Where the event of a round comes from: nothing if the session is idle.
+pub enum Source {
+    Nothing,
+    Eventless,
+    Internal,
+    External,
+}
+
+// What the next round of a running session takes.
+pub struct Choice {
+    pub source: Source,
+    pub selected: Selected,
+}
+
+// "eventless transitions first. If none is selected, the oldest internal event; if there is none, the oldest external event; if there
+// is none, the session is idle."
+pub fn choose(
+    chart: &[u64],
+    names: &[u8],
+    starts: &[u16],
+    atoms: RowSet,
+    state: State,
+    history: &[u64],
+    internal: &[u8],
+    external: &[u8],
+) -> Choice
+    requires { ⌜ Prepared (now chart) (now names) (now starts) atoms × Holds (chartOf (now chart)) (stateOf (rowCount (now chart)) state (now history) (now internal) (now external)) state (now history) (now internal) (now external) ⌝ }
+    ensures { λ r. ⌜ Chooses (chartOf (now (chart .entry))) (nameAt (now (names .entry))) (stateOf (rowCount (now (chart .entry))) state (now (history .entry)) (now (internal .entry)) (now (external .entry))) (storedAt (now (history .entry))) r ⌝ }
+{
+    let conf = state.configuration;
+    let eventless = selection::select(chart, names, starts, atoms, conf, history, b"");
+    let chosen = eventless.chosen;
+    if 0 < chosen.len {
+        return Choice {
+            source: Source::Eventless,
+            selected: eventless,
+        };
+    }
+    if 0 < state.internal {
+        let event = queue::first_name(internal);
+        return Choice {
+            source: Source::Internal,
+            selected: selection::select(chart, names, starts, atoms, conf, history, event),
+        };
+    }
+    if 0 < state.external {
+        let event = queue::first_name(external);
+        return Choice {
+            source: Source::External,
+            selected: selection::select(chart, names, starts, atoms, conf, history, event),
+        };
+    }
+    Choice {
+        source: Source::Nothing,
+        selected: eventless,
+    }
+}
+
+// "A taken event leaves the internal queue before new ones join."
+pub fn take_event(source: Source, internal: &mut [u8], external: &mut [u8])
+    requires { ⌜ (length (now internal) ≡ 2048) × (length (now external) ≡ 2048) ⌝ }
+    ensures { λ _. ⌜ (now (internal .exit) ≡ internalBytes source (now (internal .entry))) × (now (external .exit) ≡ externalBytes source (now (external .entry))) ⌝ }
+{
+    match source {
+        Source::Nothing => (),
+        Source::Eventless => (),
+        Source::Internal => queue::take_first(internal),
+        Source::External => queue::take_first(external),
+    }
+}
+
+// "kind × 65,536 + index"
+const KIND: u32 = 65536;
+
+// The kind of a raised name; behind it comes that of a done event.
+const RAISED: u32 = 5;
+
+// One entry of a round: a raised name, or the done name of a row, joins the count names of the internal queue.
+fn queue_entry(chart: &[u64], names: &[u8], entry: u32, internal: &mut [u8], count: u64) -> u64
+    requires { ⌜ CompiledWith (now chart) (now names) × (isKnown (now chart) (effectAt entry) ≡ true) × (length (now internal) ≡ 2048) × (count + length (queued (chartOf (now chart)) (nameAt (now names)) (effectAt entry)) ≤ 32) ⌝ }
+    ensures { λ n. ⌜ Joins (queued (chartOf (now (chart .entry))) (nameAt (now (names .entry))) (effectAt entry)) (now (internal .entry)) (now (internal .exit)) count n ⌝ }
+{
+    let kind = entry / KIND;
+    let index = entry % KIND;
+    if kind < RAISED {
+        return count;
+    }
+    if kind == RAISED {
+        let slot = tables::slot_of(names, NameNumber(index as u16));
+        queue::put_last(internal, count, names::name_of(slot));
+        return count + 1;
+    }
+    let id = tables::slot_of(names, tables::id_of(chart, Row(index as u8)));
+    queue::put_done_last(internal, count, names::name_of(id));
+    count + 1
+}
+
+// The names of the raises and done events among a round's entries join the count names of the internal queue; how many they are then.
+pub fn queue_names(
+    chart: &[u64],
+    names: &[u8],
+    entries: &[u32],
+    internal: &mut [u8],
+    count: u64,
+) -> u64
+    requires { ⌜ CompiledWith (now chart) (now names) × EntriesIn (now chart) (now entries) × (now internal ≡ queueBytes (queueOf (now internal) count)) × (count + length (queuedNames (chartOf (now chart)) (nameAt (now names)) (now entries)) ≤ 32) ⌝ }
+    ensures { λ n. ⌜ (now (internal .exit) ≡ queueBytes (queueOf (now (internal .entry)) count ++ queuedNames (chartOf (now (chart .entry))) (nameAt (now (names .entry))) (now (entries .entry)))) × (n ≡ count + length (queuedNames (chartOf (now (chart .entry))) (nameAt (now (names .entry))) (now (entries .entry)))) ⌝ }
+{
+    let mut n = count;
+    let mut i = 0;
+    while i < entries.len() {
+        n = queue_entry(chart, names, entries[i], internal, n);
+        i += 1;
+    }
+    n
+}

@@ -1,0 +1,23 @@
+-- When a step of the program and an outcome of the plain follower are alike.
+use mathlib.Core.Path.{_≡_}
+use mathlib.Core.List.{List, [], _∷_}
+use Prim.Native.Nat.{ℕ}
+use Rattle.definition.specs.Follower.{Outcome}
+use Rattle.session.specs.Sessions.{sessionOf, view}
+use Rattle.faithful.specs.Program.{Step}
+
+pub record Alike (rows : ℕ) (a : Step) (o : Outcome) : Type 0 where
+  pub number : a .number ≡ o .number
+  pub rounds : a .rounds ≡ o .rounds
+  pub trace : a .trace ≡ o .trace
+  -- configuration, stored history, both queues in order and mode
+  pub state : view rows (a .session) ≡ o .after
+  -- and no other bit of the session is set
+  pub spelled : a .session ≡ sessionOf (o .after)
+
+-- step by step, and as many steps as outcomes
+abbrev pub AllAlike : ℕ → List Step → List Outcome → Type 0
+AllAlike rows [] [] = Unit {0}
+AllAlike rows [] (o ∷ os) = ⊥
+AllAlike rows (x ∷ xs) [] = ⊥
+AllAlike rows (x ∷ xs) (o ∷ os) = Alike rows x o × AllAlike rows xs os

@@ -1,0 +1,4 @@
+pub mod Program
+pub mod Alike
+pub mod Faithful
+pub mod Demand3

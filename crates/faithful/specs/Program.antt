@@ -1,0 +1,35 @@
+-- The program's side: what the contracts of start, post and run say over a lent compiled chart, call after call, the session handed on.
+use mathlib.Core.List.{List, [], _∷_, map}
+use Prim.Native.Nat.{ℕ}
+use Rattle.definition.specs.Microstep.{traceNo}
+use Rattle.definition.specs.Follower.{answerNo, statusNo, Call, starts, posts, runs}
+use Rattle.session.specs.declared.Session.{Session}
+use Rattle.session.specs.Sessions.{startOf, startEffects, postOf, runOf, runEffects}
+
+-- what one call hands back: the number of its answer or status, the rounds done, its trace entries, the session
+pub record Step : Type 0 where
+  pub number : ℕ
+  pub rounds : ℕ
+  pub trace : List ℕ
+  pub session : Session
+
+unfoldable pub startStep : List ℕ → List ℕ → ℕ → Step
+startStep chart names room =
+    record { number = answerNo ((startOf chart names room) .answer); rounds = 0; trace = map traceNo (startEffects chart names room); session = (startOf chart names room) .session }
+
+unfoldable pub postStep : List ℕ → List ℕ → Session → List ℕ → Step
+postStep chart names s name =
+    record { number = answerNo ((postOf s chart names name) .answer); rounds = 0; trace = []; session = (postOf s chart names name) .session }
+
+unfoldable pub runStep : List ℕ → List ℕ → Session → ℕ → ℕ → Step
+runStep chart names s rounds room =
+    record { number = statusNo ((runOf s chart names rounds room) .status); rounds = (runOf s chart names rounds room) .rounds; trace = map traceNo (runEffects s chart names rounds room); session = (runOf s chart names rounds room) .session }
+
+unfoldable pub call : List ℕ → List ℕ → Session → Call → Step
+call chart names s (starts room) = startStep chart names room
+call chart names s (posts name) = postStep chart names s name
+call chart names s (runs rounds room) = runStep chart names s rounds room
+
+unfoldable pub callAll : List ℕ → List ℕ → Session → List Call → List Step
+callAll chart names s [] = []
+callAll chart names s (x ∷ xs) = call chart names s x ∷ callAll chart names ((call chart names s x) .session) xs
