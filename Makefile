@@ -1,22 +1,41 @@
 # make test    proves every crate, tries every must-fail edit, runs the second program and every check of this repository
 # make demo    plays chart A and prints its trace in words
+# make lib     build/libauttervil.a, the static library for C
+# make bench   how long the library and the second program take (docs/bench.md)
 # make examples   writes the computed examples anew (crates/examples)
+# make cases   writes what the programs over the crates read and print anew
 # make manifest   notes the files that make test expects
-CARGO = cargo build --release --quiet --offline --manifest-path second/Cargo.toml --target-dir build/second
+CARGO = cargo build --quiet --offline
+LINKED = --manifest-path linked/Cargo.toml --target-dir build/linked
 
-.PHONY: test demo examples manifest second clean
+.PHONY: test demo lib bench examples cases manifest second linked clean
 
 test:
 	@bash tests/run
 
 second:
-	@$(CARGO)
+	@$(CARGO) --release --manifest-path second/Cargo.toml --target-dir build/second
 
 demo: second
 	@build/second/release/demo
 
+lib:
+	@rt staticlib auttervil
+	@mkdir -p build
+	@cmp -s target/staticlib/libauttervil.a build/libauttervil.a || cp target/staticlib/libauttervil.a build/libauttervil.a
+
+linked: lib
+	@$(CARGO) --release $(LINKED) --bin linked
+
+bench: lib
+	@$(CARGO) --profile measured $(LINKED) --bin bench
+	@build/linked/measured/bench
+
 examples: second
 	@build/second/release/write-examples crates/examples/specs
+
+cases: second
+	@build/second/release/write-cases crates
 
 manifest:
 	@bash tests/manifest > tests/manifest.txt

@@ -1,4 +1,5 @@
-//! What the programs over the leaf crates are run on, and what they must print.
+//! What the programs over the crates are run on, and what they must print.
 
+pub mod charts;
 pub mod names;
 pub mod rows;

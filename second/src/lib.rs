@@ -12,6 +12,7 @@ pub mod cases;
 pub mod checks;
 pub mod compiled;
 pub mod coverage;
+pub mod damage;
 pub mod encode;
 pub mod examples;
 pub mod faults;

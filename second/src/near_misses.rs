@@ -64,7 +64,7 @@ impl Lent {
     }
 
     /// Adds unused lines behind a table, so that it has so many.
-    fn lengthen(&mut self, table: Table, lines: u64, line: &[u64]) -> Option<()> {
+    pub fn lengthen(&mut self, table: Table, lines: u64, line: &[u64]) -> Option<()> {
         let old = self.lines(table);
         let missing = (lines as usize).checked_sub(old)?;
         let end = self.counts().cell(table, old, 0);

@@ -1,21 +1,20 @@
 -- Numbers that begin with the same tables mean the same chart, whatever stands behind the tables.
-use mathlib.Core.Path.{_≡_, refl, sym, ap, ap₂, _∙_, fun-ext}
+use mathlib.Core.Path.{_≡_, refl, sym, ap, ap₂, _∙_}
 use mathlib.Core.Bool.{Bool, true, false, cond}
-use mathlib.Core.List.{List, [], _∷_, map}
+use mathlib.Core.List.{List, [], _∷_}
 use Prim.Native.Nat.{ℕ, zero, suc, _+_, _*_, _≤_, _<_}
 use native.Mathlib.Omega.{arith}
 use lib.Dec.{eqb, ltb}
 use lib.ListN.{length, getD, take, drop}
 use lib.Seq.{getD-take, take-take}
-use borrow.Author.Tests.{ltb-true, ltb-false, le-ltb}
+use borrow.Author.Tests.{ltb-true}
 use Rattle.definition.specs.declared.Action.{Action}
 use Rattle.definition.specs.declared.Action.the-variants.{Raise, Host}
 use Rattle.definition.specs.Rows.{from}
-use Rattle.definition.specs.Chart.{Row, Transition, Chart}
-use Rattle.definition.specs.Tables.{noRow, kindOf, actionOf, optional, rowCount, transitionCount, referenceCount, descriptorCount, actionCount, nameCount, transitionBase, referenceBase, descriptorBase, actionBase, tablesSize, rowCell, transitionCell, referenceCell, descriptorCell, actionCell, actionAt, part, referencesAt, descriptorsAt, blockAt, kindAt, parentAt, idAt, entryAt, exitAt, listAt, listBlockAt, sourceAt, eventsAt, conditionAt, internalAt, targetsAt, transitionBlockAt, rowAt, transitionAt, chartOf}
+use Rattle.definition.specs.Tables.{noRow, kindOf, optional, rowCount, transitionCount, referenceCount, descriptorCount, actionCount, nameCount, transitionBase, referenceBase, descriptorBase, actionBase, tablesSize, rowCell, transitionCell, referenceCell, descriptorCell, actionCell, actionAt, part, referencesAt, descriptorsAt, blockAt, kindAt, parentAt, idAt, entryAt, exitAt, listAt, listBlockAt, sourceAt, eventsAt, conditionAt, internalAt, targetsAt, transitionBlockAt, rowAt, transitionAt, chartOf}
 use Rattle.definition.specs.Rules.{rowInRange, transitionInRange, referenceInRange, descriptorInRange, argumentFits, actionInRange, blockFits, compiledSize}
 use Rattle.laws.specs.Bools.{bool-case}
-use Rattle.tables.specs.Ranges.{layout, Counts, Sized, InTables, RowIn, TransitionIn, row-fits, transition-fits}
+use Rattle.tables.specs.Ranges.{layout, Counts, InTables, row-fits, transition-fits}
 
 -- a part that lies within the first m
 part-take : (m s n : ℕ) (xs : List ℕ) → s + n ≤ m → take n (drop s (take m xs)) ≡ take n (drop s xs)

@@ -1,14 +1,16 @@
 -- The columns of sets: how long one is, one set more, and the set that stands at a row's place.
-use mathlib.Core.Path.{_≡_, refl, sym, ap, _∙_}
+use mathlib.Core.Path.{_≡_, refl, ap, _∙_}
 use mathlib.Core.Bool.{true}
 use mathlib.Core.List.{List, [], _∷_, _++_, append-assoc}
-use Prim.Native.Nat.{ℕ, zero, suc, _+_, _*_, _-_, _<_}
+use Prim.Native.Nat.{ℕ, _+_, _*_, _-_, _<_}
 use native.Mathlib.Omega.{arith}
 use lib.ListN.{length, getD, length-append}
 use lib.Seq.{getD-at, getD-append-add}
 use Rattle.definition.specs.Rows.{from, flat, union, mem}
 use Rattle.definition.specs.Compiled.{word, words, wordsAt, column}
+use Rattle.laws.specs.Lists.{flat-app}
 use Rattle.laws.specs.Loops.{from-last, from-at}
+use Rattle.theory.specs.Round.{length-from}
 use Rattle.rowset.specs.declared.RowSet.{RowSet}
 use Rattle.rowset.specs.Member.{rowsOf}
 use Rattle.rowset.specs.Rows.{rows-read}
@@ -36,16 +38,6 @@ set-behind p q xs w e =
 
 -- ---- a column
 
-flat-append : {A B : Type 0} (f : A → List B) (xs ys : List A) → flat f (xs ++ ys) ≡ flat f xs ++ flat f ys
-unfolding flat
-flat-append f [] ys = refl
-flat-append f (x ∷ xs) ys = rw (flat-append f xs ys) (sym (append-assoc (f x) (flat f xs) (flat f ys)))
-
-pub length-from : (n i : ℕ) → length (from n i) ≡ n
-unfolding from
-length-from zero i = refl
-length-from (suc n) i = ap suc (length-from n (suc i))
-
 module _ (f : ℕ → List ℕ) where
   length-sets : (xs : List ℕ) → length (flat (wordsAt f) xs) ≡ length xs * 4
   unfolding flat wordsAt words
@@ -63,12 +55,12 @@ module _ (f : ℕ → List ℕ) where
 
   pub column-more : (i : ℕ) → column f (i + 1) ≡ column f i ++ words (f i)
   unfolding column flat wordsAt words
-  column-more i = ap (flat (wordsAt f)) (from-last i) ∙ flat-append (wordsAt f) (from i 0) (i ∷ [])
+  column-more i = ap (flat (wordsAt f)) (from-last i) ∙ flat-app (wordsAt f) (from i 0) (i ∷ [])
 
   -- the set of i stands behind those before it
   pub column-at : (n i : ℕ) → i < n → column f n ≡ column f i ++ (words (f i) ++ flat (wordsAt f) (from (n - (i + 1)) (i + 1)))
   unfolding column flat wordsAt
-  column-at n i l = ap (flat (wordsAt f)) (from-at i n l) ∙ flat-append (wordsAt f) (from i 0) (i ∷ from (n - (i + 1)) (i + 1))
+  column-at n i l = ap (flat (wordsAt f)) (from-at i n l) ∙ flat-app (wordsAt f) (from i 0) (i ∷ from (n - (i + 1)) (i + 1))
 
   pub set-in-column : (chart pre post : List ℕ) (n i b : ℕ) → chart ≡ pre ++ (column f n ++ post) → length pre ≡ b → i < n → setAt chart (b + i * 4) ≡ setOf (f i)
   set-in-column chart pre post n i b e s l =

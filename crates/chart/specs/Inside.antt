@@ -1,17 +1,16 @@
 -- The rows that a compiled set lists are rows of the chart.
-use mathlib.Core.Path.{_≡_, refl, sym, ap, _∙_}
-use mathlib.Core.Bool.{Bool, true, false, cond}
+use mathlib.Core.Path.{_≡_, sym, _∙_}
+use mathlib.Core.Bool.{true}
 use mathlib.Core.List.{List, [], _∷_, map}
 use Prim.Native.Nat.{ℕ, zero, suc, _<_}
 use native.Mathlib.Omega.{arith}
-use Rattle.definition.specs.declared.Kind.{Kind}
-use Rattle.definition.specs.declared.Kind.the-variants.{Root, State, Parallel, Final, Shallow, Deep}
-use Rattle.definition.specs.Rows.{mem, union}
-use Rattle.definition.specs.Chart.{Chart, kind, parent, isRoot, isHistory}
+use Rattle.definition.specs.Rows.{mem}
+use Rattle.definition.specs.Chart.{Chart, kind, isHistory}
 use Rattle.definition.specs.Tree.{ancestors, descendants, children, isDomainKind, defaultTargets, anchor, anchors}
-use Rattle.laws.specs.Bools.{no, clash, bool-case}
+use Rattle.laws.specs.Bools.{no, bool-case}
 use Rattle.laws.specs.Sets.{mem-head, mem-union}
 use Rattle.laws.specs.Lists.{mem-cases, mem-tail}
+use Rattle.tables.specs.Stands.{root-no-history}
 use Rattle.theory.specs.Tree.{ancestor-low, low, root-kind, mem-children}
 use Rattle.theory.specs.Fork.{anchor-self}
 use Rattle.theory.specs.Accepted.{Sound, mem-descendants, ini, anchor-parent}
@@ -22,14 +21,6 @@ unfolding mem
 map-mem f P [] h a m = absurd (no m)
 map-mem f P (x ∷ xs) h a m =
     mem-cases a (f x) (map f xs) (λ e. rw e (h x (mem-head x xs))) (map-mem f P xs (λ y n. h y (mem-tail x y xs n)) a) m
-
-pub root-plain : (k : Kind) → isRoot k ≡ true → isHistory k ≡ false
-root-plain Root h = refl
-root-plain State h = absurd (no h)
-root-plain Parallel h = absurd (no h)
-root-plain Final h = absurd (no h)
-root-plain Shallow h = absurd (no h)
-root-plain Deep h = absurd (no h)
 
 module _ (c : Chart) (g : Sound c) where
   pub ancestor-inside : (i : ℕ) → i < c .rows → (a : ℕ) → mem a (ancestors c i) ≡ true → a < c .rows
@@ -46,7 +37,7 @@ module _ (c : Chart) (g : Sound c) where
   default-inside i l a m = bool-case (isDomainKind c i) (λ e. ini c g i l e .inside a m) (λ e. absurd (no (rw e at m)))
 
   pub anchor-row : (x : ℕ) → x < c .rows → anchor c x < c .rows
-  anchor-row zero l = rw (anchor-self c (g .tree) 0 (root-plain (kind c 0) (root-kind c (g .tree)))) l
+  anchor-row zero l = rw (anchor-self c (g .tree) 0 (root-no-history (kind c 0) (root-kind c (g .tree)))) l
   anchor-row (suc x) l =
       bool-case (isHistory (kind c (suc x))) (λ e. rw (anchor-parent c g (suc x) e) (omega (arith, low c (g .tree) x)))
       (λ e. rw (anchor-self c (g .tree) (suc x) e) l)

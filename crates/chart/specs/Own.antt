@@ -1,8 +1,8 @@
 -- A chart that passes the check behind refusal 8 is ready to be read.
 use mathlib.Core.Path.{_≡_, refl, sym, ap, _∙_}
-use mathlib.Core.Bool.{Bool, true, false, _&&_}
-use mathlib.Core.List.{List, [], _∷_, _++_, map, append-assoc, append-nil}
-use Prim.Native.Nat.{ℕ, zero, suc, _+_, _*_, _≤_, _<_}
+use mathlib.Core.Bool.{true}
+use mathlib.Core.List.{List, [], _++_, map, append-assoc, append-nil}
+use Prim.Native.Nat.{ℕ, _+_, _*_, _≤_, _<_}
 use native.Mathlib.Nat.{le-refl}
 use native.Mathlib.Omega.{arith}
 use lib.Dec.{eqb}
@@ -11,15 +11,15 @@ use lib.Seq.{take-take}
 use borrow.Author.Tests.{eqb-true}
 use Rattle.definition.specs.declared.Answer.{Answer}
 use Rattle.definition.specs.declared.Answer.the-variants.{Done, Size, Names, Tree, Lists, Transitions, NotAName, Full, BadChart, BadSession, NoRoom, SessionEnded}
-use Rattle.definition.specs.Rows.{same, union, those}
+use Rattle.definition.specs.Rows.{union}
 use Rattle.definition.specs.Chart.{Chart}
 use Rattle.definition.specs.Tables.{slotSize, rowCount, transitionCount, nameCount, tablesSize, chartOf}
 use Rattle.definition.specs.Tree.{ancestors, isDescendant, isChild, descendants, children, defaultTargets, anchor, anchors}
 use Rattle.definition.specs.Rules.{compiledSize, sizesFit, countsFit, rule1, rule2, verdict}
 use Rattle.definition.specs.Follower.{answerNo}
 use Rattle.definition.specs.Compiled.{column, columns, compiled, ownNumbers, isCompiled}
-use Rattle.laws.specs.Bools.{no, and-left, and-right, and4, and7}
-use Rattle.laws.specs.Sets.{Ascends, ascends-those, ascends-union}
+use Rattle.laws.specs.Bools.{and-left, and-right, and4, and7}
+use Rattle.laws.specs.Sets.{ascends-those, ascends-union}
 use Rattle.laws.specs.Lists.{same-eq}
 use Rattle.laws.specs.Orders.{union-none}
 use Rattle.theory.specs.Accepted.{Sound, verdict-rule1, verdict-rule2, verdict-sound}
@@ -28,7 +28,7 @@ use Rattle.rowset.specs.Member.{rowsOf}
 use Rattle.chart.specs.Ready.{ancestorBase, descendantBase, childBase, defaultBase, anchorBase, setAt, Ready, CompiledWith}
 use Rattle.chart.specs.Columns.{setOf, rows-set-of, length-column, set-in-column}
 use Rattle.chart.specs.Inside.{ancestor-inside, descendant-inside, child-inside, default-inside, anchors-inside}
-use Rattle.chart.specs.Agree.{agree-rows, agree-names, agree-size, agree-compiled-size, agree-chart, agree-tables}
+use Rattle.chart.specs.Agree.{agree-names, agree-size, agree-compiled-size, agree-chart, agree-tables}
 
 -- ---- the numbers that a place holds for itself
 

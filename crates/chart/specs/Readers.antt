@@ -1,23 +1,21 @@
 -- What the readers' contracts rest on: a set lies inside the chart, and the tests of a row follow from its kind and its children.
-use mathlib.Core.Path.{_≡_, refl, sym, ap, _∙_}
-use mathlib.Core.Bool.{Bool, true, false, not, _&&_, _||_}
-use mathlib.Core.List.{List, [], _∷_}
+use mathlib.Core.Path.{_≡_}
+use mathlib.Core.Bool.{Bool, true, false, not}
+use mathlib.Core.List.{List, []}
 use Prim.Native.Nat.{ℕ, zero, suc, _+_, _*_, _≤_, _<_}
 use native.Mathlib.Nat.{mul-le-mul-left}
 use native.Mathlib.Omega.{arith}
-use lib.ListN.{length, getD}
 use borrow.Author.Tests.{le-leb}
 use Rattle.definition.specs.Rows.{isEmpty}
 use Rattle.definition.specs.Chart.{Chart, kind, isRoot, isState, isFinal}
-use Rattle.definition.specs.Tables.{mostRows, mostTransitions, mostNames, mostDescriptors, mostTargets, mostActions, rowCount, transitionCount, referenceCount, descriptorCount, actionCount, nameCount, tablesSize, parentAt, part, chartOf}
+use Rattle.definition.specs.Tables.{rowCount, tablesSize, parentAt, chartOf}
 use Rattle.definition.specs.Tree.{children, isCompound, isAtomic, isDomainKind}
 use Rattle.definition.specs.Rules.{countsFit, compiledSize}
 use Rattle.theory.specs.Tree.{low}
 use Rattle.tables.specs.Ranges.{Counts}
-use Rattle.tables.specs.Parts.{part-four}
 use Rattle.rowset.specs.declared.RowSet.{RowSet}
 use Rattle.rowset.specs.Member.{rowsOf}
-use Rattle.chart.specs.Ready.{setAt, Ready, RowReady, TransitionReady, ParentRow, SetInside}
+use Rattle.chart.specs.Ready.{RowReady, TransitionReady, ParentRow, SetInside}
 
 -- ---- the counts, as the test has them
 
@@ -47,17 +45,6 @@ transition-set chart t h =
 pub set-place : (chart : List ℕ) (column i rows size : ℕ) → rows ≡ rowCount chart → size ≡ tablesSize chart →
     size + rows * column + i * 4 ≡ tablesSize chart + rowCount chart * column + i * 4
 set-place chart column i rows size e f = rw (e, f)
-
--- the set whose words are the four numbers from w on
-pub set-read : (chart : List ℕ) (w : ℕ) (s : RowSet) → w + 4 ≤ length chart → s .w0 ∷ s .w1 ∷ s .w2 ∷ s .w3 ∷ [] ≡ part chart w 4 → s ≡ setAt chart w
-unfolding setAt
-set-read chart w s l e =
-    let f = e ∙ sym (part-four chart w l) in
-    let e0 : s .w0 ≡ getD chart w 0 = cc in
-    let e1 : s .w1 ≡ getD chart (w + 1) 0 = cc in
-    let e2 : s .w2 ≡ getD chart (w + 2) 0 = cc in
-    let e3 : s .w3 ≡ getD chart (w + 3) 0 = cc in
-    λ i. record { w0 = e0 i; w1 = e1 i; w2 = e2 i; w3 = e3 i }
 
 -- the first column stands where the tables end
 pub first-column : (chart : List ℕ) (i : ℕ) → tablesSize chart + rowCount chart * 0 + i * 4 ≡ tablesSize chart + i * 4

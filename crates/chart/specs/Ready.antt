@@ -3,15 +3,15 @@ use mathlib.Core.Path.{_≡_}
 use mathlib.Core.Bool.{true}
 use mathlib.Core.List.{List, []}
 use Prim.Native.Nat.{ℕ, _+_, _*_, _≤_, _<_}
-use lib.ListN.{length, getD}
+use lib.ListN.{length}
 use Rattle.definition.specs.Rows.{union}
 use Rattle.definition.specs.Tables.{slotSize, rowCount, transitionCount, nameCount, tablesSize, parentAt, chartOf}
 use Rattle.definition.specs.Tree.{ancestors, descendants, children, defaultTargets, anchors}
 use Rattle.definition.specs.Rules.{countsFit, compiledSize, rule2}
 use Rattle.definition.specs.Compiled.{ownNumbers}
 use Rattle.tables.specs.Ranges.{InTables}
+unfoldable pub use Rattle.tables.specs.Parts.{setAt}
 use Rattle.theory.specs.Accepted.{Sound}
-use Rattle.rowset.specs.declared.RowSet.{RowSet}
 use Rattle.rowset.specs.Member.{rowsOf}
 
 -- ---- where each column begins; a set has four words
@@ -30,10 +30,6 @@ defaultBase chart = tablesSize chart + rowCount chart * 12
 
 abbrev pub anchorBase : List ℕ → ℕ
 anchorBase chart = tablesSize chart + rowCount chart * 16
-
--- the set whose four words stand from w on
-unfoldable pub setAt : List ℕ → ℕ → RowSet
-setAt chart w = record { w0 = getD chart w 0; w1 = getD chart (w + 1) 0; w2 = getD chart (w + 2) 0; w3 = getD chart (w + 3) 0 }
 
 -- ---- the numbers keep rules 1, 3, 4 and 5, and every set is what the rows give
 

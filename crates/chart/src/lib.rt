@@ -1,8 +1,7 @@
 // Readers of a compiled chart: the sets behind the numbers, and what they say of a row.
 ghost use mathlib.Core.Path.{_≡_};
 ghost use mathlib.Core.List.{[]};
-ghost use Prim.Native.Nat.{_+_, _*_, _≤_, _<_};
-ghost use lib.ListN.{length};
+ghost use Prim.Native.Nat.{_+_, _*_, _<_};
 ghost use Rattle.definition.specs.Rows.{union};
 ghost use Rattle.definition.specs.Tables.{rowCount, tablesSize, chartOf};
 ghost use Rattle.definition.specs.Tree.{ancestors, descendants, children, isCompound, isAtomic, isDomainKind, defaultTargets, anchors};
@@ -11,34 +10,16 @@ ghost use Rattle.chart.specs.Ready.{setAt, RowReady, TransitionReady, Pa
 use numbers::Row;
 use numbers::Transition;
 use rowset::RowSet;
+use tables::columns;
 pub use tables::is_final;
 pub use tables::is_history;
 pub use tables::is_parallel;
 pub use tables::is_root;
 pub use tables::is_shallow;
 pub use tables::is_state;
+pub use tables::set_at;
 
-// ---- the sets. The words of each row that stand before its set in a column are counted.
-
-const ANCESTORS: usize = 0;
-
-pub const DESCENDANTS: usize = 4;
-
-pub const CHILDREN: usize = 8;
-
-const DEFAULT_TARGETS: usize = 12;
-
-pub const ANCHORS: usize = 16;
-
-pub const SET_WIDTH: usize = 4;
-
-// Four words from w on.
-pub fn set_at(chart: &[u64], w: usize) -> RowSet
-    requires { ⌜ w + 4 ≤ length (now chart) ⌝ }
-    ensures { λ s. ⌜ s ≡ setAt (now (chart .entry)) w ⌝ }
-{
-    tables::set_at(chart, w)
-}
+// ---- the sets
 
 // The set of row or transition i in a column.
 fn set_in(chart: &[u64], column: usize, i: usize) -> RowSet
@@ -48,7 +29,7 @@ fn set_in(chart: &[u64], column: usize, i: usize) -> RowSet
     let rows = tables::row_count(chart) as usize;
     set_at(
         chart,
-        tables::tables_size(chart) + rows * column + i * SET_WIDTH,
+        tables::tables_size(chart) + rows * column + i * columns::SET_WIDTH,
     )
 }
 
@@ -57,7 +38,7 @@ pub fn ancestors_of(chart: &[u64], r: Row) -> RowSet
     requires { ⌜ RowReady (now chart) (r .0) ⌝ }
     ensures { λ s. ⌜ rowsOf s ≡ union [] (ancestors (chartOf (now (chart .entry))) (r .0)) ⌝ }
 {
-    set_in(chart, ANCESTORS, r.0 as usize)
+    set_in(chart, columns::ANCESTORS, r.0 as usize)
 }
 
 // The proper descendants of a row.
@@ -65,14 +46,14 @@ pub fn descendants_of(chart: &[u64], r: Row) -> RowSet
     requires { ⌜ RowReady (now chart) (r .0) ⌝ }
     ensures { λ s. ⌜ rowsOf s ≡ descendants (chartOf (now (chart .entry))) (r .0) ⌝ }
 {
-    set_in(chart, DESCENDANTS, r.0 as usize)
+    set_in(chart, columns::DESCENDANTS, r.0 as usize)
 }
 
 pub fn children_of(chart: &[u64], r: Row) -> RowSet
     requires { ⌜ RowReady (now chart) (r .0) ⌝ }
     ensures { λ s. ⌜ rowsOf s ≡ children (chartOf (now (chart .entry))) (r .0) ⌝ }
 {
-    set_in(chart, CHILDREN, r.0 as usize)
+    set_in(chart, columns::CHILDREN, r.0 as usize)
 }
 
 // The default entry targets of a row: none but for the root and the compounds.
@@ -80,7 +61,7 @@ pub fn default_targets_of(chart: &[u64], r: Row) -> RowSet
     requires { ⌜ RowReady (now chart) (r .0) ⌝ }
     ensures { λ s. ⌜ rowsOf s ≡ union [] (defaultTargets (chartOf (now (chart .entry))) (r .0)) ⌝ }
 {
-    set_in(chart, DEFAULT_TARGETS, r.0 as usize)
+    set_in(chart, columns::DEFAULT_TARGETS, r.0 as usize)
 }
 
 // The anchors of a transition's targets.
@@ -88,7 +69,7 @@ pub fn anchors_of(chart: &[u64], t: Transition) -> RowSet
     requires { ⌜ TransitionReady (now chart) (t .0) ⌝ }
     ensures { λ s. ⌜ rowsOf s ≡ anchors (chartOf (now (chart .entry))) (t .0) ⌝ }
 {
-    set_in(chart, ANCHORS, t.0 as usize)
+    set_in(chart, columns::ANCHORS, t.0 as usize)
 }
 
 // ---- rows

@@ -15,7 +15,7 @@ use Rattle.theory.specs.Tree.{root-kind}
 use Rattle.tables.specs.Ranges.{RowIn}
 use Rattle.rowset.specs.declared.RowSet.{RowSet}
 use Rattle.rowset.specs.Member.{rowsOf}
-use Rattle.chart.specs.Inside.{root-plain}
+use Rattle.tables.specs.Stands.{root-no-history}
 use Rattle.compiler.specs.Compilable.{Compilable, has-parent}
 
 -- a row of numbers that keep the rules, and its children
@@ -77,7 +77,7 @@ withAnchor c set x = insert (anchor c x) set
 -- a history has a parent
 pub history-parent : (numbers : List ℕ) (i : ℕ) → Compilable numbers → i < rowCount numbers → isHistory (kindAt numbers i) ≡ true →
     RowIn numbers i × (parentAt numbers i < rowCount numbers)
-history-parent numbers zero h l y = absurd (clash _ y (root-plain (kindAt numbers 0) (root-kind (chartOf numbers) (h .sound .tree))))
+history-parent numbers zero h l y = absurd (clash _ y (root-no-history (kindAt numbers 0) (root-kind (chartOf numbers) (h .sound .tree))))
 history-parent numbers (suc i) h l y = has-parent numbers h (suc i) l (omega arith)
 
 module _ (c : Chart) where

@@ -15,15 +15,15 @@ ghost use Rattle.rowset.specs.Member.{rowsOf};
 ghost use Rattle.compiler.specs.Writing.{putAt, columnOver};
 ghost use Rattle.compiler.specs.Compilable.{RowRoom, TransitionRoom, TargetRoom, PairRoom, ColumnsRoom, childrenAndTargets};
 ghost use Rattle.compiler.specs.Targets.{WithChildren, RowKept, TransitionKept};
-use chart::ANCHORS;
-use chart::CHILDREN;
-use chart::DESCENDANTS;
-use chart::SET_WIDTH;
 use definition::Answer;
 use numbers::Row;
 use numbers::Transition;
 use rowset::Found;
 use rowset::RowSet;
+use tables::columns::ANCHORS;
+use tables::columns::CHILDREN;
+use tables::columns::DESCENDANTS;
+use tables::columns::SET_WIDTH;
 use tables::limits;
 
 // The words of two sets.

@@ -9,11 +9,12 @@ ghost use Rattle.definition.specs.Rows.{any, flat};
 ghost use Rattle.definition.specs.Tables.{rowCount, transitionCount, chartOf};
 ghost use Rattle.definition.specs.Microstep.{perform, performed, exitEffects, exiting, transitionEffects, initialBlock, isInFinal, addInFinal, isDoneAbove, doneEffects, entryEffects, entering};
 ghost use Rattle.tables.specs.Ranges.{InTables, RowIn, TransitionIn};
+ghost use Rattle.tables.specs.Parts.{actionsOf};
 ghost use Rattle.rowset.specs.Member.{rowsOf};
 ghost use Rattle.chart.specs.Ready.{Ready, RowReady};
 ghost use Rattle.effects.specs.Trace.{Wrote, Room};
 ghost use Rattle.effects.specs.Kinds.{effectOf, InEntry, ActionFits};
-ghost use Rattle.effects.specs.Blocks.{BlockIn, actionsOf};
+ghost use Rattle.effects.specs.Blocks.{ActionsFit};
 ghost use Rattle.matching.specs.Chosen.{Within, ChosenIn, chosenOf};
 ghost use Rattle.effects.specs.Entering.{defaultEffects, activeAt, isFinalRow, finalBelow, entryIs, HistoryRow, HistoryRows};
 use chart::children_of;
@@ -27,8 +28,8 @@ use numbers::Transition;
 use numbers::same_row;
 use rowset::Found;
 use rowset::RowSet;
-use tables::Block;
 use tables::action_of;
+use tables::actions_in;
 use tables::entry_block_of;
 use tables::exit_block_of;
 use tables::is_final;
@@ -97,17 +98,16 @@ fn perform_action(trace: &mut [u32], tally: Tally, action: Action) -> Tally
 
 // ---- blocks
 
-fn perform_block(chart: &[u64], block: Block, trace: &mut [u32], tally: Tally) -> Tally
-    requires { ⌜ InTables (now chart) × BlockIn (now chart) block × Room tally (performed (actionsOf (now chart) block)) ⌝ }
-    ensures { λ r. ⌜ Wrote (now (trace .entry)) (now (trace .exit)) tally r (performed (actionsOf (now (chart .entry)) block)) ⌝ }
+fn perform_block(block: &[u64], trace: &mut [u32], tally: Tally) -> Tally
+    requires { ⌜ ActionsFit (now block) × Room tally (performed (actionsOf (now block))) ⌝ }
+    ensures { λ r. ⌜ Wrote (now (trace .entry)) (now (trace .exit)) tally r (performed (actionsOf (now (block .entry)))) ⌝ }
 {
-    let end = block.start + block.count;
+    let n = actions_in(block);
     let mut sum = tally;
-    let mut a = block.start;
-    while a < end {
-        let action = action_of(chart, a);
-        sum = perform_action(trace, sum, action);
-        a += 1;
+    let mut k = 0;
+    while k < n {
+        sum = perform_action(trace, sum, action_of(block, k));
+        k += 1;
     }
     sum
 }
@@ -120,7 +120,7 @@ fn exit_row(chart: &[u64], r: Row, trace: &mut [u32], tally: Tally) -> Tally
 {
     let sum = emit(trace, tally, EXITED, r.0 as u32);
     let block = exit_block_of(chart, r);
-    perform_block(chart, block, trace, sum)
+    perform_block(block, trace, sum)
 }
 
 pub fn exit_effects(chart: &[u64], out: RowSet, trace: &mut [u32], tally: Tally) -> Tally
@@ -150,7 +150,7 @@ fn take_transition(chart: &[u64], t: Transition, trace: &mut [u32], tally: Tally
 {
     let sum = emit(trace, tally, TAKEN, t.0 as u32);
     let block = transition_block_of(chart, t);
-    perform_block(chart, block, trace, sum)
+    perform_block(block, trace, sum)
 }
 
 // In selection order.
@@ -294,7 +294,7 @@ fn initial_block(chart: &[u64], defaults: RowSet, r: Row, trace: &mut [u32], tal
         return tally;
     }
     let block = list_block_of(chart, r);
-    perform_block(chart, block, trace, tally)
+    perform_block(block, trace, tally)
 }
 
 fn default_block(chart: &[u64], r: Row, h: Row, trace: &mut [u32], tally: Tally) -> Tally
@@ -305,7 +305,7 @@ fn default_block(chart: &[u64], r: Row, h: Row, trace: &mut [u32], tally: Tally)
         return tally;
     }
     let block = list_block_of(chart, h);
-    perform_block(chart, block, trace, tally)
+    perform_block(block, trace, tally)
 }
 
 fn default_blocks(chart: &[u64], r: Row, fallen: RowSet, trace: &mut [u32], tally: Tally) -> Tally
@@ -342,7 +342,7 @@ fn enter_row(
 {
     let s1 = emit(trace, tally, ENTERED, r.0 as u32);
     let block = entry_block_of(chart, r);
-    let s2 = perform_block(chart, block, trace, s1);
+    let s2 = perform_block(block, trace, s1);
     let s3 = initial_block(chart, defaults, r, trace, s2);
     let s4 = default_blocks(chart, r, fallen, trace, s3);
     done_effects(chart, stay, set, r, trace, s4)

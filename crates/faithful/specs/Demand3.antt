@@ -1,7 +1,8 @@
 -- Demand 3 as one theorem, from what compile left in the lent places.
 use mathlib.Core.Path.{_≡_, sym, ap, _∙_}
 use mathlib.Core.Bool.{true}
-use mathlib.Core.List.{List, _∷_}
+use mathlib.Core.List.{List, [], _∷_}
+use mathlib.Core.Option.{none}
 use Prim.Native.Nat.{ℕ}
 use native.Mathlib.Omega.{arith}
 use lib.ListN.{length}
@@ -12,18 +13,43 @@ use Rattle.definition.specs.Tables.{rowCount, chartOf, nameAt}
 use Rattle.definition.specs.Chart.{Chart}
 use Rattle.definition.specs.Rules.{keepsRules, verdict}
 use Rattle.definition.specs.Microstep.{Effect}
-use Rattle.definition.specs.Follower.{answerNo, Follower, endedFollower, did, round, Call, starts, startedOutcome, follow, followAll}
+use Rattle.definition.specs.Follower.{answerNo, Follower, endedFollower, did, round, refusal, Call, starts, Outcome, startedOutcome, follow, followAll}
 use Rattle.definition.specs.Legal.{isLegal, WellFormed}
 use Rattle.theory.specs.Shown.{takenIn, DisjointExits}
-use Rattle.theory.specs.Theorems.{EveryAfter, start-keeps, calls-keep, all-calls-keep, legal-live, round-disjoint}
+use Rattle.theory.specs.Theorems.{EveryAfter, start-keeps, calls-keep, all-calls-keep, round-keeps, round-disjoint}
 use Rattle.chart.specs.Own.{answer-done, compiled-ready}
 use Rattle.compiler.specs.Results.{Compiles, verdict-sizes}
 use Rattle.compiler.specs.Theorems.{names-written, place-written}
 use Rattle.session.specs.declared.Session.{Session}
-use Rattle.session.specs.Sessions.{endedSession}
-use Rattle.faithful.specs.Program.{callAll}
+use Rattle.state.specs.State.{rowsAt, modeFrom}
+use Rattle.session.specs.Sessions.{endedSession, view}
+use Rattle.faithful.specs.Program.{Step, callAll}
 use Rattle.faithful.specs.Alike.{AllAlike}
 use Rattle.faithful.specs.Faithful.{Means, faithful, faithful-ended}
+
+-- every step of the program
+abbrev pub EveryStep : (Step → Type 0) → List Step → Type 0
+EveryStep P [] = Unit {0}
+EveryStep P (x ∷ xs) = P x × EveryStep P xs
+
+pub record LegalStep (c : Chart) (a : Step) : Type 0 where
+  pub legal : (modeFrom (a .session .mode) ≡ Ended → ⊥) → isLegal c (rowsAt (a .session .configuration) 0) ≡ true
+
+-- steps that are alike to well-formed outcomes are legal
+steps-legal : (c : Chart) (rows : ℕ) (xs : List Step) (os : List Outcome) → AllAlike rows xs os → EveryAfter (WellFormed c) os → EveryStep (LegalStep c) xs
+steps-legal c rows [] [] h w = tt
+steps-legal c rows [] (o ∷ os) h w = absurd h
+steps-legal c rows (x ∷ xs) [] h w = absurd h
+steps-legal c rows (x ∷ xs) (o ∷ os) h w = (record { legal = one }, steps-legal c rows xs os (h .1) (w .1))
+  where
+    conf : rowsAt (x .session .configuration) 0 ≡ o .after .configuration
+    conf = unfold view in ap (λ (f : Follower). f .configuration) (h .0 .state)
+
+    mode : modeFrom (x .session .mode) ≡ o .after .mode
+    mode = unfold view in ap (λ (f : Follower). f .mode) (h .0 .state)
+
+    one : (modeFrom (x .session .mode) ≡ Ended → ⊥) → isLegal c (rowsAt (x .session .configuration) 0) ≡ true
+    one n = ap (isLegal c) conf ∙ w .0 .legal (λ e. n (mode ∙ e))
 
 -- what is promised of the numbers and names that were lent, and the chart and slots that compile left
 pub record Demand3 (numbers names chart slots : List ℕ) : Type 0 where
@@ -36,7 +62,12 @@ pub record Demand3 (numbers names chart slots : List ℕ) : Type 0 where
   -- "configurations stay legal": after every call the state is well formed, so its configuration is legal unless the session has ended
   pub formed : (f : Follower) (room : ℕ) (calls : List Call) → EveryAfter (WellFormed (chartOf numbers)) (followAll (chartOf numbers) (nameAt names) f (starts room ∷ calls))
   pub formedEnded : (calls : List Call) → EveryAfter (WellFormed (chartOf numbers)) (followAll (chartOf numbers) (nameAt names) (endedFollower (chartOf numbers)) calls)
-  pub legal : (f : Follower) → WellFormed (chartOf numbers) f → (f .mode ≡ Ended → ⊥) → isLegal (chartOf numbers) (f .configuration) ≡ true
+  -- so the configuration that each step hands back is legal unless it has ended
+  pub legal : (s : Session) (room : ℕ) (calls : List Call) → EveryStep (LegalStep (chartOf numbers)) (callAll chart slots s (starts room ∷ calls))
+  pub legalEnded : (calls : List Call) → EveryStep (LegalStep (chartOf numbers)) (callAll chart slots endedSession calls)
+  -- and after every completed round of a run
+  pub rounds : (f : Follower) → WellFormed (chartOf numbers) f → (room : ℕ) (next : Follower) (es : List Effect) →
+      round (chartOf numbers) (nameAt names) f ≡ did next es → refusal room next es ≡ none → WellFormed (chartOf numbers) next
   -- "transitions taken together have disjoint exit sets"
   pub disjoint : (f next : Follower) (es : List Effect) → round (chartOf numbers) (nameAt names) f ≡ did next es → DisjointExits (chartOf numbers) f (takenIn es)
 
@@ -63,6 +94,8 @@ module _ (numbers names place namePlace chart slots : List ℕ) (a : Answer) (ma
     alikeEnded = faithful-ended numbers names chart slots accepted means;
     formed = λ f room calls. (unfold follow startedOutcome in start-keeps numbers names accepted room, unfold follow startedOutcome in calls-keep numbers names accepted calls _ (start-keeps numbers names accepted room));
     formedEnded = all-calls-keep numbers names accepted;
-    legal = legal-live numbers names accepted;
+    legal = λ s room calls. steps-legal (chartOf numbers) (rowCount numbers) (callAll chart slots s (starts room ∷ calls)) (followAll (chartOf numbers) (nameAt names) (endedFollower (chartOf numbers)) (starts room ∷ calls)) (faithful numbers names chart slots accepted means s (endedFollower (chartOf numbers)) room calls) (all-calls-keep numbers names accepted (starts room ∷ calls));
+    legalEnded = λ calls. steps-legal (chartOf numbers) (rowCount numbers) (callAll chart slots endedSession calls) (followAll (chartOf numbers) (nameAt names) (endedFollower (chartOf numbers)) calls) (faithful-ended numbers names chart slots accepted means calls) (all-calls-keep numbers names accepted calls);
+    rounds = round-keeps numbers names accepted;
     disjoint = round-disjoint numbers names accepted;
   }

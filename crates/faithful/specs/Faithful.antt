@@ -1,19 +1,21 @@
 -- Demand 3: compiling loses nothing.
-use mathlib.Core.Path.{_≡_, refl, ap, _∙_}
+use mathlib.Core.Path.{_≡_, refl, sym, ap, _∙_}
 use mathlib.Core.Bool.{true}
-use mathlib.Core.List.{List, [], _∷_, map}
-use Prim.Native.Nat.{ℕ, _≤_}
+use mathlib.Core.List.{List, [], _∷_, _++_, map}
+use Prim.Native.Nat.{ℕ, suc, _≤_}
+use lib.ListN.{length, drop}
 use Rattle.definition.specs.declared.Answer.the-variants.{Done}
 use Rattle.definition.specs.Names.{Name}
 use Rattle.definition.specs.Chart.{Chart}
 use Rattle.definition.specs.Tables.{rowCount, chartOf, nameAt}
 use Rattle.definition.specs.Rules.{keepsRules}
-use Rattle.definition.specs.Microstep.{traceNo}
+use Rattle.definition.specs.Microstep.{Effect, traceNo}
 use Rattle.definition.specs.Follower.{answerNo, Follower, endedFollower, Started, Ran, start, startedOutcome, ranOutcome, post, postAnswer, run, Call, starts, posts, runs, follow, followAll}
 use Rattle.definition.specs.Legal.{WellFormed}
 use Rattle.definition.specs.Compiled.{ownNumbers, isCompiled}
 use Rattle.theory.specs.Accepted.{Sound, accepted-sound}
 use Rattle.theory.specs.Theorems.{start-keeps, follow-keeps, ended-well-formed}
+use Rattle.state.specs.State.{traceWith}
 use Rattle.session.specs.declared.Session.{Session}
 use Rattle.session.specs.declared.Posted.{Posted}
 use Rattle.session.specs.Sessions.{sessionOf, endedSession, view, startBy, startOf, startEffects, postOf, postChecked, runFrom, ranAs, runOf, runEffects}
@@ -21,6 +23,14 @@ use Rattle.session.specs.Spelling.{view-session, session-passes, ended-spells}
 use Rattle.session.specs.Posting.{post-answers, post-spells}
 use Rattle.faithful.specs.Program.{startStep, postStep, runStep, call, callAll}
 use Rattle.faithful.specs.Alike.{Alike, AllAlike}
+
+numbered : (es : List Effect) → length es ≡ length (map traceNo es)
+numbered [] = refl
+numbered (e ∷ es) = ap suc (numbered es)
+
+traced : (es : List Effect) (old : List ℕ) → traceWith old es ≡ map traceNo es ++ drop (length (map traceNo es)) old
+unfolding traceWith
+traced es old = ap (λ (n : ℕ). map traceNo es ++ drop n old) (numbered es)
 
 -- a lent compiled chart that means the chart of these numbers
 pub record Means (numbers names chart slots : List ℕ) : Type 0 where
@@ -51,7 +61,8 @@ module _ (numbers names chart slots : List ℕ) (accepted : keepsRules numbers n
   start-alike f s room w = record {
     number = ap (λ (r : Started). answerNo (r .answer)) (start-by room);
     rounds = refl;
-    trace = ap (λ (r : Started). map traceNo (r .effects)) (start-by room);
+    count = ap (λ (r : Started). length (r .effects)) (start-by room) ∙ numbered ((start c (nameAt names) room) .effects);
+    trace = λ old. ap (λ (r : Started). traceWith old (r .effects)) (start-by room) ∙ traced ((start c (nameAt names) room) .effects) old;
     state = ap (λ (r : Started). view (rowCount numbers) (sessionOf (r .follower))) (start-by room) ∙ found ((start c (nameAt names) room) .follower) w;
     spelled = ap (λ (r : Started). sessionOf (r .follower)) (start-by room);
   }
@@ -71,7 +82,8 @@ module _ (numbers names chart slots : List ℕ) (accepted : keepsRules numbers n
       record {
         number = ap answerNo (ap (λ (x : Posted). x .answer) (post-by f name) ∙ a ∙ ap (λ (x : Follower). postAnswer x name) e);
         rounds = refl;
-        trace = refl;
+        count = refl;
+        trace = λ old. refl;
         state = ap (λ (x : Posted). view (rowCount numbers) (x .session)) (post-by f name) ∙ ap (view (rowCount numbers)) s ∙ found (post f name) v;
         spelled = ap (λ (x : Posted). x .session) (post-by f name) ∙ s;
       }
@@ -95,7 +107,8 @@ module _ (numbers names chart slots : List ℕ) (accepted : keepsRules numbers n
   run-alike f w rounds room v = record {
     number = rw (run-by f w rounds room);
     rounds = rw (run-by f w rounds room);
-    trace = ap (map traceNo) (run-effects f w rounds room);
+    count = rw (run-by f w rounds room) (numbered ((run c (nameAt names) rounds f room) .effects));
+    trace = λ old. ap (traceWith old) (run-effects f w rounds room) ∙ traced ((run c (nameAt names) rounds f room) .effects) old;
     state = rw (run-by f w rounds room) (found ((run c (nameAt names) rounds f room) .follower) v);
     spelled = rw (run-by f w rounds room);
   }

@@ -2,3 +2,4 @@ pub mod Program
 pub mod Alike
 pub mod Faithful
 pub mod Demand3
+pub mod ChartA

@@ -1,29 +1,30 @@
 -- The program's side: what the contracts of start, post and run say over a lent compiled chart, call after call, the session handed on.
-use mathlib.Core.List.{List, [], _∷_, map}
+use mathlib.Core.List.{List, [], _∷_}
 use Prim.Native.Nat.{ℕ}
-use Rattle.definition.specs.Microstep.{traceNo}
 use Rattle.definition.specs.Follower.{answerNo, statusNo, Call, starts, posts, runs}
+use Rattle.state.specs.State.{traceWith}
 use Rattle.session.specs.declared.Session.{Session}
 use Rattle.session.specs.Sessions.{startOf, startEffects, postOf, runOf, runEffects}
 
--- what one call hands back: the number of its answer or status, the rounds done, its trace entries, the session
+-- what one call hands back and leaves: the number of its answer or status, the rounds done, the reported count of entries, what a lent trace is afterwards, the session
 pub record Step : Type 0 where
   pub number : ℕ
   pub rounds : ℕ
-  pub trace : List ℕ
+  pub count : ℕ
+  pub left : List ℕ → List ℕ
   pub session : Session
 
 unfoldable pub startStep : List ℕ → List ℕ → ℕ → Step
 startStep chart names room =
-    record { number = answerNo ((startOf chart names room) .answer); rounds = 0; trace = map traceNo (startEffects chart names room); session = (startOf chart names room) .session }
+    record { number = answerNo ((startOf chart names room) .answer); rounds = 0; count = (startOf chart names room) .count; left = λ old. traceWith old (startEffects chart names room); session = (startOf chart names room) .session }
 
 unfoldable pub postStep : List ℕ → List ℕ → Session → List ℕ → Step
 postStep chart names s name =
-    record { number = answerNo ((postOf s chart names name) .answer); rounds = 0; trace = []; session = (postOf s chart names name) .session }
+    record { number = answerNo ((postOf s chart names name) .answer); rounds = 0; count = 0; left = λ old. old; session = (postOf s chart names name) .session }
 
 unfoldable pub runStep : List ℕ → List ℕ → Session → ℕ → ℕ → Step
 runStep chart names s rounds room =
-    record { number = statusNo ((runOf s chart names rounds room) .status); rounds = (runOf s chart names rounds room) .rounds; trace = map traceNo (runEffects s chart names rounds room); session = (runOf s chart names rounds room) .session }
+    record { number = statusNo ((runOf s chart names rounds room) .status); rounds = (runOf s chart names rounds room) .rounds; count = (runOf s chart names rounds room) .count; left = λ old. traceWith old (runEffects s chart names rounds room); session = (runOf s chart names rounds room) .session }
 
 unfoldable pub call : List ℕ → List ℕ → Session → Call → Step
 call chart names s (starts room) = startStep chart names room

@@ -8,11 +8,12 @@ use native.Mathlib.Omega.{arith}
 use lib.Dec.{eqb}
 use lib.ListN.{length, take, drop, replicate, length-append}
 use lib.Seq.{take-append-seam, drop-append-seam}
-use borrow.Author.Tests.{eqb-true, eqb-false, ne-eqb}
+use borrow.Author.Tests.{eqb-false, ne-eqb}
 use Rattle.definition.specs.Rows.{all, same, mem}
 use Rattle.definition.specs.Names.{Name, beforeZero, fromZero, zerosAfter, isName, isId, doneName, doneState}
 use Rattle.definition.specs.Marked.{slotOf}
-use Rattle.laws.specs.Bools.{both-ways, no, and-left, and-right}
+use Rattle.laws.specs.Bools.{both-ways, no}
+use Rattle.laws.specs.Cells.{zeros-blank, blank-zeros}
 use Rattle.laws.specs.Lists.{same-eq, same-self}
 use Rattle.laws.specs.Parts.{laid}
 use Rattle.names.specs.Spelling.{name-short, name-no-zero, id-name, id-short}
@@ -115,15 +116,10 @@ before-padded (suc k) (b ∷ bs) m h =
     let z = no-zero b bs m in
     rw (ne-eqb b 0 (z .0)) (ap {B = List ℕ} (λ r. b ∷ r) (before-padded k bs (z .1) (omega arith)))
 
-blank-zeros : (k : ℕ) → all (eqb 0) (padded k []) ≡ true
-unfolding padded all
-blank-zeros zero = refl
-blank-zeros (suc k) = blank-zeros k
-
 pub zeros-padded : (k : ℕ) (n : Name) → mem 0 n ≡ false → zerosAfter (padded k n) ≡ true
 unfolding zerosAfter fromZero padded all
 zeros-padded zero n m = refl
-zeros-padded (suc k) [] m = blank-zeros k
+zeros-padded (suc k) [] m = rw (padded-blank k) (blank-zeros k)
 zeros-padded (suc k) (b ∷ bs) m = let z = no-zero b bs m in rw (ne-eqb b 0 (z .0)) (zeros-padded k bs (z .1))
 
 -- two names in slots are alike exactly if the names are
@@ -146,13 +142,6 @@ before-no-zero (b ∷ bs) = step (eqb b 0) refl (before-no-zero bs)
     step true e h = refl
     step false e h = rw (ne-eqb 0 b (λ d. eqb-false b 0 e (sym d))) h
 
-zeros-blank : (s : List ℕ) → all (eqb 0) s ≡ true → padded (length s) [] ≡ s
-unfolding padded all
-zeros-blank [] h = refl
-zeros-blank (b ∷ bs) h =
-    let e : 0 ≡ b = eqb-true 0 b (and-left (eqb 0 b) (all (eqb 0) bs) h) in
-    rw (← e) (ap {B = List ℕ} (λ r. 0 ∷ r) (zeros-blank bs (and-right (eqb 0 b) (all (eqb 0) bs) h)))
-
 pub padded-before : (s : List ℕ) → zerosAfter s ≡ true → padded (length s) (beforeZero s) ≡ s
 unfolding zerosAfter fromZero beforeZero padded
 padded-before [] h = refl
@@ -160,7 +149,7 @@ padded-before (b ∷ bs) h = step (eqb b 0) h (padded-before bs)
   where
     step : (z : Bool) → all (eqb 0) (cond z (b ∷ bs) (fromZero bs)) ≡ true → (all (eqb 0) (fromZero bs) ≡ true → padded (length bs) (beforeZero bs) ≡ bs) →
         padded (suc (length bs)) (cond z [] (b ∷ beforeZero bs)) ≡ b ∷ bs
-    step true g ih = zeros-blank (b ∷ bs) g
+    step true g ih = padded-blank (suc (length bs)) ∙ sym (zeros-blank (b ∷ bs) g)
     step false g ih = ap {B = List ℕ} (λ r. b ∷ r) (ih g)
 
 -- ---- names in the 64 bytes of a slot

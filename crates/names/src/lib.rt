@@ -1,4 +1,5 @@
-// Names, descriptors, matching and slots, for every slice of bytes, whatever its length and its bytes. What each answers is definition's Names.
+// Names, descriptors, matching and slots, for every slice of bytes, whatever its length and its bytes. The tests, matching and what a slot holds
+// answer as definition's Names; a name's slot is definition's slotOf, in Marked, and this crate's `padded` for a slot of another size.
 ghost use mathlib.Core.Path.{_≡_};
 ghost use mathlib.Core.Bool.{_&&_};
 ghost use Prim.Native.Nat.{min};
@@ -75,7 +76,7 @@ pub fn equal(a: &[u8], b: &[u8]) -> bool
 }
 
 // The descriptor without a ".*" at its end.
-pub fn without_star(descriptor: &[u8]) -> &[u8]
+pub fn bare(descriptor: &[u8]) -> &[u8]
     ensures { λ r. ⌜ now r ≡ bare (now (descriptor .entry)) ⌝ }
 {
     if descriptor.len() < 2 {
@@ -98,7 +99,7 @@ pub fn is_descriptor(s: &[u8]) -> bool
     if equal(s, b"*") {
         return true;
     }
-    is_name(without_star(s))
+    is_name(bare(s))
 }
 
 // The length is tested on the done name, which has to fit its slot.
@@ -142,7 +143,7 @@ pub fn matches(descriptor: &[u8], event: &[u8]) -> bool
     if equal(descriptor, b"*") {
         return true;
     }
-    begins_with(event, without_star(descriptor))
+    begins_with(event, bare(descriptor))
 }
 
 // The number of bytes before the first zero.

@@ -1,9 +1,14 @@
 // Runs each function of `names` over the cases of standard input and prints what it answers. A line of the input is a letter, a space, a word, and
 // for some a space and another word; a word may be empty. A mark is 1 for yes, 0 for no.
-//   b NAME           every byte value at each place of the name: for each place and each test a line of 256 marks
+//   b NAME           every byte value at each place of the name: for each test and each place a line of 256 marks
+//   v NAME           the same of the functions that make bytes, see `digest_made`: a line of 256 numbers
+//   t NAME           the slot of the name with a stray byte at each of its 64 places, see `show_strays`
 //   l UNIT TAIL      names of 0 to 70 bytes of the unit, over and over, and the tail behind them: for each test a line of 71 marks
 //   s UNIT           such names without a tail in slots, see `show_slots`
 //   m D E            the marks of the descriptor on the event and of the two compared, and the descriptor without its ".*"
+//   p D E            every byte value at each place of the descriptor, then of the event: for each place a line of 256 marks, matched and compared
+//   q UNIT TAIL      names of 0 to 70 bytes of the unit with the tail behind them as descriptors on those without: a line of 71 marks a descriptor,
+//                    then the same compared
 //   w LETTERS MORE   every word of up to four of the letters as a descriptor on every word of up to four of the others: a line of marks a descriptor
 //   e LETTERS MORE   the same words compared
 ghost use mathlib.Core.Path.{_≡_};
@@ -13,6 +18,9 @@ use libc::STDIN_FILENO;
 use libc::STDOUT_FILENO;
 
 const TESTS: usize = 6;
+
+// The tests and the functions that make bytes.
+const FUNCTIONS: usize = 11;
 
 fn put(b: u8) {
     let one = [b];
@@ -38,42 +46,102 @@ fn judge(test: usize, s: &[u8]) -> bool {
     }
 }
 
-// The name with another byte at a place.
-fn mark_changed(test: usize, name: &[u8], place: usize, b: u8) {
+// Both in the middle of a place that is lent in part: bytes outside the part stay as they are.
+fn with_name(name: &[u8]) -> [u8; 48]
+    ensures { λ r. ⌜ 48 ≡ length r ⌝ }
+{
+    let mut place = [b'#'; 48];
+    names::put_name(&mut place[8..40], name);
+    place
+}
+
+fn with_done_name(name: &[u8]) -> [u8; 48]
+    ensures { λ r. ⌜ 48 ≡ length r ⌝ }
+{
+    let mut place = [b'#'; 48];
+    names::put_done_name(&mut place[4..44], name);
+    place
+}
+
+// One number for the bytes, their order and how many they are.
+fn digest(bytes: &[u8]) {
+    let mut d: u64 = 0;
+    let mut i = 0;
+    while i < bytes.len() {
+        d = d % 999983 * 257 + wide(bytes[i]) + 1;
+        i += 1;
+    }
+    io::print_decimal(STDOUT_FILENO, d);
+    put(b' ');
+}
+
+fn wide(b: u8) -> u64
+    ensures { λ r. ⌜ r ≤ 255 ⌝ }
+{
+    b as u64
+}
+
+fn digest_made(function: usize, s: &[u8]) {
+    match function {
+        6 => digest(names::bare(s)),
+        7 => digest(&names::pad(s)),
+        8 => digest(&names::done_name(s)),
+        9 => digest(&with_name(s)),
+        _ => digest(&with_done_name(s)),
+    }
+}
+
+fn answer(function: usize, s: &[u8]) {
+    if function < TESTS {
+        mark(judge(function, s));
+    } else {
+        digest_made(function, s);
+    }
+}
+
+// The slot of the name with another byte at a place.
+fn changed(name: &[u8], place: usize, b: u8) -> [u8; 64]
+    ensures { λ r. ⌜ 64 ≡ length r ⌝ }
+{
+    let mut slot = names::pad(name);
+    if 64 <= place {
+        return slot;
+    }
+    slot[place] = b;
+    slot
+}
+
+fn answer_changed(function: usize, name: &[u8], place: usize, b: u8) {
     let n = name.len();
     if 64 < n {
         return;
     }
-    if n <= place {
-        return;
-    }
-    let mut bytes = names::pad(name);
-    bytes[place] = b;
-    mark(judge(test, &bytes[..n]));
+    let slot = changed(name, place, b);
+    answer(function, &slot[..n]);
 }
 
-fn each_value(test: usize, name: &[u8], place: usize) {
+fn each_value(function: usize, name: &[u8], place: usize) {
     let mut v: usize = 0;
     while v < 256 {
-        mark_changed(test, name, place, v as u8);
+        answer_changed(function, name, place, v as u8);
         v += 1;
     }
     put(b'\n');
 }
 
-fn each_place_for(test: usize, name: &[u8]) {
+fn each_place_for(function: usize, name: &[u8]) {
     let mut place = 0;
     while place < name.len() {
-        each_value(test, name, place);
+        each_value(function, name, place);
         place += 1;
     }
 }
 
-fn each_place(name: &[u8]) {
-    let mut test: usize = 0;
-    while test < TESTS {
-        each_place_for(test, name);
-        test += 1;
+fn each_place(first: usize, last: usize, name: &[u8]) {
+    let mut function = first;
+    while function < last {
+        each_place_for(function, name);
+        function += 1;
     }
 }
 
@@ -141,23 +209,25 @@ fn show(bytes: &[u8]) {
     put(b'\n');
 }
 
-// The slot of the name and the number of its bytes before the first zero, the slot of its done name, and both in the middle of a place that
-// is lent in part: bytes outside the part stay as they are.
+// The slot, the number of its bytes before the first zero, these bytes, and the marks of the slot as a whole.
+fn show_slot(slot: &[u8]) {
+    show(slot);
+    io::print_decimal(STDOUT_FILENO, names::name_len(slot) as u64);
+    put(b'\n');
+    show(names::name_of(slot));
+    mark(names::zeros_after(slot));
+    mark(names::slot_fits(slot));
+    put(b'\n');
+}
+
+// The slot of the name, the slot of its done name, and both in a place that is lent in part.
 fn show_slots(unit: &[u8], n: usize) {
     let bytes = made(unit, n, b"");
     let name = names::name_of(&bytes);
-    let slot = names::pad(name);
-    show(&slot);
-    io::print_decimal(STDOUT_FILENO, names::name_len(&slot) as u64);
-    put(b'\n');
-    let done = names::done_name(name);
-    show(&done);
-    let mut place = [b'#'; 48];
-    names::put_done_name(&mut place[4..44], name);
-    show(&place);
-    let mut other = [b'#'; 48];
-    names::put_name(&mut other[8..40], name);
-    show(&other);
+    show_slot(&names::pad(name));
+    show_slot(&names::done_name(name));
+    show(&with_done_name(name));
+    show(&with_name(name));
 }
 
 fn each_slot(unit: &[u8]) {
@@ -166,6 +236,35 @@ fn each_slot(unit: &[u8]) {
         show_slots(unit, n);
         n += 1;
     }
+}
+
+fn mark_stray(test: usize, name: &[u8], place: usize, b: u8) {
+    mark(judge(test, &changed(name, place, b)));
+}
+
+fn each_stray(test: usize, name: &[u8], b: u8) {
+    let mut place: usize = 0;
+    while place < 64 {
+        mark_stray(test, name, place, b);
+        place += 1;
+    }
+    put(b'\n');
+}
+
+// `zeros_after`, `slot_fits` and `is_blank`.
+fn show_stray(name: &[u8], b: u8) {
+    each_stray(3, name, b);
+    each_stray(4, name, b);
+    each_stray(5, name, b);
+}
+
+// A zero, and bytes that a name may or may not hold: for each a line of 64 marks a test.
+fn show_strays(name: &[u8]) {
+    show_stray(name, 0);
+    show_stray(name, 1);
+    show_stray(name, b'.');
+    show_stray(name, b'x');
+    show_stray(name, 255);
 }
 
 // Words by number: 0 is the empty one; the first letter of any other, and the number of what is behind it.
@@ -251,11 +350,76 @@ fn each_word(compare: bool, letters: &[u8], more: &[u8]) {
     }
 }
 
+// The first of the two with another byte at a place. Turned, the first is the event.
+fn mark_changed_pair(compare: bool, turned: bool, one: &[u8], two: &[u8], place: usize, b: u8) {
+    let n = one.len();
+    if 64 < n {
+        return;
+    }
+    let slot = changed(one, place, b);
+    if turned {
+        mark_pair(compare, two, &slot[..n]);
+    } else {
+        mark_pair(compare, &slot[..n], two);
+    }
+}
+
+fn each_value_of_pair(compare: bool, turned: bool, one: &[u8], two: &[u8], place: usize) {
+    let mut v: usize = 0;
+    while v < 256 {
+        mark_changed_pair(compare, turned, one, two, place, v as u8);
+        v += 1;
+    }
+    put(b'\n');
+}
+
+fn each_place_of_pair(turned: bool, one: &[u8], two: &[u8]) {
+    let mut place = 0;
+    while place < one.len() {
+        each_value_of_pair(false, turned, one, two, place);
+        each_value_of_pair(true, turned, one, two, place);
+        place += 1;
+    }
+}
+
+fn each_changed_pair(descriptor: &[u8], event: &[u8]) {
+    each_place_of_pair(false, descriptor, event);
+    each_place_of_pair(true, event, descriptor);
+}
+
+fn mark_lengths(compare: bool, unit: &[u8], n: usize, tail: &[u8], m: usize) {
+    let descriptor = made(unit, n, tail);
+    let event = made(unit, m, b"");
+    mark_pair(compare, names::name_of(&descriptor), names::name_of(&event));
+}
+
+fn each_event_length(compare: bool, unit: &[u8], n: usize, tail: &[u8]) {
+    let mut m: usize = 0;
+    while m < 71 {
+        mark_lengths(compare, unit, n, tail, m);
+        m += 1;
+    }
+    put(b'\n');
+}
+
+fn each_descriptor_length(compare: bool, unit: &[u8], tail: &[u8]) {
+    let mut n: usize = 0;
+    while n < 71 {
+        each_event_length(compare, unit, n, tail);
+        n += 1;
+    }
+}
+
+fn each_length_of_pair(unit: &[u8], tail: &[u8]) {
+    each_descriptor_length(false, unit, tail);
+    each_descriptor_length(true, unit, tail);
+}
+
 fn pair(descriptor: &[u8], event: &[u8]) {
     mark_pair(false, descriptor, event);
     mark_pair(true, descriptor, event);
     put(b' ');
-    show(names::without_star(descriptor));
+    show(names::bare(descriptor));
 }
 
 // The place of the first such byte, or the length.
@@ -290,10 +454,14 @@ fn run_line(line: &[u8]) {
     let one = &rest[..k];
     let two = after(rest, k);
     match case {
-        b'b' => each_place(one),
+        b'b' => each_place(0, TESTS, one),
+        b'v' => each_place(TESTS, FUNCTIONS, one),
+        b't' => show_strays(one),
         b'l' => each_length(one, two),
         b's' => each_slot(one),
         b'm' => pair(one, two),
+        b'p' => each_changed_pair(one, two),
+        b'q' => each_length_of_pair(one, two),
         b'w' => each_word(false, one, two),
         b'e' => each_word(true, one, two),
         _ => put(b'?'),

@@ -10,7 +10,7 @@ ghost use Rattle.definition.specs.Marked.{slotOf};
 ghost use Rattle.queue.specs.Queues.{isQueue, slotHolds};
 
 // "at most 32 names each"
-pub const MOST_NAMES: u64 = 32;
+pub const MOST_QUEUED: u64 = 32;
 
 const SLOT: usize = 64;
 
@@ -20,8 +20,8 @@ fn slot(queue: &[u8], k: usize) -> &[u8]
     ensures { λ s. ⌜ now s ≡ slotAt (now (queue .entry)) k ⌝ }
 {
     let from = k * SLOT;
-    let end = from + SLOT;
-    &queue[from..end]
+    let to = from + SLOT;
+    &queue[from..to]
 }
 
 // The name that has waited longest.
@@ -48,8 +48,8 @@ pub fn put_done_last(queue: &mut [u8], count: u64, id: &[u8])
     ensures { λ _. ⌜ now (queue .exit) ≡ take (count * 64) (now (queue .entry)) ++ (slotOf (doneName (now (id .entry))) ++ drop (count * 64 + 64) (now (queue .entry))) ⌝ }
 {
     let from = count as usize * SLOT;
-    let end = from + SLOT;
-    names::put_done_name(&mut queue[from..end], id);
+    let to = from + SLOT;
+    names::put_done_name(&mut queue[from..to], id);
 }
 
 // Every byte one slot forward; those of the last slot stay.
@@ -100,11 +100,11 @@ pub fn queue_fits(queue: &[u8], count: u64) -> bool
     requires { ⌜ length (now queue) ≡ 2048 ⌝ }
     ensures { λ b. ⌜ b ≡ isQueue (now (queue .entry)) count ⌝ }
 {
-    if MOST_NAMES < count {
+    if MOST_QUEUED < count {
         return false;
     }
     let mut k = 0;
-    while k < MOST_NAMES {
+    while k < MOST_QUEUED {
         if !slot_holds(slot(queue, k as usize), k < count) {
             return false;
         }

@@ -68,7 +68,7 @@ module _ (s : RowSet) (o : Found) (e : o ≡ nextIn (rowsOf s) 0) where
 
 -- ---- a pass over the rows of a set, upward
 
--- the rows below k are done
+-- what the rows from k on give from a is what all give from a₀
 pub record Visited {A : Type 0} (f : A → ℕ → A) (a₀ a : A) (s : RowSet) (k : ℕ) : Type 0 where
   pub low : k ≤ 256
   pub left : fold f a₀ (rowsOf s) ≡ fold f a (restFrom (rowsOf s) k)
@@ -140,7 +140,7 @@ module _ (p : ℕ → Bool) (s : RowSet) (k : ℕ) (o : Found) where
 
 -- ---- a pass downward
 
--- the rows from k on are done
+-- what the rows below k, downward, give from a is what all give from a₀
 pub record VisitedDown {A : Type 0} (f : A → ℕ → A) (a₀ a : A) (s : RowSet) (k : ℕ) : Type 0 where
   pub left : fold f a₀ (backwards (rowsOf s)) ≡ fold f a (restBelow (rowsOf s) k)
 

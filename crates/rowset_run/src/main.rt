@@ -135,6 +135,7 @@ fn show_searches(a: RowSet, k: u16) {
 }
 
 fn show_sets(a: RowSet, b: RowSet, r: Row, k: u16) {
+    show_set(RowSet::empty());
     show_set(RowSet::single(r));
     show_set(RowSet::below(k));
     show_set(a.with(r));

@@ -16,8 +16,7 @@ use Rattle.definition.specs.Rules.{areApart, initialFits, defaultFits, listFits
 use Rattle.laws.specs.Lists.{empty-list}
 use Rattle.rowset.specs.declared.RowSet.{RowSet}
 use Rattle.rowset.specs.Member.{rowsOf}
-use Rattle.tables.specs.declared.Block.{Block}
-use Rattle.tables.specs.Parts.{BlockOf, block-empty}
+use Rattle.tables.specs.Parts.{BlockOf}
 use Rattle.rules3.specs.Parents.{Marks, marks-children}
 
 -- ---- empty lists and blocks
@@ -27,8 +26,10 @@ unfolding isEmpty
 length-empty [] = refl
 length-empty (x ∷ xs) = ne-eqb (suc (length xs)) 0 (λ e. omega arith)
 
-pub block-none : (numbers : List ℕ) (xs : List Action) (b : Block) → BlockOf numbers xs b → eqb (b .count) 0 ≡ isEmpty xs
-block-none numbers xs b h = sym (block-empty numbers (b .start) (b .count)) ∙ ap isEmpty (h .is)
+pub block-none : (numbers : List ℕ) (xs : List Action) (b : List ℕ) → BlockOf numbers xs b → eqb (length b) 0 ≡ isEmpty xs
+unfolding isEmpty
+block-none numbers [] b h = eq-eqb (length b) 0 (h .width)
+block-none numbers (x ∷ xs) b h = let w = h .width in ne-eqb (length b) 0 (λ e. omega arith)
 
 module _ (xs l : List ℕ) (e : l ≡ xs) where
   pub read-none : length l ≡ 0 → isEmpty xs ≡ true
@@ -51,7 +52,7 @@ module _ (numbers : List ℕ) (i : ℕ) (l : List ℕ) (e : l ≡ listAt numbers
   abbrev chart : Chart
   chart = chartOf numbers
 
-  pub initial-none : (b : Block) → length l ≡ 0 → BlockOf numbers (listBlockAt numbers i) b → eqb (b .count) 0 ≡ initialFits chart i
+  pub initial-none : (b : List ℕ) → length l ≡ 0 → BlockOf numbers (listBlockAt numbers i) b → eqb (length b) 0 ≡ initialFits chart i
   unfolding initialFits all
   initial-none b h k = let z = read-none (listAt numbers i) l e h in block-none numbers (listBlockAt numbers i) b k ∙ sym (rw (z, empty-list (listAt numbers i) z))
 
@@ -63,7 +64,7 @@ module _ (numbers : List ℕ) (i : ℕ) (l : List ℕ) (e : l ≡ listAt numbers
       and-yes true = refl
       and-yes false = refl
 
-  pub unused-is : (b : Block) → BlockOf numbers (listBlockAt numbers i) b → (eqb (length l) 0 && eqb (b .count) 0) ≡ (isEmpty (listAt numbers i) && isEmpty (listBlockAt numbers i))
+  pub unused-is : (b : List ℕ) → BlockOf numbers (listBlockAt numbers i) b → (eqb (length l) 0 && eqb (length b) 0) ≡ (isEmpty (listAt numbers i) && isEmpty (listBlockAt numbers i))
   unused-is b k = rw (block-none numbers (listBlockAt numbers i) b k, length-empty l, e)
 
   pub default-none : length l ≡ 0 → false ≡ defaultFits chart i

@@ -168,7 +168,7 @@ fn initial_fits(numbers: &[u64], sets: &[u64], r: Row) -> bool
     let list = tables::list_of(numbers, r);
     if list.len() == 0 {
         let block = tables::list_block_of(numbers, r);
-        return block.count == 0;
+        return block.len() == 0;
     }
     all_descendants(numbers, sets, r, list)
 }
@@ -200,7 +200,7 @@ fn list_fits(numbers: &[u64], sets: &[u64], children: RowSet, r: Row) -> bool
     }
     let list = tables::list_of(numbers, r);
     let block = tables::list_block_of(numbers, r);
-    (list.len() == 0) & (block.count == 0)
+    (list.len() == 0) & (block.len() == 0)
 }
 
 fn blocks_fit(numbers: &[u64], r: Row) -> bool
@@ -212,8 +212,8 @@ fn blocks_fit(numbers: &[u64], r: Row) -> bool
     let block = tables::list_block_of(numbers, r);
     let entry = tables::entry_block_of(numbers, r);
     let exit = tables::exit_block_of(numbers, r);
-    (!root | (block.count == 0))
-        & (!(root | tables::is_history(kind)) | ((entry.count == 0) & (exit.count == 0)))
+    (!root | (block.len() == 0))
+        & (!(root | tables::is_history(kind)) | ((entry.len() == 0) & (exit.len() == 0)))
 }
 
 fn row_lists_fit(numbers: &[u64], sets: &[u64], children: RowSet, r: Row) -> bool

@@ -327,7 +327,7 @@ fn action_named(numbers: &[u64], names: &[u8], a: u64) -> bool
     requires { ⌜ ActionIn (now numbers) a × SlotsIn (now numbers) (now names) ⌝ }
     ensures { λ b. ⌜ b ≡ actionNamed (now (numbers .entry)) (now (names .entry)) a ⌝ }
 {
-    match tables::action_of(numbers, a) {
+    match tables::action_at(numbers, a) {
         Action::Raise(n) => names::is_name(names::name_of(tables::slot_of(
             names,
             NameNumber(n as u16),

@@ -1,7 +1,7 @@
 -- The ancestors of every row, as sets of four words each, one after the other; and the nearest common ancestor as the last row of two sets.
 use mathlib.Core.Path.{_≡_, refl, sym, ap, _∙_}
 use mathlib.Core.Bool.{true, _&&_}
-use mathlib.Core.List.{List, [], _∷_}
+use mathlib.Core.List.{List, []}
 use mathlib.Core.Option.{Option, none, some}
 use Prim.Native.Nat.{ℕ, zero, suc, _+_, _*_, _<_, _≤_}
 use native.Mathlib.Omega.{arith}
@@ -9,7 +9,7 @@ use lib.ListN.{length, getD, set, length-set}
 use lib.Seq.{getD-set-same, getD-set-other}
 use Rattle.definition.specs.Rows.{mem, isIn, first, orElse, insert, intersection}
 use Rattle.definition.specs.Chart.{Chart, parent}
-use Rattle.definition.specs.Tables.{rowCount, part, chartOf}
+use Rattle.definition.specs.Tables.{rowCount, chartOf}
 use Rattle.definition.specs.Tree.{ancestors}
 use Rattle.definition.specs.Rules.{nearestCommon}
 use Rattle.laws.specs.Bools.{no, not-so, eq-case, and-left, and-right, and-true}
@@ -25,33 +25,19 @@ use Rattle.rowset.specs.Member.{rowsOf, prevIn}
 use Rattle.rowset.specs.Rows.{ascends-rows, rows-low}
 use Rattle.rowset.specs.Search.{PrevAt, prev-at, none-prev}
 use Rattle.tables.specs.Ranges.{RowIn}
-use Rattle.tables.specs.Parts.{part-four}
+use Rattle.tables.specs.Parts.{setAt}
 use Rattle.rules3.specs.Parents.{TreeIn}
 
 -- ---- sets of four words
 
 unfoldable pub setOf : List ℕ → ℕ → RowSet
-setOf sets i = record { w0 = getD sets (i * 4) 0; w1 = getD sets (i * 4 + 1) 0; w2 = getD sets (i * 4 + 2) 0; w3 = getD sets (i * 4 + 3) 0 }
+setOf sets i = setAt sets (i * 4)
 
 -- the set of row i is s, and no other has changed
 pub record Put (sets : List ℕ) (i : ℕ) (s : RowSet) (after : List ℕ) : Type 0 where
   pub size : length after ≡ length sets
   pub own : setOf after i ≡ s
   pub other : (k : ℕ) → (k ≡ i → ⊥) → setOf after k ≡ setOf sets k
-
-pub set-read : (sets : List ℕ) (i : ℕ) (s : RowSet) → i * 4 + 4 ≤ length sets → s .w0 ∷ s .w1 ∷ s .w2 ∷ s .w3 ∷ [] ≡ part sets (i * 4) 4 → s ≡ setOf sets i
-unfolding setOf
-set-read sets i s l e =
-    let q : s .w0 ∷ s .w1 ∷ s .w2 ∷ s .w3 ∷ [] ≡ getD sets (i * 4) 0 ∷ getD sets (i * 4 + 1) 0 ∷ getD sets (i * 4 + 2) 0 ∷ getD sets (i * 4 + 3) 0 ∷ [] = e ∙ sym (part-four sets (i * 4) l) in
-    go s (getD sets (i * 4) 0) (getD sets (i * 4 + 1) 0) (getD sets (i * 4 + 2) 0) (getD sets (i * 4 + 3) 0) q
-  where
-    go : (s : RowSet) (a b c d : ℕ) → s .w0 ∷ s .w1 ∷ s .w2 ∷ s .w3 ∷ [] ≡ a ∷ b ∷ c ∷ d ∷ [] → s ≡ record { w0 = a; w1 = b; w2 = c; w3 = d }
-    go s a b c d q =
-        let e0 : s .w0 ≡ a = cc in
-        let e1 : s .w1 ≡ b = cc in
-        let e2 : s .w2 ≡ c = cc in
-        let e3 : s .w3 ≡ d = cc in
-        rw (← e0, ← e1, ← e2, ← e3)
 
 -- four stores, one after the other
 module _ (xs : List ℕ) (j a b c d : ℕ) where
@@ -93,7 +79,7 @@ module _ (xs : List ℕ) (j a b c d : ℕ) where
     stored3 = getD-set-same xs3 (j + 3) d 0 (omega (arith, length-set xs j a, length-set xs1 (j + 1) b, length-set xs2 (j + 2) c))
 
 pub set-put : (sets : List ℕ) (i : ℕ) (s : RowSet) → i * 4 + 4 ≤ length sets → Put sets i s (xs4 sets (i * 4) (s .w0) (s .w1) (s .w2) (s .w3))
-unfolding setOf
+unfolding setOf setAt
 set-put sets i s l =
     record {
       size = stored-length sets (i * 4) (s .w0) (s .w1) (s .w2) (s .w3);

@@ -6,20 +6,19 @@ use Prim.Native.Nat.{ℕ, zero, suc, _+_, _-_, _<_, _≤_}
 use native.Mathlib.Omega.{arith}
 use lib.Dec.{eqb}
 use borrow.Author.Tests.{eq-eqb, ne-eqb, lt-ltb, le-ltb}
-use Rattle.definition.specs.declared.Kind.{Kind}
-use Rattle.definition.specs.declared.Kind.the-variants.{Root, State, Parallel, Final, Shallow, Deep}
 use Rattle.definition.specs.Rows.{from, keep, those, mem, any, all, isEmpty, insert}
 use Rattle.definition.specs.Chart.{Chart, kind, parent, isRoot, isParallel, isHistory}
 use Rattle.definition.specs.Tables.{noNumber, rowCount, kindAt, parentAt, chartOf}
 use Rattle.definition.specs.Tree.{ancestors, isChild, children}
 use Rattle.definition.specs.Rules.{mayStand, parentFits, isHistoryOf, needsChild, standsWell, rule3}
-use Rattle.laws.specs.Bools.{no, clash, both-ways, bool-case, or-false, and-false, and-left, and-right, and-true, and3}
+use Rattle.laws.specs.Bools.{clash, both-ways, bool-case, or-false, and-false, and-left, and-right, and-true, and3}
 use Rattle.laws.specs.Sets.{mem-insert}
 use Rattle.laws.specs.Lists.{mem-cases}
 use Rattle.laws.specs.Loops.{from-last, any-append, each-below, below-each}
 use Rattle.theory.specs.Tree.{ancestors-on, ancestors-top, ancestor-low}
 use Rattle.rowset.specs.declared.RowSet.{RowSet}
 use Rattle.rowset.specs.Member.{rowsOf}
+use Rattle.tables.specs.Stands.{root-no-history}
 use Rattle.tables.specs.Ranges.{InTables, RowIn}
 
 -- ---- the climb from row i to p, by the number in the parent's column, q
@@ -99,16 +98,8 @@ module _ (numbers : List ℕ) (t : TreeIn numbers) where
   unfolding parentFits
   tree-root = and-left (isRoot (kindAt numbers 0)) _ (t .fits 0 (t .tables .sized .counts .some))
 
-  not-both : (k : Kind) → isRoot k ≡ true → isHistory k ≡ false
-  not-both Root h = refl
-  not-both State h = absurd (no h)
-  not-both Parallel h = absurd (no h)
-  not-both Final h = absurd (no h)
-  not-both Shallow h = absurd (no h)
-  not-both Deep h = absurd (no h)
-
   pub root-plain : isHistory (kindAt numbers 0) ≡ false
-  root-plain = not-both (kindAt numbers 0) tree-root
+  root-plain = root-no-history (kindAt numbers 0) tree-root
 
   -- a history is not the first row, so it has a parent
   pub history-parent : (i : ℕ) → RowIn numbers i → isHistory (kindAt numbers i) ≡ true → parentAt numbers i < i

@@ -13,6 +13,7 @@ ghost use Rattle.rules3.specs.Parents.{TreeIn, Marks, isFilled};
 ghost use Rattle.rules3.specs.Ancestry.{setOf, Put, Ancestry};
 use numbers::Row;
 use rowset::RowSet;
+use tables::columns::SET_WIDTH;
 use tables::limits;
 
 // ---- parents
@@ -141,9 +142,6 @@ pub fn keeps_tree(numbers: &[u64]) -> bool
 }
 
 // ---- the ancestors of every row, as sets
-
-// The words of a set.
-const SET_WIDTH: usize = 4;
 
 pub fn set_of(sets: &[u64], r: Row) -> RowSet
     requires { ⌜ r .0 * 4 + 4 ≤ length (now sets) ⌝ }

@@ -121,9 +121,9 @@ module _ (chart names : List ℕ) (s : Session) (rounds room : ℕ) where
 -- ---- start
 
 module _ (chart names : List ℕ) (room : ℕ) where
-  pub start-bad-chart : isCompiled chart names ≡ false → record { session = endedSession; answer = BadChart; count = 0 } ≡ startOf chart names room
+  pub start-bad-chart : isCompiled chart names ≡ false → (s : Session) → s ≡ endedSession → record { session = s; answer = BadChart; count = 0 } ≡ startOf chart names room
   unfolding startOf startBy startOr
-  start-bad-chart k = let e = ended-spells (chartOf (ownNumbers chart)) in rw k (λ j. record { session = e j; answer = BadChart; count = 0 })
+  start-bad-chart k s z = let e = z ∙ ended-spells (chartOf (ownNumbers chart)) in rw k (λ j. record { session = e j; answer = BadChart; count = 0 })
 
   pub start-bad-trace : (old : List ℕ) → isCompiled chart names ≡ false → old ≡ traceWith old (startEffects chart names room)
   unfolding startEffects startBy startOr traceWith

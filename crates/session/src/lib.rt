@@ -8,8 +8,9 @@ ghost use Rattle.definition.specs.Tables.{chartOf};
 ghost use Rattle.definition.specs.Marked.{slotOf};
 ghost use Rattle.rowset.specs.Member.{rowsOf};
 ghost use Rattle.chart.specs.Ready.{Ready};
-ghost use Rattle.session.specs.Sessions.{session, endedSession, isSession, postChecked, postOf, refusedRun};
+ghost use Rattle.session.specs.Sessions.{session, endedSession, isSession, postChecked, postOf, startOf, startEffects, refusedRun, runOf, runEffects};
 ghost use Rattle.session.specs.Calling.{Taken};
+ghost use Rattle.state.specs.State.{traceWith};
 ghost use Rattle.definition.specs.Compiled.{words};
 ghost use Rattle.definition.specs.Follower.{modeNo};
 ghost use Rattle.session.specs.Judged.{Lengths, holdsPlace, modeHolds};
@@ -261,7 +262,7 @@ impl Session {
                 answer: Answer::SessionEnded,
             };
         }
-        if queue::MOST_NAMES <= external {
+        if queue::MOST_QUEUED <= external {
             return Posted {
                 session: self,
                 answer: Answer::Full,
@@ -286,5 +287,64 @@ impl Session {
             };
         }
         self.post_checked(chart, name)
+    }
+
+    // Start afresh, whatever the session was. Refused with 8, 7 or 10 it hands back an ended session that stores nothing.
+    pub fn start(self, chart: &[u64], names: &[u8], trace: &mut [u32]) -> Started
+        ensures { λ r. ⌜ (r ≡ startOf (now (chart .entry)) (now (names .entry)) (length (now (trace .entry)))) × (now (trace .exit) ≡ traceWith (now (trace .entry)) (startEffects (now (chart .entry)) (now (names .entry)) (length (now (trace .entry))))) ⌝ }
+    {
+        if !compiler::check(chart, names) {
+            return Started {
+                session: Session::ended(),
+                answer: Answer::BadChart,
+                count: 0,
+            };
+        }
+        let mut internal = [0u8; 2048];
+        let begun = rounds::start(chart, names, &mut internal, trace);
+        let answer = begun.answer;
+        let count = begun.count;
+        let state = begun.state;
+        Started {
+            session: Session::of(state, [0u64; 1024], internal, [0u8; 2048]),
+            answer: answer,
+            count: count,
+        }
+    }
+
+    // At most so many rounds: 8 or 9 changes nothing, and a round refused with 7 or 10 ends the run with the rounds before it.
+    pub fn run(self, chart: &[u64], names: &[u8], rounds: u32, trace: &mut [u32]) -> Ran
+        ensures { λ r. ⌜ (r ≡ runOf self (now (chart .entry)) (now (names .entry)) rounds (length (now (trace .entry)))) × (now (trace .exit) ≡ traceWith (now (trace .entry)) (runEffects self (now (chart .entry)) (now (names .entry)) rounds (length (now (trace .entry))))) ⌝ }
+    {
+        if !compiler::check(chart, names) {
+            return self.refused(Answer::BadChart);
+        }
+        if !self.is_session(chart) {
+            return self.refused(Answer::BadSession);
+        }
+        let state = self.state();
+        let mut history = self.history;
+        let mut internal = self.internal;
+        let mut external = self.external;
+        let done = rounds::run(
+            chart,
+            names,
+            state,
+            &mut history,
+            &mut internal,
+            &mut external,
+            rounds,
+            trace,
+        );
+        let after = done.state;
+        let status = done.status;
+        let number = done.rounds;
+        let count = done.count;
+        Ran {
+            session: Session::of(after, history, internal, external),
+            status: status,
+            rounds: number,
+            count: count,
+        }
     }
 }

@@ -1,26 +1,26 @@
 -- What the readers hand out: a part of the numbers that lists rows or names, a block, a condition, a row number.
-use mathlib.Core.Path.{_≡_, refl, sym, ap, _∙_}
+use mathlib.Core.Path.{_≡_, refl, ap, _∙_}
 use mathlib.Core.Bool.{true}
-use mathlib.Core.List.{List, [], _∷_, _++_, map, map-append}
+use mathlib.Core.List.{List, [], _∷_}
 use mathlib.Core.Option.{Option, none, some}
-use Prim.Native.Nat.{ℕ, zero, suc, _+_, _*_, _-_, _≤_, _<_}
+use Prim.Native.Nat.{ℕ, zero, suc, _+_, _*_, _/_, _-_, _≤_, _<_}
+use native.Mathlib.Nat.{add-zero}
 use native.Mathlib.Omega.{arith}
-use lib.Dec.{eqb}
 use lib.ListN.{length, getD, take, drop, length-take, length-drop}
-use lib.Seq.{drop-cons, getD-take, getD-drop, length-take-le}
+use lib.Seq.{drop-cons, getD-take, getD-drop, length-take-le, take-add, drop-drop}
 use borrow.Author.Tests.{ltb-true, ne-eqb}
 use Rattle.definition.specs.declared.Kind.the-variants.{Deep}
 use Rattle.definition.specs.declared.Action.{Action}
-use Rattle.definition.specs.declared.Action.the-variants.{Raise, Host}
+use Rattle.definition.specs.declared.Action.the-variants.{Host}
 use Rattle.numbers.specs.declared.Row.{Row}
-use Rattle.definition.specs.Rows.{from, isEmpty, insert, with}
-use Rattle.laws.specs.Loops.{from-split}
-use Rattle.definition.specs.Tables.{mostActions, slotSize, noNumber, rowCount, nameCount, referenceCount, descriptorCount, actionCount, referenceBase, descriptorBase, referenceCell, descriptorCell, transitionCell, part, referencesAt, descriptorsAt, blockAt, idAt, conditionAt, slotAt, kindOf, actionCell, actionAt, actionOf}
+use Rattle.rowset.specs.declared.RowSet.{RowSet}
+use Rattle.definition.specs.Rows.{from, all, insert, with}
+use Rattle.laws.specs.Maps.{map-length, each-map}
+use Rattle.definition.specs.Tables.{mostActions, slotSize, noNumber, rowCount, nameCount, referenceCount, descriptorCount, actionCount, referenceBase, descriptorBase, actionBase, referenceCell, descriptorCell, transitionCell, part, referencesAt, descriptorsAt, blockAt, idAt, conditionAt, slotAt, kindOf, actionCell, actionAt, actionOf}
 use Rattle.definition.specs.Rules.{optionalBelow, referenceInRange, descriptorInRange, argumentFits}
-use Rattle.tables.specs.declared.Block.{Block}
 use Rattle.tables.specs.declared.Condition.{Condition}
 use Rattle.tables.specs.declared.Condition.the-variants.{Always, In}
-use Rattle.tables.specs.Ranges.{InTables, RowIn, RowsIn, NamesIn, TransitionIn, ActionIn, SlotIn, BlockFits, argument-fits, condition-below}
+use Rattle.tables.specs.Ranges.{InTables, RowIn, RowsIn, NamesIn, TransitionIn, ActionIn, SlotIn, layout, argument-fits, condition-below}
 
 -- the list xs, as a part of the numbers: at most so many, each in its table
 pub record Listed (Within : List ℕ → Type 0) (most : ℕ) (xs l : List ℕ) : Type 0 where
@@ -43,11 +43,20 @@ pub record IdOf (numbers : List ℕ) (i n : ℕ) : Type 0 where
   pub is : n ≡ idAt numbers i
   pub low : optionalBelow (nameCount numbers) n ≡ true
 
--- the actions of a block
-pub record BlockOf (numbers : List ℕ) (actions : List Action) (b : Block) : Type 0 where
-  pub is : blockAt numbers (b .start) (b .count) ≡ actions
-  pub inside : b .start + b .count ≤ actionCount numbers
-  pub short : b .count ≤ mostActions
+-- the actions of a part of their table, in order: four cells an action
+unfoldable pub actionsOf : List ℕ → List Action
+actionsOf [] = []
+actionsOf (k ∷ []) = []
+actionsOf (k ∷ x ∷ []) = []
+actionsOf (k ∷ x ∷ y ∷ []) = []
+actionsOf (k ∷ x ∷ y ∷ z ∷ b) = actionOf k x ∷ actionsOf b
+
+-- the block of these actions, as a part of the numbers
+pub record BlockOf (numbers : List ℕ) (actions : List Action) (b : List ℕ) : Type 0 where
+  pub is : actionsOf b ≡ actions
+  pub width : length b ≡ 4 * length actions
+  pub short : length actions ≤ mostActions
+  pub fits : all (argumentFits numbers) actions ≡ true
 
 abbrev pub conditionOf : Condition → Option ℕ
 conditionOf Always = none
@@ -105,24 +114,6 @@ pub listed-as : (Within : List ℕ → Type 0) (f : ℕ → ℕ → List ℕ) (m
     Listed Within most (f s′ c′) l
 listed-as Within f most s c s′ c′ l e q m h = let z = h .short in record { is = h .is ∙ rw (e, q); within = h .within; short = omega arith }
 
-pub block-of : (numbers : List ℕ) (s c s′ c′ : ℕ) → s ≡ s′ → c ≡ c′ → BlockFits numbers s′ c′ → BlockOf numbers (blockAt numbers s′ c′) (record { start = s; count = c })
-block-of numbers s c s′ c′ e q h =
-    let i = h .inside in let m = h .short in record { is = rw (e, q); inside = omega arith; short = omega arith }
-
--- a block, action by action, and whether it has any
-pub block-begin : (numbers : List ℕ) (start : ℕ) → blockAt numbers start 0 ≡ []
-unfolding blockAt from
-block-begin numbers start = refl
-
-pub block-more : (numbers : List ℕ) (start k : ℕ) → blockAt numbers start (k + 1) ≡ blockAt numbers start k ++ (actionAt numbers (start + k) ∷ [])
-unfolding blockAt from
-block-more numbers start k = ap (map (actionAt numbers)) (from-split k 1 start) ∙ map-append (actionAt numbers) (from k start) ((start + k) ∷ [])
-
-pub block-empty : (numbers : List ℕ) (start count : ℕ) → isEmpty (blockAt numbers start count) ≡ eqb count 0
-unfolding blockAt from isEmpty
-block-empty numbers start zero = refl
-block-empty numbers start (suc n) = sym (ne-eqb (suc n) 0 (λ e. omega arith))
-
 pub condition-always : (numbers : List ℕ) (t : ℕ) → transitionCell numbers t 3 ≡ noNumber → ConditionIn numbers t Always
 unfolding conditionAt
 condition-always numbers t e =
@@ -137,19 +128,6 @@ condition-in numbers t r h e d =
       row = λ i q. let z : r .0 ≡ i = cc in record { tables = h .tables; below = rw (← z) l };
     }
 
-module _ (numbers : List ℕ) (a k x : ℕ) (h : ActionIn numbers a) (e : k ≡ actionCell numbers a 0) (q : x ≡ actionCell numbers a 1) where
-  pub action-raise : k ≡ 0 → (Raise x ≡ actionAt numbers a) × (argumentFits numbers (Raise x) ≡ true)
-  unfolding actionAt
-  action-raise z = let y : Raise x ≡ actionAt numbers a = rw (← e, z, q) in (y, ap (argumentFits numbers) y ∙ argument-fits numbers a h)
-
-  pub action-host : (k ≡ 0 → ⊥) → (Host x ≡ actionAt numbers a) × (argumentFits numbers (Host x) ≡ true)
-  unfolding actionAt
-  action-host z = let y : Host x ≡ actionAt numbers a = rw (← e, q) (host k z) in (y, ap (argumentFits numbers) y ∙ argument-fits numbers a h)
-    where
-      host : (k : ℕ) → (k ≡ 0 → ⊥) → Host (actionCell numbers a 1) ≡ actionOf k (actionCell numbers a 1)
-      host zero z = absurd (z refl)
-      host (suc k) z = refl
-
 pub slot-is : (names : List ℕ) (n : ℕ) → SlotIn names n → SlotOf names n (take (n * slotSize + slotSize - n * slotSize) (drop (n * slotSize) names))
 unfolding slotAt
 slot-is names n h =
@@ -162,8 +140,12 @@ pub with-read : (xs ys : List ℕ) (r x : ℕ) → r ≡ x → ys ≡ insert r x
 unfolding with
 with-read xs ys r x e q = q ∙ rw e
 
+-- the set whose four words stand from w on
+unfoldable pub setAt : List ℕ → ℕ → RowSet
+setAt place w = record { w0 = getD place w 0; w1 = getD place (w + 1) 0; w2 = getD place (w + 2) 0; w3 = getD place (w + 3) 0 }
+
 -- four numbers, one after the other
-pub part-four : (place : List ℕ) (at : ℕ) → at + 4 ≤ length place →
+part-four : (place : List ℕ) (at : ℕ) → at + 4 ≤ length place →
     getD place at 0 ∷ getD place (at + 1) 0 ∷ getD place (at + 2) 0 ∷ getD place (at + 3) 0 ∷ [] ≡ part place at 4
 unfolding part
 part-four place at l =
@@ -179,3 +161,71 @@ part-four place at l =
       drop-cons place (suc (suc at)) 0 (omega arith),
       drop-cons place (suc (suc (suc at))) 0 (omega arith),
     )
+
+-- ---- blocks
+
+-- what is no raise is a host action
+pub action-host : (k x : ℕ) → (k ≡ 0 → ⊥) → Host x ≡ actionOf k x
+action-host zero x h = absurd (h refl)
+action-host (suc k) x h = refl
+
+-- an action of the table, read by its number
+pub action-read : (numbers : List ℕ) (a k x : ℕ) (y : Action) → ActionIn numbers a → k ≡ actionCell numbers a 0 → x ≡ actionCell numbers a 1 → y ≡ actionOf k x →
+    (y ≡ actionAt numbers a) × (argumentFits numbers y ≡ true)
+unfolding actionAt
+action-read numbers a k x y h e q z =
+    let w : y ≡ actionAt numbers a = z ∙ rw (e, q) in (w, ap (argumentFits numbers) w ∙ argument-fits numbers a h)
+
+-- how many actions a part has
+pub actions-count : (b : List ℕ) → length b / 4 ≡ length (actionsOf b)
+unfolding actionsOf
+actions-count [] = refl
+actions-count (k ∷ []) = refl
+actions-count (k ∷ x ∷ []) = refl
+actions-count (k ∷ x ∷ y ∷ []) = refl
+actions-count (k ∷ x ∷ y ∷ z ∷ b) = let h = actions-count b in omega arith
+
+-- the cells of action k lie inside
+pub actions-inside : (b : List ℕ) (k : ℕ) → k < length (actionsOf b) → k * 4 + 4 ≤ length b
+actions-inside b k l = let h = actions-count b in omega arith
+
+pub actions-at : (b : List ℕ) (k : ℕ) (d : Action) → k < length (actionsOf b) → actionOf (getD b (k * 4) 0) (getD b (k * 4 + 1) 0) ≡ getD (actionsOf b) k d
+unfolding actionsOf
+actions-at [] k d l = absurd (omega arith)
+actions-at (k₀ ∷ []) k d l = absurd (omega arith)
+actions-at (k₀ ∷ x ∷ []) k d l = absurd (omega arith)
+actions-at (k₀ ∷ x ∷ y ∷ []) k d l = absurd (omega arith)
+actions-at (k₀ ∷ x ∷ y ∷ z ∷ b) zero d l = refl
+actions-at (k₀ ∷ x ∷ y ∷ z ∷ b) (suc k) d l =
+    let e : suc k * 4 ≡ suc (suc (suc (suc (k * 4)))) = omega arith in
+    let q : suc (suc (suc (suc (k * 4)))) + 1 ≡ suc (suc (suc (suc (k * 4 + 1)))) = omega arith in
+    rw (e, q) (actions-at b k d (omega arith))
+
+-- so many actions from start on
+actions-from : (numbers : List ℕ) (start count : ℕ) → actionBase numbers + (start + count) * 4 ≤ length numbers →
+    actionsOf (part numbers (actionBase numbers + start * 4) (count * 4)) ≡ blockAt numbers start count
+unfolding part actionsOf actionAt actionCell blockAt from
+actions-from numbers start zero l = refl
+actions-from numbers start (suc n) l =
+    let at = actionBase numbers + start * 4 in
+    let w : suc n * 4 ≡ 4 + n * 4 = omega arith in
+    let s : at + 4 ≡ actionBase numbers + suc start * 4 = omega arith in
+    rw (w, take-add 4 (n * 4) (drop at numbers), ← part-four numbers at (omega arith), drop-drop 4 at numbers, s, actions-from numbers (suc start) n (omega arith), add-zero)
+
+pub block-listed : (numbers : List ℕ) (b start count : ℕ) → InTables numbers → start + count ≤ actionCount numbers → count ≤ mostActions → b ≡ actionBase numbers →
+    BlockOf numbers (blockAt numbers start count) (take (b + start * 4 + count * 4 - (b + start * 4)) (drop (b + start * 4) numbers))
+unfolding layout part blockAt
+block-listed numbers b start count h l m e =
+    let c : b + start * 4 + count * 4 - (b + start * 4) ≡ count * 4 = omega arith in
+    let z = h .sized .size in
+    let n = map-length (actionAt numbers) count start in
+    rw (c, e) (record {
+      is = actions-from numbers start count (omega arith);
+      width = length-take-le (count * 4) (drop (actionBase numbers + start * 4) numbers) (omega (arith, length-drop (actionBase numbers + start * 4) numbers)) ∙ omega arith;
+      short = omega arith;
+      fits = each-map (actionAt numbers) (argumentFits numbers) count start (λ k q. argument-fits numbers (start + k) (record { tables = h; below = omega arith }));
+    })
+
+-- a block that was read by a start and a count of the tables
+pub block-as : (numbers : List ℕ) (s c s′ c′ : ℕ) (b : List ℕ) → s ≡ s′ → c ≡ c′ → BlockOf numbers (blockAt numbers s c) b → BlockOf numbers (blockAt numbers s′ c′) b
+block-as numbers s c s′ c′ b e q h = rw (← e, ← q) h

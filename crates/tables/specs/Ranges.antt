@@ -13,7 +13,7 @@ use Rattle.definition.specs.Rules.{countsFit, sizesFit, compiledSize, optionalB
 use Rattle.laws.specs.Bools.{and-left, and-right, and4, and7, or-elim}
 use Rattle.laws.specs.Loops.{each-below}
 
--- where the tables lie, opened
+-- to unfold at once the five places where a table ends and the next begins
 unfoldable pub layout : Unit {0}
 unfolding tablesSize actionBase descriptorBase referenceBase transitionBase
 layout = tt

@@ -5,8 +5,9 @@ use mathlib.Core.List.{List, [], _∷_}
 use lib.ListN.{getD}
 use Rattle.definition.specs.declared.Kind.{Kind}
 use Rattle.definition.specs.declared.Kind.the-variants.{Root, State, Parallel, Final, Shallow, Deep}
-use Rattle.definition.specs.Chart.{kindNo}
+use Rattle.definition.specs.Chart.{kindNo, isRoot, isHistory}
 use Rattle.definition.specs.Rules.{mayStand}
+use Rattle.laws.specs.Bools.{no}
 
 -- what holds of each of the six holds of every kind
 each-kind : (P : Kind → Type 0) → P Root → P State → P Parallel → P Final → P Shallow → P Deep → (k : Kind) → P k
@@ -16,6 +17,15 @@ each-kind P a b c d e f Parallel = c
 each-kind P a b c d e f Final = d
 each-kind P a b c d e f Shallow = e
 each-kind P a b c d e f Deep = f
+
+-- the root is no history
+pub root-no-history : (k : Kind) → isRoot k ≡ true → isHistory k ≡ false
+root-no-history Root h = refl
+root-no-history State h = absurd (no h)
+root-no-history Parallel h = absurd (no h)
+root-no-history Final h = absurd (no h)
+root-no-history Shallow h = absurd (no h)
+root-no-history Deep h = absurd (no h)
 
 -- a row for each parent, a column for each child
 abbrev table : List (List Bool)

@@ -52,7 +52,20 @@ pub const ARGUMENT: usize = 1;
 
 pub const ACTION_WIDTH: usize = 4;
 
-// Behind the tables: the words of a row's four sets, and of a transition's one.
-pub const ROW_SETS: usize = 16;
+// Behind the tables: the words of a set of rows, of a row's four sets, and of a transition's one.
+pub const SET_WIDTH: usize = 4;
 
-pub const TRANSITION_SETS: usize = 4;
+pub const ROW_SET_WORDS: usize = 16;
+
+pub const TRANSITION_SET_WORDS: usize = 4;
+
+// The columns of sets: how many words for each row stand before a column.
+pub const ANCESTORS: usize = 0;
+
+pub const DESCENDANTS: usize = 4;
+
+pub const CHILDREN: usize = 8;
+
+pub const DEFAULT_TARGETS: usize = 12;
+
+pub const ANCHORS: usize = 16;

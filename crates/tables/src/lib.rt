@@ -1,16 +1,15 @@
-// Readers of the lent chart. Where a number stands is known in this crate alone.
+// Readers of the lent chart. Where a number stands is known in this crate alone; rule 1 and the compiler name columns.
 ghost use mathlib.Core.Path.{_≡_};
 ghost use mathlib.Core.Bool.{true};
 ghost use Prim.Native.Nat.{_+_, _*_, _<_, _≤_};
-ghost use mathlib.Core.List.{[], _∷_};
 ghost use lib.ListN.{length, getD};
 ghost use Rattle.definition.specs.Rows.{union};
 ghost use Rattle.rowset.specs.Member.{rowsOf};
-ghost use Rattle.definition.specs.Tables.{rowCount, transitionCount, referenceCount, descriptorCount, actionCount, nameCount, transitionBase, referenceBase, descriptorBase, actionBase, tablesSize, rowCell, transitionCell, referenceCell, descriptorCell, actionCell, actionAt, kindAt, parentAt, idAt, entryAt, exitAt, listAt, listBlockAt, sourceAt, eventsAt, conditionAt, internalAt, targetsAt, transitionBlockAt, slotAt, part, referencesAt, descriptorsAt, mostTargets, mostDescriptors};
+ghost use Rattle.definition.specs.Tables.{rowCount, transitionCount, referenceCount, descriptorCount, actionCount, nameCount, transitionBase, referenceBase, descriptorBase, actionBase, tablesSize, rowCell, transitionCell, referenceCell, descriptorCell, actionCell, actionOf, actionAt, blockAt, kindAt, parentAt, entryAt, exitAt, listAt, listBlockAt, sourceAt, eventsAt, internalAt, targetsAt, transitionBlockAt, referencesAt, descriptorsAt, mostTargets, mostDescriptors, mostActions};
 ghost use Rattle.definition.specs.Chart.{kindNo, isRoot, isState, isParallel, isFinal, isShallow, isHistory};
 ghost use Rattle.definition.specs.Rules.{countsFit, compiledSize, argumentFits, mayStand};
 ghost use Rattle.tables.specs.Ranges.{Counts, Sized, InTables, RowIn, TransitionIn, ActionIn, RowsIn, NamesIn, SlotIn};
-ghost use Rattle.tables.specs.Parts.{Listed, RowOf, NameOf, IdOf, BlockOf, ConditionIn, SlotOf};
+ghost use Rattle.tables.specs.Parts.{Listed, RowOf, NameOf, IdOf, actionsOf, BlockOf, ConditionIn, SlotOf, setAt};
 use definition::Action;
 use definition::Kind;
 use numbers::NameNumber;
@@ -20,12 +19,6 @@ use rowset::RowSet;
 
 pub mod columns;
 pub mod limits;
-
-// A block: its actions are count from start on.
-pub struct Block {
-    pub start: u64,
-    pub count: u64,
-}
 
 // The condition of a transition.
 pub enum Condition {
@@ -144,8 +137,8 @@ pub fn compiled_size(numbers: &[u64]) -> usize
     ensures { λ n. ⌜ n ≡ compiledSize (now (numbers .entry)) ⌝ }
 {
     tables_size(numbers)
-        + row_count(numbers) as usize * columns::ROW_SETS
-        + transition_count(numbers) as usize * columns::TRANSITION_SETS
+        + row_count(numbers) as usize * columns::ROW_SET_WORDS
+        + transition_count(numbers) as usize * columns::TRANSITION_SET_WORDS
 }
 
 // ---- the cells of tables that lie inside the numbers
@@ -331,57 +324,89 @@ pub fn condition_of(numbers: &[u64], t: Transition) -> Condition
     Condition::In(Row(x as u8))
 }
 
+// A part of the actions: four cells each.
+fn actions_part(numbers: &[u64], start: u64, count: u64) -> &[u64]
+    requires { ⌜ InTables (now numbers) × (start + count ≤ actionCount (now numbers)) × (count ≤ mostActions) ⌝ }
+    ensures { λ b. ⌜ BlockOf (now (numbers .entry)) (blockAt (now (numbers .entry)) start count) (now b) ⌝ }
+{
+    let from = action_base(numbers) + start as usize * columns::ACTION_WIDTH;
+    let to = from + count as usize * columns::ACTION_WIDTH;
+    &numbers[from..to]
+}
+
 // The blocks of a row: on entry, on exit, and that of its list.
-pub fn entry_block_of(numbers: &[u64], r: Row) -> Block
+pub fn entry_block_of(numbers: &[u64], r: Row) -> &[u64]
     requires { ⌜ RowIn (now numbers) (r .0) ⌝ }
-    ensures { λ b. ⌜ BlockOf (now (numbers .entry)) (entryAt (now (numbers .entry)) (r .0)) b ⌝ }
+    ensures { λ b. ⌜ BlockOf (now (numbers .entry)) (entryAt (now (numbers .entry)) (r .0)) (now b) ⌝ }
 {
-    Block {
-        start: row_cell(numbers, r, columns::ENTRY),
-        count: row_cell(numbers, r, columns::ENTRY + 1),
-    }
+    let start = row_cell(numbers, r, columns::ENTRY);
+    let count = row_cell(numbers, r, columns::ENTRY + 1);
+    actions_part(numbers, start, count)
 }
 
-pub fn exit_block_of(numbers: &[u64], r: Row) -> Block
+pub fn exit_block_of(numbers: &[u64], r: Row) -> &[u64]
     requires { ⌜ RowIn (now numbers) (r .0) ⌝ }
-    ensures { λ b. ⌜ BlockOf (now (numbers .entry)) (exitAt (now (numbers .entry)) (r .0)) b ⌝ }
+    ensures { λ b. ⌜ BlockOf (now (numbers .entry)) (exitAt (now (numbers .entry)) (r .0)) (now b) ⌝ }
 {
-    Block {
-        start: row_cell(numbers, r, columns::EXIT),
-        count: row_cell(numbers, r, columns::EXIT + 1),
-    }
+    let start = row_cell(numbers, r, columns::EXIT);
+    let count = row_cell(numbers, r, columns::EXIT + 1);
+    actions_part(numbers, start, count)
 }
 
-pub fn list_block_of(numbers: &[u64], r: Row) -> Block
+pub fn list_block_of(numbers: &[u64], r: Row) -> &[u64]
     requires { ⌜ RowIn (now numbers) (r .0) ⌝ }
-    ensures { λ b. ⌜ BlockOf (now (numbers .entry)) (listBlockAt (now (numbers .entry)) (r .0)) b ⌝ }
+    ensures { λ b. ⌜ BlockOf (now (numbers .entry)) (listBlockAt (now (numbers .entry)) (r .0)) (now b) ⌝ }
 {
-    Block {
-        start: row_cell(numbers, r, columns::LIST_BLOCK),
-        count: row_cell(numbers, r, columns::LIST_BLOCK + 1),
-    }
+    let start = row_cell(numbers, r, columns::LIST_BLOCK);
+    let count = row_cell(numbers, r, columns::LIST_BLOCK + 1);
+    actions_part(numbers, start, count)
 }
 
-pub fn transition_block_of(numbers: &[u64], t: Transition) -> Block
+pub fn transition_block_of(numbers: &[u64], t: Transition) -> &[u64]
     requires { ⌜ TransitionIn (now numbers) (t .0) ⌝ }
-    ensures { λ b. ⌜ BlockOf (now (numbers .entry)) (transitionBlockAt (now (numbers .entry)) (t .0)) b ⌝ }
+    ensures { λ b. ⌜ BlockOf (now (numbers .entry)) (transitionBlockAt (now (numbers .entry)) (t .0)) (now b) ⌝ }
 {
-    Block {
-        start: transition_cell(numbers, t, columns::BLOCK),
-        count: transition_cell(numbers, t, columns::BLOCK + 1),
-    }
+    let start = transition_cell(numbers, t, columns::BLOCK);
+    let count = transition_cell(numbers, t, columns::BLOCK + 1);
+    actions_part(numbers, start, count)
 }
 
-// What an action does.
-pub fn action_of(numbers: &[u64], a: u64) -> Action
-    requires { ⌜ ActionIn (now numbers) a ⌝ }
-    ensures { λ x. ⌜ (x ≡ actionAt (now (numbers .entry)) a) × (argumentFits (now (numbers .entry)) x ≡ true) ⌝ }
+// What the first two cells of an action mean.
+fn action_from(kind: u64, argument: u64) -> Action
+    ensures { λ x. ⌜ x ≡ actionOf kind argument ⌝ }
 {
-    let argument = action_cell(numbers, a, columns::ARGUMENT);
-    if action_cell(numbers, a, columns::ACTION_KIND) == 0 {
+    if kind == 0 {
         return Action::Raise(argument);
     }
     Action::Host(argument)
+}
+
+// How many actions a block has, and what each does.
+pub fn actions_in(block: &[u64]) -> usize
+    ensures { λ n. ⌜ n ≡ length (actionsOf (now (block .entry))) ⌝ }
+{
+    block.len() / columns::ACTION_WIDTH
+}
+
+pub fn action_of(block: &[u64], k: usize) -> Action
+    requires { ⌜ k < length (actionsOf (now block)) ⌝ }
+    ensures { λ x. ⌜ x ≡ getD (actionsOf (now (block .entry))) k (Action.Raise 0) ⌝ }
+{
+    let at = k * columns::ACTION_WIDTH;
+    action_from(
+        block[at + columns::ACTION_KIND],
+        block[at + columns::ARGUMENT],
+    )
+}
+
+// What an action of the whole table does, in a block or not.
+pub fn action_at(numbers: &[u64], a: u64) -> Action
+    requires { ⌜ ActionIn (now numbers) a ⌝ }
+    ensures { λ x. ⌜ (x ≡ actionAt (now (numbers .entry)) a) × (argumentFits (now (numbers .entry)) x ≡ true) ⌝ }
+{
+    let kind = action_cell(numbers, a, columns::ACTION_KIND);
+    let argument = action_cell(numbers, a, columns::ARGUMENT);
+    action_from(kind, argument)
 }
 
 // The slot of a name.
@@ -394,11 +419,11 @@ pub fn slot_of(names: &[u8], n: NameNumber) -> &[u8]
     &names[from..to]
 }
 
-// ---- behind the tables: a set of rows as four words of a compiled chart
+// ---- a set of rows as four words, behind the tables of a compiled chart or in any other place
 
 pub fn set_at(place: &[u64], at: usize) -> RowSet
     requires { ⌜ at + 4 ≤ length (now place) ⌝ }
-    ensures { λ s. ⌜ s .w0 ∷ s .w1 ∷ s .w2 ∷ s .w3 ∷ [] ≡ part (now (place .entry)) at 4 ⌝ }
+    ensures { λ s. ⌜ s ≡ setAt (now (place .entry)) at ⌝ }
 {
     RowSet {
         w0: place[at],

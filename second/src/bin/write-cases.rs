@@ -1,6 +1,7 @@
-//! write-cases DIR: writes DIR/names_run and DIR/rowset_run, each with the files stdin and stdout.
+//! write-cases DIR: writes DIR/names_run, DIR/rowset_run and DIR/compile_run, each with the files
+//! stdin and stdout.
 
-use second::cases::{names, rows};
+use second::cases::{charts, names, rows};
 use std::path::{Path, PathBuf};
 use std::{env, fs, io};
 
@@ -19,5 +20,9 @@ fn main() -> io::Result<()> {
     let (mut input, mut expected) = (Vec::new(), Vec::new());
     rows::write_cases(&mut input, &mut expected)?;
     fs::write(rowed.join("stdin"), input)?;
-    fs::write(rowed.join("stdout"), expected)
+    fs::write(rowed.join("stdout"), expected)?;
+    let compiled = folder(Path::new(&top), "compile_run")?;
+    let (input, expected) = charts::texts().expect("a text takes what is written to it");
+    fs::write(compiled.join("stdin"), input)?;
+    fs::write(compiled.join("stdout"), expected)
 }

@@ -3,7 +3,7 @@
 use crate::names::{done_name, is_descriptor, is_id, is_name, matches};
 use std::fmt::Write as _;
 
-fn without_star(s: &[u8]) -> &[u8] {
+fn bare(s: &[u8]) -> &[u8] {
     s.strip_suffix(b".*").unwrap_or(s)
 }
 
@@ -30,6 +30,19 @@ fn put(slot: &mut [u8], name: &[u8]) {
     }
 }
 
+fn slot_of(name: &[u8]) -> [u8; 64] {
+    let mut slot = [0; 64];
+    put(&mut slot, name);
+    slot
+}
+
+/// A place of which a part is lent.
+fn in_part(from: usize, to: usize, name: &[u8]) -> [u8; 48] {
+    let mut place = [b'#'; 48];
+    put(&mut place[from..to], name);
+    place
+}
+
 const TESTS: [fn(&[u8]) -> bool; 6] = [is_name, is_descriptor, is_id, zeros_after, slot_fits, is_blank];
 
 // ---- the lines of a case
@@ -43,13 +56,55 @@ fn show(out: &mut String, bytes: &[u8]) {
     out.push('\n');
 }
 
-fn each_place(out: &mut String, name: &[u8]) {
+/// The name with every byte value at each place, a line for each place.
+fn each_value(out: &mut String, name: &[u8], place: usize, answer: impl Fn(&mut String, &[u8])) {
+    for value in 0..=255 {
+        let mut changed = name.to_vec();
+        changed[place] = value;
+        answer(out, &changed);
+    }
+    out.push('\n');
+}
+
+fn each_place(out: &mut String, name: &[u8], answer: impl Fn(&mut String, &[u8])) {
+    for place in 0..name.len() {
+        each_value(out, name, place, &answer);
+    }
+}
+
+fn each_test(out: &mut String, name: &[u8]) {
     for test in TESTS {
-        for place in 0..name.len() {
-            for value in 0..=255 {
-                let mut changed = name.to_vec();
-                changed[place] = value;
-                mark(out, test(&changed));
+        each_place(out, name, |out, changed| mark(out, test(changed)));
+    }
+}
+
+// One number for the bytes, their order and how many they are.
+fn digest(bytes: &[u8]) -> u64 {
+    bytes.iter().fold(0, |d, &b| d % 999_983 * 257 + u64::from(b) + 1)
+}
+
+fn each_maker(out: &mut String, name: &[u8]) {
+    let makers: [fn(&[u8]) -> Vec<u8>; 5] = [
+        |s| bare(s).to_vec(),
+        |s| slot_of(s).to_vec(),
+        |s| slot_of(&done_name(s)).to_vec(),
+        |s| in_part(8, 40, s).to_vec(),
+        |s| in_part(4, 44, &done_name(s)).to_vec(),
+    ];
+    for maker in makers {
+        each_place(out, name, |out, changed| {
+            let _ = write!(out, "{} ", digest(&maker(changed)));
+        });
+    }
+}
+
+fn each_stray(out: &mut String, name: &[u8]) {
+    for value in [0, 1, b'.', b'x', 255] {
+        for test in [zeros_after, slot_fits, is_blank] {
+            for place in 0..64 {
+                let mut slot = slot_of(name);
+                slot[place] = value;
+                mark(out, test(&slot));
             }
             out.push('\n');
         }
@@ -72,18 +127,17 @@ fn each_length(out: &mut String, unit: &[u8], tail: &[u8]) {
 fn each_slot(out: &mut String, unit: &[u8]) {
     for n in 0..=70 {
         let name = made(unit, n, b"");
-        let mut slot = [0; 64];
-        put(&mut slot, &name);
-        show(out, &slot);
-        let _ = writeln!(out, "{}", name.len().min(64));
-        put(&mut slot, &done_name(&name));
-        show(out, &slot);
-        let mut place = [b'#'; 48];
-        put(&mut place[4..44], &done_name(&name));
-        show(out, &place);
-        let mut place = [b'#'; 48];
-        put(&mut place[8..40], &name);
-        show(out, &place);
+        for whole in [name.clone(), done_name(&name)] {
+            let slot = slot_of(&whole);
+            show(out, &slot);
+            let _ = writeln!(out, "{}", whole.len().min(64));
+            show(out, name_of(&slot));
+            mark(out, zeros_after(&slot));
+            mark(out, slot_fits(&slot));
+            out.push('\n');
+        }
+        show(out, &in_part(4, 44, &done_name(&name)));
+        show(out, &in_part(8, 40, &name));
     }
 }
 
@@ -114,11 +168,37 @@ fn equal(a: &[u8], b: &[u8]) -> bool {
     a == b
 }
 
+const ANSWERS: [fn(&[u8], &[u8]) -> bool; 2] = [matches, equal];
+
+fn each_changed_pair(out: &mut String, descriptor: &[u8], event: &[u8]) {
+    for place in 0..descriptor.len() {
+        for answer in ANSWERS {
+            each_value(out, descriptor, place, |out, changed| mark(out, answer(changed, event)));
+        }
+    }
+    for place in 0..event.len() {
+        for answer in ANSWERS {
+            each_value(out, event, place, |out, changed| mark(out, answer(descriptor, changed)));
+        }
+    }
+}
+
+fn each_length_of_pair(out: &mut String, unit: &[u8], tail: &[u8]) {
+    for answer in ANSWERS {
+        for n in 0..=70 {
+            for m in 0..=70 {
+                mark(out, answer(&made(unit, n, tail), &made(unit, m, b"")));
+            }
+            out.push('\n');
+        }
+    }
+}
+
 fn pair(out: &mut String, descriptor: &[u8], event: &[u8]) {
     mark(out, matches(descriptor, event));
     mark(out, equal(descriptor, event));
     out.push(' ');
-    show(out, without_star(descriptor));
+    show(out, bare(descriptor));
 }
 
 /// What `names_run` prints for an input.
@@ -128,10 +208,14 @@ pub fn expected(input: &str) -> String {
         let (one, two) = line[2..].split_once(' ').unwrap_or((&line[2..], ""));
         let (one, two) = (one.as_bytes(), two.as_bytes());
         match line.as_bytes()[0] {
-            b'b' => each_place(&mut out, one),
+            b'b' => each_test(&mut out, one),
+            b'v' => each_maker(&mut out, one),
+            b't' => each_stray(&mut out, one),
             b'l' => each_length(&mut out, one, two),
             b's' => each_slot(&mut out, one),
             b'm' => pair(&mut out, one, two),
+            b'p' => each_changed_pair(&mut out, one, two),
+            b'q' => each_length_of_pair(&mut out, one, two),
             b'w' => each_word(&mut out, one, two, matches),
             b'e' => each_word(&mut out, one, two, equal),
             other => panic!("no case is called {}", char::from(other)),
@@ -145,6 +229,12 @@ pub fn input() -> String {
     let mut cases = Vec::new();
     for name in ["a", "_", "*", "ab", "a.", ".*", "a*", "abc", "a.b", "a.*", "_-9", "..*", "9.Z"] {
         cases.push(format!("b {name}"));
+    }
+    for name in ["a", "a.", "a.*", "_9"] {
+        cases.push(format!("v {name}"));
+    }
+    for name in ["e1", "push.*"] {
+        cases.push(format!("t {name}"));
     }
     let units = [
         ("a", ""),
@@ -162,6 +252,7 @@ pub fn input() -> String {
     }
     cases.push("s ab.c9".to_string());
     let long = "n".repeat(63);
+    cases.push(format!("t {long}"));
     let tokens = "abc.def.".repeat(8);
     let pairs: [(&str, &str); 41] = [
         ("e1", "e1"),
@@ -211,6 +302,12 @@ pub fn input() -> String {
     }
     // differ in the last byte alone
     cases.push(format!("m {}y {}z", &long[1..], &long[1..]));
+    for (descriptor, event) in [("a", "a"), ("*", "ab"), ("a.*", "a.b"), ("ab", "ab.c"), ("a.b", "a.b")] {
+        cases.push(format!("p {descriptor} {event}"));
+    }
+    for (unit, tail) in [("a", ""), ("ab.", ""), ("ab.", ".*")] {
+        cases.push(format!("q {unit} {tail}"));
+    }
     cases.push("w ab.* ab.".to_string());
     cases.push("e ab. ab.".to_string());
     cases.join("\n") + "\n"

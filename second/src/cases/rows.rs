@@ -104,7 +104,7 @@ fn expected_line(case: &Case) -> String {
         a.len().to_string(),
     ];
     let below = (0..ROWS).filter(|row| row < number).collect();
-    let sets = [one(*row), below, a | &one(*row), a - &one(*row), a | b, a & b, a - b];
+    let sets = [Rows::new(), one(*row), below, a | &one(*row), a - &one(*row), a | b, a & b, a - b];
     format!(
         "{} {} {}\n",
         tests.map(|test| if test { "1" } else { "0" }).concat(),

@@ -37,8 +37,8 @@ equal-requires c κs = search needs
 returns-2 : tie.Need-returns-2
 returns-2 c = is-star _ (omega arith) (sym (c .before .equal .ensures) ∙ c .if2 .taken)
 
-without-star-requires : tie.Need-without-star-requires
-without-star-requires c κs = search needs
+bare-requires : tie.Need-bare-requires
+bare-requires c κs = search needs
 
 is-name-requires : tie.Need-is-name-requires
 is-name-requires c κs = search needs
@@ -46,7 +46,7 @@ is-name-requires c κs = search needs
 returns-3 : tie.Need-returns-3
 returns-3 c =
     otherwise _ _ _ (omega arith) (sym (c .before .before .before .equal .ensures) ∙ c .before .before .if2 .left)
-    (c .before .without-star .ensures) (c .is-name .ensures)
+    (c .before .bare .ensures) (c .is-name .ensures)
 
 pub is-descriptor-spec : {M : Type 1} → statement M
 is-descriptor-spec =
@@ -56,6 +56,6 @@ is-descriptor-spec =
     slice-aggregate-equal
     equal-requires
     returns-2
-    without-star-requires
+    bare-requires
     is-name-requires
     returns-3)

@@ -27,15 +27,15 @@ equal-requires c κs = search needs
 returns : tie.Need-returns
 returns c = by-star _ _ (sym (c .before .equal .ensures) ∙ c .if1 .taken)
 
-without-star-requires : tie.Need-without-star-requires
-without-star-requires c κs = search needs
+bare-requires : tie.Need-bare-requires
+bare-requires c κs = search needs
 
 begins-with-requires : tie.Need-begins-with-requires
 begins-with-requires c κs = search needs
 
 returns-2 : tie.Need-returns-2
 returns-2 c =
-    by-tokens _ _ _ _ (sym (c .before .before .before .equal .ensures) ∙ c .before .before .if1 .left) (c .before .without-star .ensures) (c .begins-with .ensures)
+    by-tokens _ _ _ _ (sym (c .before .before .before .equal .ensures) ∙ c .before .before .if1 .left) (c .before .bare .ensures) (c .begins-with .ensures)
 
 pub matches-spec : {M : Type 1} → statement M
 matches-spec =
@@ -44,6 +44,6 @@ matches-spec =
     slice-aggregate-equal
     equal-requires
     returns
-    without-star-requires
+    bare-requires
     begins-with-requires
     returns-2)

@@ -1,14 +1,14 @@
--- `each_place` counts up to the number of tests.
+-- `each_place` goes through some of the functions.
 use borrow.Author.Needs.{needs}
 use Prim.Native.Nat.{_-_}
 use Rattle.names_run.proofs.each_place.Statement.{statement}
 use Rattle.names_run.proofs.each_place.Tie as tie
 
 abbrev Inv-loop : tie.InvT-loop
-Inv-loop name test₀ test = Unit {0}
+Inv-loop first last name function₀ function = Unit {0}
 
 abbrev μ-loop : tie.MeasureT-loop
-μ-loop name test₀ test = 6 - test
+μ-loop first last name function₀ function = last - function
 
 loop-holds : tie.Need-loop-holds Inv-loop μ-loop
 loop-holds c = search needs
@@ -16,8 +16,8 @@ loop-holds c = search needs
 each-place-for-requires : tie.Need-each-place-for-requires Inv-loop μ-loop
 each-place-for-requires c κs = search needs
 
-add-test : tie.Need-add-test Inv-loop μ-loop
-add-test c = search needs
+add-function : tie.Need-add-function Inv-loop μ-loop
+add-function c = search needs
 
 loop-less : tie.Need-loop-less Inv-loop μ-loop
 loop-less c = search needs
@@ -36,7 +36,7 @@ each-place-spec =
     μ-loop
     loop-holds
     each-place-for-requires
-    add-test
+    add-function
     loop-less
     loop-again
     returns)

@@ -6,10 +6,10 @@ use Rattle.names_run.proofs.each_place_for.Statement.{statement}
 use Rattle.names_run.proofs.each_place_for.Tie as tie
 
 abbrev Inv-loop : tie.InvT-loop
-Inv-loop test name place₀ place = Unit {0}
+Inv-loop function name place₀ place = Unit {0}
 
 abbrev μ-loop : tie.MeasureT-loop
-μ-loop test name place₀ place = length name - place
+μ-loop function name place₀ place = length name - place
 
 loop-holds : tie.Need-loop-holds Inv-loop μ-loop
 loop-holds c = search needs

@@ -5,19 +5,19 @@ use Rattle.names_run.proofs.each_value.Statement.{statement}
 use Rattle.names_run.proofs.each_value.Tie as tie
 
 abbrev Inv-loop : tie.InvT-loop
-Inv-loop test name place v₀ v = Unit {0}
+Inv-loop function name place v₀ v = Unit {0}
 
 abbrev μ-loop : tie.MeasureT-loop
-μ-loop test name place v₀ v = 256 - v
+μ-loop function name place v₀ v = 256 - v
 
 loop-holds : tie.Need-loop-holds Inv-loop μ-loop
 loop-holds c = search needs
 
-cast-mark-changed : tie.Need-cast-mark-changed Inv-loop μ-loop
-cast-mark-changed c = search needs
+cast-answer-changed : tie.Need-cast-answer-changed Inv-loop μ-loop
+cast-answer-changed c = search needs
 
-mark-changed-requires : tie.Need-mark-changed-requires Inv-loop μ-loop
-mark-changed-requires c κs = search needs
+answer-changed-requires : tie.Need-answer-changed-requires Inv-loop μ-loop
+answer-changed-requires c κs = search needs
 
 add-v : tie.Need-add-v Inv-loop μ-loop
 add-v c = search needs
@@ -41,8 +41,8 @@ each-value-spec =
     Inv-loop
     μ-loop
     loop-holds
-    cast-mark-changed
-    mark-changed-requires
+    cast-answer-changed
+    answer-changed-requires
     add-v
     loop-less
     loop-again

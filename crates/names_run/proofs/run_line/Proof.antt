@@ -32,6 +32,12 @@ after-requires c κs = search needs
 each-place-requires : tie.Need-each-place-requires
 each-place-requires c κs = search needs
 
+each-place-requires-2 : tie.Need-each-place-requires-2
+each-place-requires-2 c κs = search needs
+
+show-strays-requires : tie.Need-show-strays-requires
+show-strays-requires c κs = search needs
+
 each-length-requires : tie.Need-each-length-requires
 each-length-requires c κs = search needs
 
@@ -40,6 +46,12 @@ each-slot-requires c κs = search needs
 
 pair-requires : tie.Need-pair-requires
 pair-requires c κs = search needs
+
+each-changed-pair-requires : tie.Need-each-changed-pair-requires
+each-changed-pair-requires c κs = search needs
+
+each-length-of-pair-requires : tie.Need-each-length-of-pair-requires
+each-length-of-pair-requires c κs = search needs
 
 each-word-requires : tie.Need-each-word-requires
 each-word-requires c κs = search needs
@@ -71,6 +83,18 @@ returns-7 c = search needs
 returns-8 : tie.Need-returns-8
 returns-8 c = search needs
 
+returns-9 : tie.Need-returns-9
+returns-9 c = search needs
+
+returns-10 : tie.Need-returns-10
+returns-10 c = search needs
+
+returns-11 : tie.Need-returns-11
+returns-11 c = search needs
+
+returns-12 : tie.Need-returns-12
+returns-12 c = search needs
+
 pub run-line-spec : {M : Type 1} → statement M
 run-line-spec =
     tie.close
@@ -84,9 +108,13 @@ run-line-spec =
     slice-aggregate-one
     after-requires
     each-place-requires
+    each-place-requires-2
+    show-strays-requires
     each-length-requires
     each-slot-requires
     pair-requires
+    each-changed-pair-requires
+    each-length-of-pair-requires
     each-word-requires
     each-word-requires-2
     put-requires
@@ -96,4 +124,8 @@ run-line-spec =
     returns-5
     returns-6
     returns-7
-    returns-8)
+    returns-8
+    returns-9
+    returns-10
+    returns-11
+    returns-12)

@@ -6,8 +6,8 @@ use Rattle.queue.proofs.put_done_last.Tie as tie
 mul-from : tie.Need-mul-from
 mul-from c = search needs
 
-add-end : tie.Need-add-end
-add-end c = search needs
+add-to : tie.Need-add-to
+add-to c = search needs
 
 sub-put-done-name : tie.Need-sub-put-done-name
 sub-put-done-name c = search needs
@@ -32,7 +32,7 @@ put-done-last-spec =
     tie.close
     (tie.spec
     mul-from
-    add-end
+    add-to
     sub-put-done-name
     part-put-done-name-start
     part-put-done-name-end

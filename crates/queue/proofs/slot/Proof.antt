@@ -6,8 +6,8 @@ use Rattle.queue.proofs.slot.Tie as tie
 mul-from : tie.Need-mul-from
 mul-from c = search needs
 
-add-end : tie.Need-add-end
-add-end c = search needs
+add-to : tie.Need-add-to
+add-to c = search needs
 
 sub-result : tie.Need-sub-result
 sub-result c = search needs
@@ -23,4 +23,4 @@ returns c = slot-part (c .before .args .queue .now) (c .before .args .k)
 
 pub slot-spec : {M : Type 1} → statement M
 slot-spec =
-    tie.close (tie.spec mul-from add-end sub-result part-result-start part-result-end returns)
+    tie.close (tie.spec mul-from add-to sub-result part-result-start part-result-end returns)

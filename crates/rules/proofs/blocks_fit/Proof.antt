@@ -25,12 +25,12 @@ is-history-requires c κs = search needs
 returns : tie.Need-returns
 unfolding blocksFit
 returns c = rw (
-  block-none _ _ _ (c .before .before .before .before .before .before .list-block-of .ensures),
-  block-none _ _ _ (c .before .before .before .before .before .entry-block-of .ensures),
-  block-none _ _ _ (c .before .before .before .before .exit-block-of .ensures),
-  c .before .before .is-history .ensures,
-  c .before .before .before .before .before .before .before .is-root .ensures,
-  c .before .before .before .before .before .before .before .before .kind-of .ensures,
+  block-none _ _ _ (c .before .before .before .list-block-of .ensures),
+  block-none _ _ _ (c .before .before .entry-block-of .ensures),
+  block-none _ _ _ (c .before .exit-block-of .ensures),
+  c .is-history .ensures,
+  c .before .before .before .before .is-root .ensures,
+  c .before .before .before .before .before .kind-of .ensures,
 )
 
 pub blocks-fit-spec : {M : Type 1} → statement M

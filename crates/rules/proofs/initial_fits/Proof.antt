@@ -10,7 +10,7 @@ list-block-of-requires : tie.Need-list-block-of-requires
 list-block-of-requires c κs = search needs
 
 returns : tie.Need-returns
-returns c = initial-none _ _ _ (c .before .before .before .list-of .ensures .is) _ (c .before .before .if1 .taken) (c .before .list-block-of .ensures)
+returns c = initial-none _ _ _ (c .before .before .list-of .ensures .is) _ (c .before .if1 .taken) (c .list-block-of .ensures)
 
 all-descendants-requires : tie.Need-all-descendants-requires
 all-descendants-requires c κs = search needs

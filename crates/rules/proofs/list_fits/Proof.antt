@@ -36,9 +36,9 @@ list-block-of-requires c κs = search needs
 
 returns-3 : tie.Need-returns-3
 returns-3 c =
-    let other = sym (c .before .before .before .before .before .before .before .is-domain-kind .ensures) ∙ c .before .before .before .before .before .before .if1 .left in
-    let plain = told isHistory _ _ _ _ (c .before .before .before .before .before .kind-of .ensures) (c .before .before .before .before .is-history .ensures) (c .before .before .before .if2 .left) in
-    list-unused (chartOf _) _ _ other plain (unused-is _ _ _ (c .before .before .list-of .ensures .is) _ (c .before .list-block-of .ensures))
+    let other = sym (c .before .before .before .before .before .before .is-domain-kind .ensures) ∙ c .before .before .before .before .before .if1 .left in
+    let plain = told isHistory _ _ _ _ (c .before .before .before .before .kind-of .ensures) (c .before .before .before .is-history .ensures) (c .before .before .if2 .left) in
+    list-unused (chartOf _) _ _ other plain (unused-is _ _ _ (c .before .list-of .ensures .is) _ (c .list-block-of .ensures))
 
 pub list-fits-spec : {M : Type 1} → statement M
 list-fits-spec =

@@ -5,17 +5,17 @@ use Rattle.tables.specs.Ranges.{slot-in}
 use Rattle.rules1.proofs.action_named.Statement.{statement}
 use Rattle.rules1.proofs.action_named.Tie as tie
 
-action-of-requires : tie.Need-action-of-requires
-action-of-requires c κs = search needs
+action-at-requires : tie.Need-action-at-requires
+action-at-requires c κs = search needs
 
 enum-known-n : tie.Need-enum-known-n
 enum-known-n c = search needs
 
 cast-t9 : tie.Need-cast-t9
-cast-t9 c = let l = raise-low _ _ _ (c .before .n .given .1) (c .before .before .before .action-of .ensures .1) in let k = c .before .before .before .before .before .before .pre .0 .tables .sized .counts .names in omega arith
+cast-t9 c = let l = raise-low _ _ _ (c .before .n .given .1) (c .before .before .before .action-at .ensures .1) in let k = c .before .before .before .before .before .before .pre .0 .tables .sized .counts .names in omega arith
 
 slot-of-requires : tie.Need-slot-of-requires
-slot-of-requires c κs = slot-in _ _ _ (c .before .before .before .before .before .before .pre .1) (raise-low _ _ _ (c .before .n .given .1) (c .before .before .before .action-of .ensures .1))
+slot-of-requires c κs = slot-in _ _ _ (c .before .before .before .before .before .before .pre .1) (raise-low _ _ _ (c .before .n .given .1) (c .before .before .before .action-at .ensures .1))
 
 name-of-requires : tie.Need-name-of-requires
 name-of-requires c κs = search needs
@@ -27,16 +27,16 @@ enum-told : tie.Need-enum-told
 enum-told c = search needs
 
 returns : tie.Need-returns
-returns c = raise-named _ _ _ _ _ (c .before .before .before .before .before .before .action-of .ensures .0) _ _ _ (c .before .before .before .before .n .given .1) (c .before .before .slot-of .ensures) (c .before .name-of .ensures) (c .is-name .ensures)
+returns c = raise-named _ _ _ _ _ (c .before .before .before .before .before .before .action-at .ensures .0) _ _ _ (c .before .before .before .before .n .given .1) (c .before .before .slot-of .ensures) (c .before .name-of .ensures) (c .is-name .ensures)
 
 returns-2 : tie.Need-returns-2
-returns-2 c = host-named _ _ _ _ _ (c .before .before .action-of .ensures .0) (c .enum-told .given .1)
+returns-2 c = host-named _ _ _ _ _ (c .before .before .action-at .ensures .0) (c .enum-told .given .1)
 
 pub action-named-spec : {M : Type 1} → statement M
 action-named-spec =
     tie.close
     (tie.spec
-    action-of-requires
+    action-at-requires
     enum-known-n
     cast-t9
     slot-of-requires

@@ -1,5 +1,5 @@
 use borrow.Author.Needs.{needs}
-use Rattle.rules3.specs.Ancestry.{set-read}
+use Rattle.rules3.specs.Ancestry.{setOf}
 use Rattle.rules3.proofs.set_of.Statement.{statement}
 use Rattle.rules3.proofs.set_of.Tie as tie
 
@@ -13,7 +13,8 @@ set-at-requires : tie.Need-set-at-requires
 set-at-requires c κs = search needs
 
 returns : tie.Need-returns
-returns c = set-read _ _ _ (c .before .before .before .pre) (c .set-at .ensures)
+unfolding setOf
+returns c = c .set-at .ensures
 
 pub set-of-spec : {M : Type 1} → statement M
 set-of-spec = tie.close (tie.spec cast-set-at mul-set-at set-at-requires returns)

@@ -1,5 +1,4 @@
 use borrow.Author.Needs.{needs}
-use mathlib.Core.Path.{ap}
 use Rattle.definition.specs.Follower.{modeNo}
 use Rattle.state.proofs.mode_number.Statement.{statement}
 use Rattle.state.proofs.mode_number.Tie as tie

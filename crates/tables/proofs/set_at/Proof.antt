@@ -1,5 +1,6 @@
 use borrow.Author.Needs.{needs}
-use Rattle.tables.specs.Parts.{part-four}
+use mathlib.Core.Path.{refl}
+use Rattle.tables.specs.Parts.{setAt}
 use Rattle.tables.proofs.set_at.Statement.{statement}
 use Rattle.tables.proofs.set_at.Tie as tie
 
@@ -37,7 +38,8 @@ shared-slice-read-t17 : tie.Need-shared-slice-read-t17
 shared-slice-read-t17 c = search needs
 
 returns : tie.Need-returns
-returns c = part-four _ _ (c .before .before .before .before .pre)
+unfolding setAt
+returns c = refl
 
 pub set-at-spec : {M : Type 1} → statement M
 set-at-spec =

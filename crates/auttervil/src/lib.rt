@@ -1,0 +1,178 @@
+// The functions that a C program calls. A lent slice is a pointer and then the count of its elements; an answer is the number that document 01 gives it.
+// No function asks anything of its arguments but what C has to keep for every lent place: that it is there, aligned and as long as is said, and that a place that
+// is written overlaps no other.
+ghost use mathlib.Core.Path.{_≡_};
+ghost use mathlib.Core.Bool.{cond};
+ghost use Prim.Native.Nat.{_*_};
+ghost use lib.ListN.{length};
+ghost use Rattle.definition.specs.Tables.{nameCount, slotSize};
+ghost use Rattle.definition.specs.Rules.{countsFit, compiledSize};
+ghost use Rattle.definition.specs.Follower.{answerNo, statusNo};
+ghost use Rattle.state.specs.State.{traceWith};
+ghost use Rattle.session.specs.Sessions.{startOf, startEffects, postOf, runOf, runEffects};
+ghost use Rattle.auttervil.specs.Exports.{CompilesTo, chartAnswer, startResult, postResult, runResult};
+use definition::Answer;
+use definition::Status;
+use session::Session;
+
+pub fn answer_number(a: Answer) -> u32
+    ensures { λ n. ⌜ n ≡ answerNo a ⌝ }
+{
+    match a {
+        Answer::Done => 0,
+        Answer::Size => 1,
+        Answer::Names => 2,
+        Answer::Tree => 3,
+        Answer::Lists => 4,
+        Answer::Transitions => 5,
+        Answer::NotAName => 6,
+        Answer::Full => 7,
+        Answer::BadChart => 8,
+        Answer::BadSession => 9,
+        Answer::NoRoom => 10,
+        Answer::SessionEnded => 11,
+    }
+}
+
+// ---- the sizes of the two places for a compiled chart; 0 where the header's counts break rule 1
+
+#[no_mangle]
+pub extern "C" fn auttervil_raw_numbers_size(numbers: &[u64]) -> usize
+    ensures { λ n. ⌜ n ≡ cond (countsFit (now (numbers .entry))) (compiledSize (now (numbers .entry))) 0 ⌝ }
+{
+    compiler::numbers_size(numbers)
+}
+
+#[no_mangle]
+pub extern "C" fn auttervil_raw_names_size(numbers: &[u64]) -> usize
+    ensures { λ n. ⌜ n ≡ cond (countsFit (now (numbers .entry))) (nameCount (now (numbers .entry)) * slotSize) 0 ⌝ }
+{
+    compiler::names_size(numbers)
+}
+
+// ---- compiling
+
+// 0 and both places written, or the first rule broken and both as they were.
+#[no_mangle]
+pub extern "C" fn auttervil_raw_compile(
+    numbers: &[u64],
+    names: &[u8],
+    place: &mut [u64],
+    name_place: &mut [u8],
+) -> u32
+    ensures { λ n. ⌜ CompilesTo (now (numbers .entry)) (now (names .entry)) (now (place .entry)) (now («name_place» .entry)) n (now (place .exit)) (now («name_place» .exit)) ⌝ }
+{
+    let answer = compiler::compile(numbers, names, place, name_place);
+    answer_number(answer)
+}
+
+// 8 where the places hold no compiled chart, else 0.
+#[no_mangle]
+pub extern "C" fn auttervil_raw_check(place: &[u64], name_place: &[u8]) -> u32
+    ensures { λ n. ⌜ n ≡ answerNo (chartAnswer (now (place .entry)) (now («name_place» .entry))) ⌝ }
+{
+    if compiler::check(place, name_place) {
+        return answer_number(Answer::Done);
+    }
+    answer_number(Answer::BadChart)
+}
+
+// ---- a session: handed over by value, and handed back beside the answer
+
+pub fn status_number(status: Status) -> u32
+    ensures { λ n. ⌜ n ≡ statusNo status ⌝ }
+{
+    match status {
+        Status::More => 100,
+        Status::Idle => 101,
+        Status::Ended => 102,
+        Status::Refused(a) => answer_number(a),
+    }
+}
+
+// The first count entries of the trace are the start's.
+#[repr(C)]
+pub struct StartResult {
+    pub session: Session,
+    pub answer: u32,
+    pub count: usize,
+}
+
+// A session in the root's initial targets; or 8, 7, 10, an ended session and the trace as it was. The session that is handed over counts for nothing.
+#[no_mangle]
+pub extern "C" fn auttervil_raw_start(
+    session: Session,
+    chart: &[u64],
+    names: &[u8],
+    trace: &mut [u32],
+) -> StartResult
+    ensures { λ r. ⌜ (r ≡ startResult (startOf (now (chart .entry)) (now (names .entry)) (length (now (trace .entry))))) × (now (trace .exit) ≡ traceWith (now (trace .entry)) (startEffects (now (chart .entry)) (now (names .entry)) (length (now (trace .entry))))) ⌝ }
+{
+    let started = session.start(chart, names, trace);
+    let after = started.session;
+    let answer = started.answer;
+    let count = started.count;
+    StartResult {
+        session: after,
+        answer: answer_number(answer),
+        count: count,
+    }
+}
+
+#[repr(C)]
+pub struct PostResult {
+    pub session: Session,
+    pub answer: u32,
+}
+
+// The name last in the external queue, or 8, 9, 6, 11, 7 and the session as it was.
+#[no_mangle]
+pub extern "C" fn auttervil_raw_post(
+    session: Session,
+    chart: &[u64],
+    names: &[u8],
+    name: &[u8],
+) -> PostResult
+    ensures { λ r. ⌜ r ≡ postResult (postOf session (now (chart .entry)) (now (names .entry)) (now (name .entry))) ⌝ }
+{
+    let posted = session.post(chart, names, name);
+    let after = posted.session;
+    let answer = posted.answer;
+    PostResult {
+        session: after,
+        answer: answer_number(answer),
+    }
+}
+
+// The first count entries of the trace are those of the rounds done.
+#[repr(C)]
+pub struct RunResult {
+    pub session: Session,
+    pub status: u32,
+    pub rounds: u32,
+    pub count: usize,
+}
+
+// At most so many rounds. 8 or 9 leaves session and trace as they were; 7 or 10 as they were before the round that it refuses.
+#[no_mangle]
+pub extern "C" fn auttervil_raw_run(
+    session: Session,
+    chart: &[u64],
+    names: &[u8],
+    rounds: u32,
+    trace: &mut [u32],
+) -> RunResult
+    ensures { λ r. ⌜ (r ≡ runResult (runOf session (now (chart .entry)) (now (names .entry)) rounds (length (now (trace .entry))))) × (now (trace .exit) ≡ traceWith (now (trace .entry)) (runEffects session (now (chart .entry)) (now (names .entry)) rounds (length (now (trace .entry))))) ⌝ }
+{
+    let ran = session.run(chart, names, rounds, trace);
+    let after = ran.session;
+    let status = ran.status;
+    let number = ran.rounds;
+    let count = ran.count;
+    RunResult {
+        session: after,
+        status: status_number(status),
+        rounds: number,
+        count: count,
+    }
+}

@@ -1,0 +1,64 @@
+use borrow.Author.Needs.{needs}
+use Rattle.rounds.specs.Closing.{closed-refused, closed-did}
+use Rattle.rounds.proofs.Tags.{not-did}
+use Rattle.rounds.proofs.close.Statement.{statement}
+use Rattle.rounds.proofs.close.Tie as tie
+
+count-closing-requires : tie.Need-count-closing-requires
+count-closing-requires c κs = (c .before .before .before .before .before .pre .0, c .before .before .before .before .before .pre .1)
+
+judge-requires : tie.Need-judge-requires
+judge-requires c κs = search needs
+
+enum-told : tie.Need-enum-told
+enum-told c = search needs
+
+unchanged-requires : tie.Need-unchanged-requires
+unchanged-requires c κs = search needs
+
+returns : tie.Need-returns
+returns c = closed-refused _ _ (c .before .before .before .before .before .before .before .before .before .args .internal .now) (c .before .before .before .before .before .before .before .before .before .args .external .now) (c .before .before .before .before .before .before .before .before .before .args .trace .now) (c .before .before .before .count-closing .result) (c .before .before .before .count-closing .ensures) _ (c .before .before .judge .ensures) _ (c .unchanged .ensures) (not-did _ (c .before .match .keys2))
+
+closing-effects-requires : tie.Need-closing-effects-requires
+closing-effects-requires c κs = (c .before .before .before .before .before .before .before .before .before .before .pre .0, c .before .before .before .before .before .before .before .before .before .before .pre .1, search needs)
+
+clear-requires : tie.Need-clear-requires
+clear-requires c κs = search needs
+
+clear-requires-2 : tie.Need-clear-requires-2
+clear-requires-2 c κs = search needs
+
+ended-requires : tie.Need-ended-requires
+ended-requires c κs = search needs
+
+same-length : tie.Need-same-length
+same-length c = c .before .before .before .before .before .before .before .clear .kept .0
+
+same-length-2 : tie.Need-same-length-2
+same-length-2 c = c .before .before .before .clear2 .kept .0
+
+same-length-3 : tie.Need-same-length-3
+same-length-3 c = c .before .before .before .before .before .before .before .before .before .before .before .closing-effects .kept .1 .1 .0
+
+returns-2 : tie.Need-returns-2
+returns-2 c =
+    closed-did _ _ (c .before .before .before .before .before .before .before .before .before .before .before .before .before .before .before .before .before .before .before .before .before .before .args .internal .now) (c .before .before .before .before .before .before .before .before .before .before .before .before .before .before .before .before .before .before .before .before .before .before .args .external .now) (c .before .before .before .before .before .before .before .before .before .before .before .before .before .before .before .before .before .before .before .before .before .before .args .trace .now) (c .before .before .before .before .before .before .before .before .before .before .before .before .before .before .before .before .count-closing .result) (c .before .before .before .before .before .before .before .before .before .before .before .before .before .before .before .before .count-closing .ensures) _ (c .before .before .before .before .before .before .before .before .before .before .before .before .before .before .before .judge .ensures) (c .before .before .before .before .before .before .before .before .before .before .before .before .before .enum-told .given .1) _ (c .ended .ensures) _ _ _ (c .before .before .before .before .before .before .before .before .before .before .before .closing-effects .result)
+    (c .before .before .before .before .before .before .before .before .before .before .before .closing-effects .ensures) (c .before .before .before .before .before .before .before .clear .ensures) (c .before .before .before .clear2 .ensures) (c .before .before .before .before .before .before .before .before .before .before .before .before .before .before .before .before .before .before .before .before .before .before .pre .2) (c .before .before .before .before .before .before .before .before .before .before .before .before .before .before .before .before .before .before .before .before .before .before .pre .3)
+
+pub close-spec : {M : Type 1} → statement M
+close-spec =
+    tie.close
+    (tie.spec
+    count-closing-requires
+    judge-requires
+    enum-told
+    unchanged-requires
+    returns
+    closing-effects-requires
+    clear-requires
+    clear-requires-2
+    ended-requires
+    same-length
+    same-length-2
+    same-length-3
+    returns-2)

@@ -1,0 +1,72 @@
+use borrow.Author.Needs.{needs}
+use mathlib.Core.Path.{refl, _∙_}
+use Rattle.rounds.specs.Taking.{internal-leaves, external-leaves, queue-sizes, stores-ready, next-ready, entries-fit, entries-size, names-join, written-turn}
+use Rattle.rounds.proofs.write_round.Statement.{statement}
+use Rattle.rounds.proofs.write_round.Tie as tie
+
+internal-left-requires : tie.Need-internal-left-requires
+internal-left-requires c κs = internal-leaves _ _ _ _ _ _ _ _ _ _ _ (c .before .before .before .before .before .before .before .before .before .before .pre)
+
+plan-effects-requires : tie.Need-plan-effects-requires
+plan-effects-requires c κs = (c .before .before .before .before .before .before .before .before .before .before .before .before .pre .ready, c .before .before .before .before .before .before .before .before .before .before .before .before .pre .chosen .chooses .selected .fits, search needs)
+
+take-event-requires : tie.Need-take-event-requires
+take-event-requires c κs = queue-sizes _ _ _ _ _ _ _ _ _ _ _ (c .before .before .before .before .before .before .before .before .before .before .before .before .before .before .before .before .before .pre)
+
+slice-reshare-prefix-queue-names : tie.Need-slice-reshare-prefix-queue-names
+slice-reshare-prefix-queue-names c = entries-fit _ _ _ _ _ _ _ _ _ _ _ (c .before .before .before .before .before .before .before .before .before .before .before .before .before .before .before .before .before .before .before .before .before .before .pre) (c .before .before .before .before .before .before .before .before .before .before .before .before .before .before .before .before .before .before .before .before .before .before .args .trace .now) _ _ refl (c .before .before .before .before .before .before .before .before .before .plan-effects .ensures)
+
+slice-aggregate-queue-names : tie.Need-slice-aggregate-queue-names
+slice-aggregate-queue-names c = entries-size _ _ _ _ _ _ _ _ _ _ _ (c .before .before .before .before .before .before .before .before .before .before .before .before .before .before .before .before .before .before .before .before .before .before .before .pre) (c .before .before .before .before .before .before .before .before .before .before .before .before .before .before .before .before .before .before .before .before .before .before .before .args .trace .now) _ _ refl (c .before .before .before .before .before .before .before .before .before .before .plan-effects .ensures)
+
+queue-names-requires : tie.Need-queue-names-requires
+queue-names-requires c κs = names-join _ _ _ _ _ _ _ _ _ _ _ (c .before .before .before .before .before .before .before .before .before .before .before .before .before .before .before .before .before .before .before .before .before .before .before .before .pre) (c .before .before .before .before .before .before .before .before .before .before .before .before .before .before .before .before .before .before .before .before .before .before .before .before .args .trace .now) _ _ refl (c .before .before .before .before .before .before .before .before .before .before .before .plan-effects .ensures) _ _ (c .before .before .before .before .before .before .take-event .ensures .0) (c .before .before .before .before .before .before .before .before .before .before .before .before .before .internal-left .ensures)
+
+store-requires : tie.Need-store-requires
+store-requires c κs = stores-ready _ _ _ _ _ _ _ _ _ _ _ (c .before .before .before .before .before .before .before .before .before .before .before .before .before .before .before .before .before .before .before .before .before .before .before .before .before .before .before .before .pre)
+
+next-configuration-requires : tie.Need-next-configuration-requires
+next-configuration-requires c κs = search needs
+
+external-left-requires : tie.Need-external-left-requires
+external-left-requires c κs = external-leaves _ _ _ _ _ _ _ _ _ _ _ (c .before .before .before .before .before .before .before .before .before .before .before .before .before .before .before .before .before .before .before .before .before .before .before .before .before .before .before .before .before .before .before .before .pre)
+
+mode-of-requires : tie.Need-mode-of-requires
+mode-of-requires c κs = next-ready _ _ _ _ _ _ _ _ _ _ _ (c .before .before .before .before .before .before .before .before .before .before .before .before .before .before .before .before .before .before .before .before .before .before .before .before .before .before .before .before .before .before .before .before .before .pre) _ (c .before .next-configuration .ensures)
+
+same-length : tie.Need-same-length
+same-length c = c .before .before .before .before .before .store .kept .1 .1 .1 .1 .1 .0
+
+same-length-2 : tie.Need-same-length-2
+same-length-2 c = c .before .before .before .before .before .before .before .before .before .queue-names .kept .1 .1 .1 .0 ∙ c .before .before .before .before .before .before .before .before .before .before .before .before .before .before .before .before .take-event .kept .1 .0
+
+same-length-3 : tie.Need-same-length-3
+same-length-3 c = c .before .before .before .before .before .before .before .before .before .before .before .before .before .before .before .before .take-event .kept .1 .1 .0
+
+same-length-4 : tie.Need-same-length-4
+same-length-4 c = c .before .before .before .before .before .before .before .before .before .before .before .before .before .before .before .before .before .before .before .before .before .plan-effects .kept .1 .1 .1 .0
+
+returns : tie.Need-returns
+returns c =
+    written-turn _ _ _ _ _ _ _ _ _ _ _ (c .before .before .before .before .before .before .before .before .before .before .before .before .before .before .before .before .before .before .before .before .before .before .before .before .before .before .before .before .before .before .before .before .before .before .pre) (c .before .before .before .before .before .before .before .before .before .before .before .before .before .before .before .before .before .before .before .before .before .before .before .before .before .before .before .before .before .before .before .before .before .before .args .trace .now) _ _ refl (c .before .before .before .before .before .before .before .before .before .before .before .before .before .before .before .before .before .before .before .before .before .plan-effects .ensures) _ _ (c .before .before .before .before .before .before .before .before .before .before .before .before .before .before .before .before .take-event .ensures .0) (c .before .before .before .before .before .before .before .before .before .before .before .before .before .before .before .before .before .before .before .before .before .before .before .internal-left .ensures) _ _ _ _ _ _ _
+    (c .before .before .before .before .before .before .before .before .before .queue-names .ensures) (c .before .before .before .before .before .before .before .before .before .before .before .before .before .before .before .before .take-event .ensures .1) (c .before .external-left .ensures) (c .before .before .before .before .before .store .ensures) (record { fits = λ k. (c .before .before .before .slice-known9 .given k) .fits }) (c .before .before .next-configuration .ensures) (c .mode-of .ensures)
+
+pub write-round-spec : {M : Type 1} → statement M
+write-round-spec =
+    tie.close
+    (tie.spec
+    internal-left-requires
+    plan-effects-requires
+    take-event-requires
+    slice-reshare-prefix-queue-names
+    slice-aggregate-queue-names
+    queue-names-requires
+    store-requires
+    next-configuration-requires
+    external-left-requires
+    mode-of-requires
+    same-length
+    same-length-2
+    same-length-3
+    same-length-4
+    returns)

@@ -1,0 +1,10 @@
+pub mod Calls
+pub mod Turns
+pub mod Traces
+pub mod Judging
+pub mod Taking
+pub mod Deciding
+pub mod Closing
+pub mod Keeping
+pub mod Running
+pub mod Starting

@@ -1,0 +1,313 @@
+-- A round of a running session: what is given to it, what is decided before anything is written, and that what is written is the next state.
+use mathlib.Core.Path.{_≡_, refl, sym, ap, ap₂, subst, _∙_}
+use mathlib.Core.Bool.{true, false}
+use mathlib.Core.List.{List, [], _∷_, _++_, map}
+use mathlib.Core.Option.{none}
+use Prim.Native.Nat.{ℕ, _+_, _*_, _/_, _≤_, _<_}
+use native.Mathlib.Nat.{zero-add}
+use native.Mathlib.Omega.{arith}
+use lib.Dec.{ltb}
+use lib.ListN.{length, getD, take, length-append, List·getD-eq-default}
+use borrow.Author.Tests.{ltb-true, ltb-false, le-ltb}
+use Rattle.definition.specs.declared.Mode.{Mode}
+use Rattle.definition.specs.declared.Mode.the-variants.{Running, Closing}
+use Rattle.definition.specs.Rows.{from, flat, mem, any, union}
+use Rattle.definition.specs.Names.{Name}
+use Rattle.definition.specs.Chart.{Chart, Names}
+use Rattle.definition.specs.Tables.{rowCount, nameAt, chartOf}
+use Rattle.definition.specs.Selection.{History}
+use Rattle.definition.specs.Microstep.{Effect, traceNo, queued, exits, storing, storedIn, historyAfter, configurationAfter, effects}
+use Rattle.definition.specs.Follower.{Follower, did, isFinalUnderRoot, modeOf, taking, refusal}
+use Rattle.laws.specs.Bools.{bool-case}
+use Rattle.laws.specs.Lists.{set-below}
+use Rattle.laws.specs.Maps.{map-length, map-reads}
+use Rattle.theory.specs.Tree.{Tree}
+use Rattle.theory.specs.Runs.{Fits, not-refused}
+use Rattle.rowset.specs.declared.RowSet.{RowSet}
+use Rattle.rowset.specs.Member.{rowsOf}
+use Rattle.chart.specs.Ready.{setAt, CompiledWith}
+use Rattle.matching.specs.Chosen.{Within, chosenOf, atomicRows}
+use Rattle.matching.specs.Ready.{Prepared}
+use Rattle.selection.specs.History.{storedAt}
+use Rattle.effects.specs.declared.Tally.{Tally}
+use Rattle.effects.specs.Trace.{Wrote}
+use Rattle.microstep.specs.declared.Plan.{Plan}
+use Rattle.microstep.specs.Stored.{StoreReady, RoundReady}
+use Rattle.microstep.specs.Plan.{Planned, PlanReady, planEffects, plan-effects, plan-next, next-within}
+use Rattle.microstep.specs.Words.{historyRows, isStoring, HistoryStored, words-after}
+use Rattle.legality.specs.Rows.{RowsReady}
+use Rattle.queue.specs.Queues.{queueBytes, queueOf}
+use Rattle.state.specs.declared.State.{State}
+use Rattle.state.specs.State.{Holds, stateOf, historyWords}
+use Rattle.state.specs.Words as words
+use Rattle.state.specs.Found.{stored-set, queue-again, history-is}
+use Rattle.events.specs.declared.Source.{Source}
+use Rattle.events.specs.declared.Source.the-variants.{Nothing, Eventless, Internal, External}
+use Rattle.events.specs.declared.Choice.{Choice}
+use Rattle.events.specs.Rounds.{Chooses, internalAfter, externalAfter, internalBytes, externalBytes, roundBy, queuedNames, EntriesIn}
+use Rattle.events.specs.Left.{internalLeft, externalLeft, QueueIs, EventLeft, event-left}
+use Rattle.events.specs.Entries.{EntriesOf, round-entries}
+use Rattle.events.specs.Choosing.{conf-within, history-size, internal-size, external-size}
+use Rattle.rounds.specs.declared.Outcome.the-variants.{Did}
+use Rattle.rounds.specs.Turns.{Turned, turned-did}
+use Rattle.rounds.specs.Traces.{nothing, wrote-entries, wrote-trace, wrote-fit, wrote-front, wrote-size}
+use Rattle.rounds.specs.Judging.{LeavesInternal, LeavesExternal}
+
+-- the state that the parts spell
+abbrev pub spelled : List ℕ → State → List ℕ → List ℕ → List ℕ → Follower
+spelled chart s history internal external = stateOf (rowCount chart) s history internal external
+
+abbrev pub HoldsAt : List ℕ → State → List ℕ → List ℕ → List ℕ → Type 0
+HoldsAt chart s history internal external = Holds (chartOf chart) (spelled chart s history internal external) s history internal external
+
+-- what is worked out of a chart once
+pub record Given (chart names starts : List ℕ) (atoms histories : RowSet) : Type 0 where
+  pub prepared : Prepared chart names starts atoms
+  pub stores : rowsOf histories ≡ historyRows (chartOf chart)
+
+-- ---- the definition's round that takes these transitions
+
+abbrev pub roundEffects : Chart → Follower → List ℕ → List Effect
+roundEffects c f ts = effects c (f .configuration) (storedIn (f .history)) ts
+
+unfoldable pub nextBy : Source → Chart → Names → Follower → List ℕ → Follower
+nextBy source c names f ts = record {
+  configuration = configurationAfter c (f .configuration) (storedIn (f .history)) ts;
+  history = historyAfter c (f .configuration) (storedIn (f .history)) ts;
+  internal = internalAfter source f ++ flat (queued c names) (roundEffects c f ts);
+  external = externalAfter source f;
+  mode = modeOf c (configurationAfter c (f .configuration) (storedIn (f .history)) ts);
+}
+
+pub round-did : (source : Source) (c : Chart) (names : Names) (f : Follower) (ts : List ℕ) → (source ≡ Nothing → ⊥) → roundBy source c names f ts ≡ did (nextBy source c names f ts) (roundEffects c f ts)
+unfolding roundBy nextBy taking
+round-did Nothing c names f ts n = absurd (n refl)
+round-did Eventless c names f ts n = refl
+round-did Internal c names f ts n = refl
+round-did External c names f ts n = refl
+
+-- ---- a round that is to be done
+
+-- the choice that is to be carried out
+pub record HasChosen (chart names : List ℕ) (atoms histories : RowSet) (s : State) (history internal external : List ℕ) (choice : Choice) : Type 0 where
+  pub compiled : CompiledWith chart names
+  pub atomic : rowsOf atoms ≡ atomicRows (chartOf chart)
+  pub stores : rowsOf histories ≡ historyRows (chartOf chart)
+  pub holds : HoldsAt chart s history internal external
+  pub chooses : Chooses (chartOf chart) (nameAt names) (spelled chart s history internal external) (storedAt history) choice
+  pub some : choice .source ≡ Nothing → ⊥
+
+-- with its plan, and not refused
+pub record Decided (chart names : List ℕ) (atoms histories : RowSet) (s : State) (history internal external : List ℕ) (choice : Choice) (plan : Plan) (room : ℕ) : Type 0 where
+  pub chosen : HasChosen chart names atoms histories s history internal external choice
+  pub planned : Planned (chartOf chart) (rowsOf (s .configuration)) (storedAt history) (chosenOf (choice .selected .chosen)) plan
+  pub ready : PlanReady chart plan
+  pub goes : refusal room (nextBy (choice .source) (chartOf chart) (nameAt names) (spelled chart s history internal external) (chosenOf (choice .selected .chosen)))
+      (roundEffects (chartOf chart) (spelled chart s history internal external) (chosenOf (choice .selected .chosen))) ≡ none
+
+some-name : (queue : List Name) (n : ℕ) → n ≡ length queue → (queue ≡ [] → ⊥) → 0 < n
+some-name [] n e z = absurd (z refl)
+some-name (name ∷ names) n e z = omega arith
+
+-- ---- what a state that is spelled gives
+
+module _ (chart names : List ℕ) (k : CompiledWith chart names) (f : Follower) (s : State) (history internal external : List ℕ) (h : Holds (chartOf chart) f s history internal external) where
+  abbrev tree : Tree (chartOf chart)
+  tree = k .ready .sound .tree
+
+  stored-reads : storedAt history ≡ storedIn (f .history)
+  stored-reads = ap storedAt (h .spells .historyIs) ∙ history-is (chartOf chart) tree (let few = k .ready .tables .sized .counts .rows in omega arith) f (h .formed)
+
+  pub round-ready : (atoms : RowSet) → rowsOf atoms ≡ atomicRows (chartOf chart) → RoundReady chart history atoms (s .configuration)
+  round-ready atoms e = record {
+    store = record { ready = k .ready; atomic = e; inside = conf-within chart names k f s history internal external h };
+    room = history-size chart names k f s history internal external h;
+    kept = λ i l. record {
+      at = λ x m. set-below (rowCount chart) (storedIn (f .history) i) (stored-set (chartOf chart) tree f (h .formed) i) x
+          (sym (ap (λ (hist : History). mem x (hist i)) stored-reads) ∙ m);
+    };
+  }
+
+  pub leaves-internal : (source : Source) → (source ≡ Internal → f .internal ≡ [] → ⊥) → LeavesInternal source (s .internal)
+  leaves-internal source z = record { some = λ e. some-name (f .internal) (s .internal) (h .spells .internalCount) (z e) }
+
+  pub leaves-external : (source : Source) → (source ≡ External → f .external ≡ [] → ⊥) → LeavesExternal source (s .external)
+  leaves-external source z = record { some = λ e. some-name (f .external) (s .external) (h .spells .externalCount) (z e) }
+
+  -- the state is found again in its parts
+  pub spelled-again : spelled chart s history internal external ≡ f
+  unfolding stateOf
+  spelled-again =
+      let a = h .spells .configuration in
+      let b : map (storedAt history) (from (rowCount chart) 0) ≡ f .history =
+      ap (λ (n : ℕ). map (storedAt history) (from n 0)) (sym (h .formed .places)) ∙
+      map-reads (storedAt history) (f .history) 0 [] (λ i l. ap (storedAt history) (zero-add i) ∙ ap (λ (hist : History). hist i) stored-reads) in
+      let n : queueOf internal (s .internal) ≡ f .internal = rw (h .spells .internalIs, h .spells .internalCount) (queue-again (f .internal) (h .formed .internalShort) (h .formed .internalNames)) in
+      let x : queueOf external (s .external) ≡ f .external = rw (h .spells .externalIs, h .spells .externalCount) (queue-again (f .external) (h .formed .externalShort) (h .formed .externalNames)) in
+      let m = h .spells .modeIs in
+      λ i. record { configuration = a i; history = b i; internal = n i; external = x i; mode = m i }
+
+  -- a plan from the parts is one from the state
+  pub planned-from : (ts : List ℕ) (plan : Plan) → Planned (chartOf chart) (rowsOf (s .configuration)) (storedAt history) ts plan → Planned (chartOf chart) (f .configuration) (storedIn (f .history)) ts plan
+  planned-from ts plan p =
+      subst (λ (hist : History). Planned (chartOf chart) (f .configuration) hist ts plan) stored-reads
+      (subst (λ (conf : List ℕ). Planned (chartOf chart) conf (storedAt history) ts plan) (h .spells .configuration) p)
+
+  -- ---- stored history after the round
+
+  module _ (atoms out : RowSet) (ts new : List ℕ) (e : rowsOf atoms ≡ atomicRows (chartOf chart)) (q : rowsOf out ≡ exits (chartOf chart) (rowsOf (s .configuration)) (storedAt history) ts)
+      (w : HistoryStored chart (rowsOf (s .configuration)) (rowsOf out) history new) where
+    stored-inside : (i : ℕ) → i < rowCount chart → storedAt new i ≡ storedIn (historyAfter (chartOf chart) (f .configuration) (storedIn (f .history)) ts) i
+    stored-inside i l =
+        words-after chart atoms (s .configuration) out history new (round-ready atoms e) w ts q i l ∙
+        rw (h .spells .configuration, stored-reads)
+
+    -- a word past the rows' stays
+    same-word : (i v : ℕ) → rowCount chart ≤ i → v / 4 ≡ i → getD new v 0 ≡ getD history v 0
+    unfolding isStoring
+    same-word i v g d = w .rest v (rw (d, le-ltb i (rowCount chart) g))
+
+    same-past : (i : ℕ) → rowCount chart ≤ i → storedAt new i ≡ storedAt history i
+    unfolding storedAt setAt
+    same-past i g =
+        rw (same-word i (i * 4) g (omega arith), same-word i (i * 4 + 1) g (omega arith), same-word i (i * 4 + 2) g (omega arith), same-word i (i * 4 + 3) g (omega arith))
+
+    stored-past : (i : ℕ) → rowCount chart ≤ i → storedAt new i ≡ storedIn (historyAfter (chartOf chart) (f .configuration) (storedIn (f .history)) ts) i
+    unfolding historyAfter storing
+    stored-past i g =
+        same-past i g ∙ ap (λ (hist : History). hist i) stored-reads ∙ List·getD-eq-default (f .history) [] (let n = h .formed .places in omega arith) ∙
+        sym (List·getD-eq-default (historyAfter (chartOf chart) (f .configuration) (storedIn (f .history)) ts) [] (rw (map-length _ (rowCount chart) 0) g))
+
+    pub history-next : words.Fits new → new ≡ historyWords (historyAfter (chartOf chart) (f .configuration) (storedIn (f .history)) ts)
+    history-next fits =
+        words.history-written new (historyAfter (chartOf chart) (f .configuration) (storedIn (f .history)) ts) fits (w .room ∙ history-size chart names k f s history internal external h)
+        (λ i l. bool-case (ltb i (rowCount chart)) (λ b. stored-inside i (ltb-true _ _ b)) (λ b. stored-past i (ltb-false _ _ b)))
+
+-- ---- what is decided is written
+
+module _ (chart names : List ℕ) (atoms histories : RowSet) (s : State) (history internal external : List ℕ) (choice : Choice) (plan : Plan) (room : ℕ)
+    (d : Decided chart names atoms histories s history internal external choice plan room) where
+  abbrev g : HasChosen chart names atoms histories s history internal external choice
+  g = d .chosen
+
+  abbrev source : Source
+  source = choice .source
+
+  abbrev ts : List ℕ
+  ts = chosenOf (choice .selected .chosen)
+
+  abbrev f : Follower
+  f = spelled chart s history internal external
+
+  abbrev es : List Effect
+  es = roundEffects (chartOf chart) f ts
+
+  abbrev next : Follower
+  next = nextBy source (chartOf chart) (nameAt names) f ts
+
+  planned : Planned (chartOf chart) (f .configuration) (storedIn (f .history)) ts plan
+  planned = planned-from chart names (g .compiled) f s history internal external (g .holds) ts plan (d .planned)
+
+  fits : Fits room next es
+  fits = not-refused room next es (d .goes)
+
+  shown : planEffects (chartOf chart) plan ts ≡ es
+  shown = plan-effects (chartOf chart) (f .configuration) (storedIn (f .history)) ts plan planned
+
+  left : EventLeft source f s internal external
+  left = event-left (chartOf chart) f s history internal external source (g .holds) (g .chooses .internal) (g .chooses .external)
+
+  within : Within (rowCount chart) (rowsOf (s .configuration))
+  within = conf-within chart names (g .compiled) f s history internal external (g .holds)
+
+  entered : EntriesOf chart names es
+  entered =
+      round-entries chart names (g .compiled) (f .configuration) (storedIn (f .history)) ts
+      (subst (Within (rowCount chart)) (g .holds .spells .configuration) within) (g .chooses .selected .fits .inside)
+
+  pub internal-leaves : LeavesInternal source (s .internal)
+  internal-leaves = leaves-internal chart names (g .compiled) f s history internal external (g .holds) source (g .chooses .internal)
+
+  pub external-leaves : LeavesExternal source (s .external)
+  external-leaves = leaves-external chart names (g .compiled) f s history internal external (g .holds) source (g .chooses .external)
+
+  pub queue-sizes : (length internal ≡ 2048) × (length external ≡ 2048)
+  queue-sizes = (internal-size chart names (g .compiled) f s history internal external (g .holds), external-size chart names (g .compiled) f s history internal external (g .holds))
+
+  pub stores-ready : StoreReady chart atoms (s .configuration) × (rowsOf histories ≡ historyRows (chartOf chart)) × (length history ≡ 1024)
+  stores-ready = (record { ready = g .compiled .ready; atomic = g .atomic; inside = within }, g .stores, history-size chart names (g .compiled) f s history internal external (g .holds))
+
+  pub next-ready : (r : RowSet) → rowsOf r ≡ union (rowsOf (plan .stay)) (rowsOf (plan .set)) → RowsReady chart (rowsOf r)
+  next-ready r e =
+      let w : Within (rowCount chart) (rowsOf r) = rw e (next-within chart (rowsOf (s .configuration)) (storedAt history) ts plan within (d .planned) (d .ready)) in
+      record { ready = g .compiled .ready; inside = w .at }
+
+  module _ (old new : List ℕ) (t : Tally) (size : length old ≡ room) (w : Wrote old new nothing t (planEffects (chartOf chart) plan ts)) where
+    wrote : Wrote old new nothing t es
+    wrote = subst (Wrote old new nothing t) shown w
+
+    roomy : length es ≤ length old
+    roomy = let l = fits .roomy in omega arith
+
+    pub entries-fit : t .entries ≤ length new
+    entries-fit = wrote-fit old new t es roomy wrote
+
+    pub entries-size : t .entries ≡ length (take (t .entries) new)
+    entries-size = wrote-size old new t es roomy wrote
+
+    front : take (t .entries) new ≡ map traceNo es
+    front = wrote-front old new t es roomy wrote
+
+    module _ (inner : List ℕ) (kept : ℕ) (i : inner ≡ internalBytes source internal) (n : kept ≡ internalLeft source (s .internal)) where
+      queue-now : QueueIs (internalAfter source f) inner kept
+      queue-now = rw (i, n) (left .internal)
+
+      names-now : queuedNames (chartOf chart) (nameAt names) (take (t .entries) new) ≡ flat (queued (chartOf chart) (nameAt names)) es
+      names-now = ap (queuedNames (chartOf chart) (nameAt names)) front ∙ entered .queues
+
+      next-length : kept + length (queuedNames (chartOf chart) (nameAt names) (take (t .entries) new)) ≡ length (next .internal)
+      unfolding nextBy
+      next-length =
+          let a = queue-now .count in
+          let b = ap {B = ℕ} length names-now in
+          omega (arith, length-append (internalAfter source f) (flat (queued (chartOf chart) (nameAt names)) es))
+
+      pub names-join : CompiledWith chart names × EntriesIn chart (take (t .entries) new) × (inner ≡ queueBytes (queueOf inner kept)) × (kept + length (queuedNames (chartOf chart) (nameAt names) (take (t .entries) new)) ≤ 32)
+      names-join = (g .compiled, rw front (entered .inside), queue-now .again, let l = fits .short in let m = next-length in omega arith)
+
+      -- all of it
+      pub written-turn : (stored inner2 outer : List ℕ) (waiting others : ℕ) (conf : RowSet) (mode : Mode) →
+          (inner2 ≡ queueBytes (queueOf inner kept ++ queuedNames (chartOf chart) (nameAt names) (take (t .entries) new))) ×
+          (waiting ≡ kept + length (queuedNames (chartOf chart) (nameAt names) (take (t .entries) new))) →
+          outer ≡ externalBytes source external → others ≡ externalLeft source (s .external) →
+          HistoryStored chart (rowsOf (s .configuration)) (rowsOf (plan .out)) history stored → words.Fits stored →
+          rowsOf conf ≡ union (rowsOf (plan .stay)) (rowsOf (plan .set)) → mode ≡ modeOf (chartOf chart) (rowsOf conf) →
+          Turned (roundBy source (chartOf chart) (nameAt names) f ts) f
+          (record { state = record { configuration = conf; internal = waiting; external = others; mode = mode }; outcome = Did; count = t .entries }) stored inner2 outer old new
+      written-turn stored inner2 outer waiting others conf mode joined x y h k r m =
+          turned-did (roundBy source (chartOf chart) (nameAt names) f ts) f
+          (record { state = record { configuration = conf; internal = waiting; external = others; mode = mode }; outcome = Did; count = t .entries }) stored inner2 outer old new next es
+          (round-did source (chartOf chart) (nameAt names) f ts (g .some)) (rw size (d .goes)) refl
+          (unfold nextBy in record {
+            configuration = conf-is;
+            historyIs = history-next chart names (g .compiled) f s history internal external (g .holds) atoms (plan .out) ts stored (g .atomic) (d .planned .out) h k;
+            internalIs = joined .0 ∙ ap queueBytes (ap₂ {C = List Name} (λ a b. a ++ b) (queue-now .names) names-now);
+            externalIs = x ∙ left .external .bytes;
+            internalCount = joined .1 ∙ next-length;
+            externalCount = y ∙ left .external .count;
+            modeIs = m ∙ ap (modeOf (chartOf chart)) conf-is;
+          }) (wrote-entries old new t es roomy wrote) (wrote-trace old new t es roomy wrote)
+        where
+          conf-is : rowsOf conf ≡ configurationAfter (chartOf chart) (f .configuration) (storedIn (f .history)) ts
+          conf-is = r ∙ plan-next (chartOf chart) (f .configuration) (storedIn (f .history)) ts plan planned
+
+-- ---- "A final under root sets closing."
+
+module _ (c : Chart) (conf : List ℕ) where
+  pub mode-closing : any (isFinalUnderRoot c) conf ≡ true → Closing ≡ modeOf c conf
+  unfolding modeOf
+  mode-closing e = rw e
+
+  pub mode-running : any (isFinalUnderRoot c) conf ≡ false → Running ≡ modeOf c conf
+  unfolding modeOf
+  mode-running e = rw e

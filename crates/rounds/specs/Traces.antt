@@ -1,0 +1,88 @@
+-- The trace after effects were written: into it from its beginning, or into the part behind the entries that are there.
+use mathlib.Core.Path.{_≡_, sym, ap, _∙_}
+use mathlib.Core.List.{List, _++_, map, map-append, append-assoc, append-nil}
+use Prim.Native.Nat.{ℕ, _+_, _-_, _≤_}
+use native.Mathlib.Nat.{zero-add}
+use native.Mathlib.Omega.{arith}
+use lib.ListN.{length, take, drop, length-append, length-map, length-drop}
+use lib.Seq.{take-at, take-all, drop-at, drop-drop, drop-length, length-take-le}
+use Rattle.definition.specs.Microstep.{Effect, traceNo}
+use Rattle.effects.specs.declared.Tally.{Tally}
+use Rattle.effects.specs.Trace.{overwrite-inside, Wrote}
+use Rattle.state.specs.State.{traceWith}
+
+-- nothing counted yet
+abbrev pub nothing : Tally
+nothing = record { entries = 0; names = 0 }
+
+-- ---- written from the beginning on
+
+pub trace-length : (old : List ℕ) (es : List Effect) → length es ≤ length old → length (traceWith old es) ≡ length old
+unfolding traceWith
+trace-length old es l = omega (arith, length-append (map traceNo es) (drop (length es) old), length-map es traceNo, length-drop (length es) old)
+
+module _ (old new : List ℕ) (t : Tally) (es : List Effect) (l : length es ≤ length old) (w : Wrote old new nothing t es) where
+  pub wrote-entries : t .entries ≡ length es
+  wrote-entries = w .entries ∙ zero-add (length es)
+
+  pub wrote-trace : new ≡ traceWith old es
+  unfolding traceWith
+  wrote-trace =
+      let n = length-map es traceNo in
+      let z : 0 + length (map traceNo es) ≡ length es = omega arith in
+      w .trace ∙ overwrite-inside old 0 (map traceNo es) (omega arith) ∙ ap (λ (k : ℕ). map traceNo es ++ drop k old) z
+
+  pub wrote-fit : t .entries ≤ length new
+  wrote-fit = let n = wrote-entries in let m = ap {B = ℕ} length wrote-trace ∙ trace-length old es l in omega arith
+
+  -- the entries are found at its beginning
+  pub wrote-front : take (t .entries) new ≡ map traceNo es
+  unfolding traceWith
+  wrote-front = ap (take (t .entries)) wrote-trace ∙ take-at (map traceNo es) (drop (length es) old) (t .entries) (length-map es traceNo ∙ sym wrote-entries)
+
+  pub wrote-size : t .entries ≡ length (take (t .entries) new)
+  wrote-size = wrote-entries ∙ sym (ap {B = ℕ} length wrote-front ∙ length-map es traceNo)
+
+-- es, then fs
+pub trace-both : (old : List ℕ) (es fs : List Effect) → traceWith old (es ++ fs) ≡ map traceNo es ++ traceWith (drop (length es) old) fs
+unfolding traceWith
+trace-both old es fs =
+    rw (map-append traceNo es fs, length-append es fs, drop-drop (length fs) (length es) old) (append-assoc (map traceNo es) (map traceNo fs) (drop (length es + length fs) old))
+
+-- ---- written behind the entries that are there
+
+module _ (trace : List ℕ) (count : ℕ) (l : count ≤ length trace) where
+  -- the part that is lent is all that is behind them
+  pub part-behind : take (length trace - count) (drop count trace) ≡ drop count trace
+  part-behind = take-all (length trace - count) (drop count trace) (omega (arith, length-drop count trace))
+
+  pub part-length : length (drop count trace) ≡ length trace - count
+  part-length = length-drop count trace
+
+  -- and it is put back
+  pub part-back : (part : List ℕ) → take count trace ++ (part ++ drop (length trace - count) (drop count trace)) ≡ take count trace ++ part
+  part-back part =
+      let e : count + (length trace - count) ≡ length trace = omega arith in
+      ap (λ (xs : List ℕ). take count trace ++ (part ++ xs)) (drop-drop (length trace - count) count trace ∙ ap (λ (k : ℕ). drop k trace) e ∙ drop-length trace) ∙
+      ap (λ (xs : List ℕ). take count trace ++ xs) (append-nil part)
+
+  pub back-length : (part : List ℕ) → length part ≡ length trace - count → length (take count trace ++ part) ≡ length trace
+  back-length part e = omega (arith, length-append (take count trace) part, length-take-le count trace l)
+
+  module _ (es : List Effect) where
+    written-is : take count trace ++ traceWith (drop count trace) es ≡ (take count trace ++ map traceNo es) ++ drop (length es) (drop count trace)
+    unfolding traceWith
+    written-is = sym (append-assoc (take count trace) (map traceNo es) (drop (length es) (drop count trace)))
+
+    front-length : length (take count trace ++ map traceNo es) ≡ count + length es
+    front-length = omega (arith, length-append (take count trace) (map traceNo es), length-take-le count trace l, length-map es traceNo)
+
+    -- one round more
+    pub written-both : (fs : List Effect) →
+        take count trace ++ traceWith (drop count trace) (es ++ fs) ≡
+        take (count + length es) (take count trace ++ traceWith (drop count trace) es) ++ traceWith (drop (count + length es) (take count trace ++ traceWith (drop count trace) es)) fs
+    written-both fs =
+        let front = take count trace ++ map traceNo es in
+        let rest = drop (length es) (drop count trace) in
+        rw (written-is, take-at front rest (count + length es) front-length, drop-at front rest (count + length es) front-length, trace-both (drop count trace) es fs)
+        (sym (append-assoc (take count trace) (map traceNo es) (traceWith rest fs)))

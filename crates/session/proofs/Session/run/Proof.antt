@@ -1,0 +1,81 @@
+use borrow.Author.Needs.{needs}
+use mathlib.Core.Path.{refl, _∙_}
+use Rattle.laws.specs.Loops.{said-not-yes, said-not-no}
+use Rattle.chart.specs.Own.{compiled-ready}
+use Rattle.session.specs.Calling.{parts-session, parts-hold, run-is, run-trace, run-bad-chart, bad-chart-trace, run-bad-session, bad-session-trace}
+use Rattle.session.proofs.Session.run.Statement.{statement}
+use Rattle.session.proofs.Session.run.Tie as tie
+
+check-requires : tie.Need-check-requires
+check-requires c κs = search needs
+
+refused-requires : tie.Need-refused-requires
+refused-requires c κs = search needs
+
+returns : tie.Need-returns
+returns c =
+    let k = said-not-yes _ _ (c .before .before .check .ensures) (c .before .if1 .taken) in
+    (c .refused .ensures ∙ run-bad-chart _ _ _ _ _ k, bad-chart-trace _ _ _ _ _ _ k)
+
+is-session-requires : tie.Need-is-session-requires
+is-session-requires c κs = compiled-ready _ _ (said-not-no _ _ (c .before .check .ensures) (c .if1 .left)) .ready
+
+refused-requires-2 : tie.Need-refused-requires-2
+refused-requires-2 c κs = search needs
+
+returns-2 : tie.Need-returns-2
+returns-2 c =
+    let k = said-not-no _ _ (c .before .before .before .before .check .ensures) (c .before .before .before .if1 .left) in
+    let h = said-not-yes _ _ (c .before .before .is-session .ensures) (c .before .if2 .taken) in
+    (c .refused2 .ensures ∙ run-bad-session _ _ _ _ _ k h, bad-session-trace _ _ _ _ _ _ k h)
+
+state-requires : tie.Need-state-requires
+state-requires c κs = search needs
+
+slice-aggregate-run : tie.Need-slice-aggregate-run
+slice-aggregate-run c = search needs
+
+slice-aggregate-run-2 : tie.Need-slice-aggregate-run-2
+slice-aggregate-run-2 c = search needs
+
+slice-aggregate-run-3 : tie.Need-slice-aggregate-run-3
+slice-aggregate-run-3 c = search needs
+
+run-requires : tie.Need-run-requires
+run-requires c κs =
+    let k = said-not-no _ _ (c .before .before .before .before .before .before .before .before .before .before .before .check .ensures) (c .before .before .before .before .before .before .before .before .before .before .if1 .left) in
+    let h = said-not-no _ _ (c .before .before .before .before .before .before .before .before .before .is-session .ensures) (c .before .before .before .before .before .before .before .before .if2 .left) in
+    (compiled-ready _ _ k, parts-hold _ _ _ _ (c .before .before .before .before .before .before .before .state .ensures) k h)
+
+of-requires : tie.Need-of-requires
+of-requires c κs = search needs
+
+same-length : tie.Need-same-length
+same-length c = search needs
+
+returns-3 : tie.Need-returns-3
+returns-3 c =
+    let k = said-not-no _ _ (c .before .before .before .before .before .before .before .before .before .before .before .before .before .before .before .before .before .before .before .check .ensures) (c .before .before .before .before .before .before .before .before .before .before .before .before .before .before .before .before .before .before .if1 .left) in
+    let h = said-not-no _ _ (c .before .before .before .before .before .before .before .before .before .before .before .before .before .before .before .before .before .is-session .ensures) (c .before .before .before .before .before .before .before .before .before .before .before .before .before .before .before .before .if2 .left) in
+    let t = c .before .before .before .before .before .before .before .before .before .before .before .before .before .before .before .state .ensures in
+    let d = c .before .before .before .before .before .before .before .run .ensures in
+    (run-is _ _ _ _ t k h _ _ _ _ _ _ (c .of .ensures ∙ parts-session _ _ _ _ _ _ _ (d .state) refl refl) (d .status) (d .rounds) (d .count), run-trace _ _ _ _ t k h _ _ _ _ (d .written))
+
+pub run-spec : {M : Type 1} → statement M
+run-spec =
+    tie.close
+    (tie.spec
+    check-requires
+    refused-requires
+    returns
+    is-session-requires
+    refused-requires-2
+    returns-2
+    state-requires
+    slice-aggregate-run
+    slice-aggregate-run-2
+    slice-aggregate-run-3
+    run-requires
+    of-requires
+    same-length
+    returns-3)

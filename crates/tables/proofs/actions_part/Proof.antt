@@ -1,0 +1,54 @@
+use borrow.Author.Needs.{needs}
+use Rattle.tables.specs.Parts.{block-listed}
+use Rattle.tables.specs.Ranges.{layout}
+use Rattle.tables.proofs.actions_part.Statement.{statement}
+use Rattle.tables.proofs.actions_part.Tie as tie
+
+action-base-requires : tie.Need-action-base-requires
+action-base-requires c κs = search needs
+
+mul-from : tie.Need-mul-from
+mul-from c = search needs
+
+add-from : tie.Need-add-from
+unfolding layout
+add-from c = search needs
+
+mul-to : tie.Need-mul-to
+mul-to c = search needs
+
+add-to : tie.Need-add-to
+unfolding layout
+add-to c = search needs
+
+mul-result : tie.Need-mul-result
+unfolding layout
+mul-result c = search needs
+
+sub-result : tie.Need-sub-result
+sub-result c = search needs
+
+part-result-start : tie.Need-part-result-start
+part-result-start c = search needs
+
+part-result-end : tie.Need-part-result-end
+unfolding layout
+part-result-end c = search needs
+
+returns : tie.Need-returns
+returns c = block-listed _ _ _ _ (c .before .before .before .pre .0) (c .before .before .before .pre .1) (c .before .before .before .pre .2) (c .before .action-base .ensures)
+
+pub actions-part-spec : {M : Type 1} → statement M
+actions-part-spec =
+    tie.close
+    (tie.spec
+    action-base-requires
+    mul-from
+    add-from
+    mul-to
+    add-to
+    mul-result
+    sub-result
+    part-result-start
+    part-result-end
+    returns)
