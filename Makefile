@@ -7,8 +7,9 @@
 # make manifest   notes the files that make test expects
 CARGO = cargo build --quiet --offline
 LINKED = --manifest-path linked/Cargo.toml --target-dir build/linked
+BENCH = --release --manifest-path bench/Cargo.toml --target-dir build/bench --features linked
 
-.PHONY: test demo lib bench examples cases manifest second linked clean
+.PHONY: test demo lib bench agree examples cases manifest second linked clean
 
 test:
 	@bash tests/run
@@ -19,10 +20,13 @@ second:
 demo: second
 	@build/second/release/demo
 
-lib:
+lib: build/libauttervil.a
+
+# Proved anew whenever code, contract or proof has changed.
+build/libauttervil.a: crates.txt $(shell find crates -name '*.rt' -o -name '*.antt')
 	@rt staticlib auttervil
 	@mkdir -p build
-	@cmp -s target/staticlib/libauttervil.a build/libauttervil.a || cp target/staticlib/libauttervil.a build/libauttervil.a
+	@cp target/staticlib/libauttervil.a build/libauttervil.a
 
 linked: lib
 	@$(CARGO) --release $(LINKED) --bin linked
@@ -30,6 +34,12 @@ linked: lib
 bench: lib
 	@$(CARGO) --profile measured $(LINKED) --bin bench
 	@build/linked/measured/bench
+	@AUTTERVIL_LIBRARY=$(CURDIR)/build $(CARGO) $(BENCH) --bin rounds
+	@mkdir -p build/rounds
+	@build/bench/release/rounds build/rounds
+
+agree: lib
+	@AUTTERVIL_LIBRARY=$(CURDIR)/build $(CARGO) $(BENCH) --bin agree
 
 examples: second
 	@build/second/release/write-examples crates/examples/specs

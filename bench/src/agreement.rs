@@ -1,0 +1,309 @@
+//! The engine, and the library where it is linked, against the second program: the same answers,
+//! sessions and traces on generated charts and call lists, with every refusal among them.
+
+use crate::bridge::{followed, plain};
+use crate::contenders::{Calls, Engine, Follower, Lent};
+use crate::engine::answers::*;
+use crate::engine::{verdict, Session};
+use second::agreement::Trial;
+use second::calls::Call;
+use second::compiled::{compile, needed_place, CompiledChart, Places};
+use second::coverage::Coverage;
+use second::encode::{encode, Layout, Spelt};
+use second::generate::{self, CallMaker};
+use second::limits::{HEADER_CELLS, NONE, ROW_SET_WORDS};
+use second::near_misses;
+use second::random::Random;
+use second::rules::{self, Place};
+
+pub type Found = Result<(), String>;
+
+/// Who is held to the follower.
+fn contenders() -> Vec<Box<dyn Calls>> {
+    #[cfg_attr(not(feature = "linked"), allow(unused_mut))]
+    let mut all: Vec<Box<dyn Calls>> = vec![Box::new(Engine)];
+    #[cfg(feature = "linked")]
+    all.push(Box::new(crate::library::Library));
+    all
+}
+
+fn ensure(holds: bool, what: impl FnOnce() -> String) -> Found {
+    match holds {
+        true => Ok(()),
+        false => Err(what()),
+    }
+}
+
+fn lent(places: &Places) -> Lent<'_> {
+    Lent { numbers: &places.numbers, names: &places.names }
+}
+
+/// All that a call gives: answer or status, rounds, count of entries, session, and the whole trace
+/// with the places beyond the count.
+type Given = (u32, u32, usize, Session, Vec<u32>);
+
+fn given(calls: &dyn Calls, call: &Call, session: Session, lent: Lent) -> Given {
+    let fresh = |room: usize| (0..room as u32).map(|place| place.wrapping_mul(0x9e37_79b9)).collect();
+    match call {
+        Call::Start { room } => {
+            let mut trace: Vec<u32> = fresh(*room);
+            let started = calls.start(session, lent, &mut trace);
+            (started.answer, 0, started.count, started.session, trace)
+        }
+        Call::Post { name } => {
+            let posted = calls.post(session, lent, name);
+            (posted.answer, 0, 0, posted.session, Vec::new())
+        }
+        Call::Run { rounds, room } => {
+            let mut trace: Vec<u32> = fresh(*room);
+            let ran = calls.run(session, lent, *rounds, &mut trace);
+            (ran.status, ran.rounds, ran.count, ran.session, trace)
+        }
+    }
+}
+
+pub struct Comparison<'a> {
+    random: Random,
+    seed: u64,
+    pub coverage: &'a mut Coverage,
+}
+
+/// One generated chart with its call lists.
+pub fn try_seed(seed: u64, coverage: &mut Coverage) -> Found {
+    let trial = Trial::of_seed(seed);
+    let mut comparison = Comparison { random: Random::seeded(seed ^ 0xbe_9c4), seed, coverage };
+    comparison.trial(&trial).map_err(|what| format!("seed {seed}: {what}"))
+}
+
+impl Comparison<'_> {
+    fn trial(&mut self, trial: &Trial) -> Found {
+        let spelt = encode(&trial.chart, Layout::Mixed(Random::seeded(self.seed)));
+        let place = needed_place(&spelt.numbers).ok_or("a generated chart is too large")?;
+        let places = compile(&spelt.numbers, &spelt.names, place).map_err(|rule| rule.to_string())?;
+        let compiled = CompiledChart::open(&places.numbers, &places.names).ok_or("a compiled chart opens")?;
+        self.coverage.note_if("charts of 40 rows and more", trial.chart.rows.len() >= 40);
+        self.call_list(&places, &trial.calls)?;
+        let more = CallMaker::new(&mut self.random, &trial.chart).calls(3);
+        self.disturbed_list(&places, &compiled, &more)?;
+        self.made_sessions(&places, &compiled)?;
+        self.changed_charts(&places, spelt.numbers.len())?;
+        self.changed_tables(&spelt)?;
+        self.near_misses(trial)
+    }
+
+    /// One call of everyone; the session that it leaves.
+    fn call(&mut self, call: &Call, session: Session, lent: Lent) -> Result<Session, String> {
+        let expected = given(&Follower, call, session, lent);
+        for contender in contenders() {
+            let found = given(&*contender, call, session, lent);
+            ensure(found == expected, || {
+                let told = |(answer, rounds, count, session, trace): &Given| {
+                    let entries = &trace[..(*count).min(trace.len())];
+                    format!("{answer}, {rounds} rounds, {entries:x?}, {:?}", followed(session))
+                };
+                let (name, found, expected) = (contender.name(), told(&found), told(&expected));
+                format!("{call:?}\n{name}: {found}\nfollower: {expected}")
+            })?;
+        }
+        self.count(call, expected.0);
+        Ok(expected.3)
+    }
+
+    fn count(&mut self, call: &Call, answer: u32) {
+        self.coverage.note("calls");
+        self.coverage.note(match (call, answer) {
+            (Call::Start { .. }, DONE) => "start: 0",
+            (Call::Start { .. }, FULL) => "start: 7",
+            (Call::Start { .. }, BAD_CHART) => "start: 8",
+            (Call::Start { .. }, _) => "start: 10",
+            (Call::Post { .. }, DONE) => "post: 0",
+            (Call::Post { .. }, BAD_NAME) => "post: 6",
+            (Call::Post { .. }, FULL) => "post: 7",
+            (Call::Post { .. }, BAD_CHART) => "post: 8",
+            (Call::Post { .. }, BAD_SESSION) => "post: 9",
+            (Call::Post { .. }, _) => "post: 11",
+            (Call::Run { .. }, MORE) => "run: more",
+            (Call::Run { .. }, IDLE) => "run: idle",
+            (Call::Run { .. }, ENDED) => "run: ended",
+            (Call::Run { .. }, FULL) => "run: 7",
+            (Call::Run { .. }, BAD_CHART) => "run: 8",
+            (Call::Run { .. }, BAD_SESSION) => "run: 9",
+            (Call::Run { .. }, _) => "run: 10",
+        });
+    }
+
+    fn call_list(&mut self, places: &Places, calls: &[Call]) -> Found {
+        self.coverage.note("call lists");
+        let mut session = Session::ENDED;
+        for call in calls {
+            session = self.call(call, session, lent(places))?;
+        }
+        Ok(())
+    }
+
+    /// A list in which some calls get a changed chart or a changed session. After a refusal for
+    /// it the list goes on with the session from before.
+    fn disturbed_list(&mut self, places: &Places, compiled: &CompiledChart, calls: &[Call]) -> Found {
+        self.coverage.note("call lists");
+        let rows = compiled.chart.rows.len();
+        let mut session = Session::ENDED;
+        for call in calls {
+            let mut used = places.clone();
+            let mut handed = session;
+            match self.random.below(8) {
+                0 => self.change_set(&mut used, rows),
+                1 => self.damage(&mut handed, rows),
+                _ => {}
+            }
+            let left = self.call(call, handed, lent(&used))?;
+            let undisturbed = handed == session && used == *places;
+            let goes_on = undisturbed || followed(&left).is_well_formed(compiled);
+            session = if goes_on { left } else { session };
+        }
+        Ok(())
+    }
+
+    /// Sessions that no start needs to reach, as they are and damaged.
+    fn made_sessions(&mut self, places: &Places, compiled: &CompiledChart) -> Found {
+        for _ in 0..3 {
+            let made = plain(&generate::session(&mut self.random, compiled));
+            self.short_calls(made, lent(places))?;
+            for _ in 0..3 {
+                let mut damaged = made;
+                self.damage(&mut damaged, compiled.chart.rows.len());
+                self.short_calls(damaged, lent(places))?;
+            }
+        }
+        Ok(())
+    }
+
+    /// A run, a post and a run behind it.
+    fn short_calls(&mut self, session: Session, lent: Lent) -> Found {
+        let room = self.random.between(0, 300);
+        let session = self.call(&Call::Run { rounds: 5, room }, session, lent)?;
+        let session = self.call(&Call::Post { name: b"e".to_vec() }, session, lent)?;
+        self.call(&Call::Run { rounds: 20, room: 300 }, session, lent).map(|_| ())
+    }
+
+    /// Compiled charts with something changed: in the sets, in the tables, or in the names. A
+    /// change of the tables may leave another compiled chart, which is then followed too.
+    fn changed_charts(&mut self, places: &Places, tables: usize) -> Found {
+        for _ in 0..6 {
+            let mut changed = places.clone();
+            let names = &mut changed.names;
+            match self.random.below(6) {
+                0 => {
+                    let cell = self.random.between(tables, changed.numbers.len() - 1);
+                    changed.numbers[cell] ^= 1 << self.random.below(64);
+                }
+                1 => {
+                    let place = self.random.below(names.len());
+                    names[place] =
+                        *b"\0.*aZ_ ".get(self.random.below(8)).unwrap_or(&(self.random.number() as u8));
+                }
+                2 => match self.random.below(4) {
+                    0 => changed.numbers.push(0),
+                    1 => drop(changed.numbers.pop()),
+                    2 => names.push(0),
+                    _ => drop(names.pop()),
+                },
+                _ => self.change_cell(&mut changed.numbers[..tables]),
+            }
+            let calls = [
+                Call::Start { room: 300 },
+                Call::Post { name: b"e".to_vec() },
+                Call::Run { rounds: 10, room: 300 },
+            ];
+            let mut session = Session::ENDED;
+            for call in calls {
+                session = self.call(&call, session, lent(&changed))?;
+            }
+        }
+        Ok(())
+    }
+
+    /// Tables with cells changed at will: the same verdict of both.
+    fn changed_tables(&mut self, spelt: &Spelt) -> Found {
+        for _ in 0..6 {
+            let mut numbers = spelt.numbers.clone();
+            for _ in 0..self.random.between(1, 2) {
+                self.change_cell(&mut numbers);
+            }
+            let place = needed_place(&numbers).unwrap_or(Place { numbers: 0, names: 0 });
+            self.same_verdict(&numbers, &spelt.names, place)?;
+        }
+        Ok(())
+    }
+
+    /// Tables that break one rule, behind them sets of zeros: the same verdict, and refusal 8.
+    fn near_misses(&mut self, trial: &Trial) -> Found {
+        let kinds = near_misses::all();
+        for turn in 0..4 {
+            let kind = &kinds[(self.seed as usize * 4 + turn) % kinds.len()];
+            let Some(lent_wrong) = kind.of(&trial.chart, &mut self.random, false) else { continue };
+            let Spelt { mut numbers, names } = lent_wrong.spelt;
+            self.same_verdict(&numbers, &names, lent_wrong.place)?;
+            numbers.resize(lent_wrong.place.numbers.max(HEADER_CELLS), 0);
+            let call = Call::Run { rounds: 1, room: 10 };
+            self.call(&call, Session::ENDED, Lent { numbers: &numbers, names: &names })?;
+        }
+        Ok(())
+    }
+
+    fn same_verdict(&mut self, numbers: &[u64], names: &[u8], place: Place) -> Found {
+        let expected = rules::verdict(numbers, names, place);
+        let found = verdict(numbers, names, place.numbers, place.names);
+        ensure(u64::from(found) == expected, || format!("verdict {found}, the follower's {expected}"))?;
+        self.coverage.note(
+            ["verdict 0", "verdict 1", "verdict 2", "verdict 3", "verdict 4", "verdict 5"][expected as usize],
+        );
+        Ok(())
+    }
+
+    // Changes
+
+    fn change_cell(&mut self, numbers: &mut [u64]) {
+        let cell = self.random.below(numbers.len());
+        let old = numbers[cell];
+        numbers[cell] = match self.random.below(10) {
+            0 => u64::MAX,
+            1 => NONE,
+            2 => old.wrapping_sub(1),
+            3 => old.wrapping_add(1),
+            4 => self.random.number(),
+            _ => self.random.below(12) as u64,
+        };
+    }
+
+    /// Changes a bit of a compiled set; one of the rows' mostly.
+    fn change_set(&mut self, places: &mut Places, rows: usize) {
+        let sets = ROW_SET_WORDS * 4 * rows;
+        let end = places.numbers.len();
+        let transitions = ROW_SET_WORDS * places.numbers[1] as usize;
+        let cell = end - transitions - sets + self.random.below(sets + transitions);
+        places.numbers[cell] ^= 1 << self.random.below(64);
+    }
+
+    fn damage(&mut self, session: &mut Session, rows: usize) {
+        let random = &mut self.random;
+        let flip = |words: &mut [u64], row: usize| words[row / 64] ^= 1 << (row % 64);
+        match random.below(14) {
+            0 => session.mode = random.below(4) as u64,
+            12 | 13 => {
+                let stored: Vec<usize> =
+                    (0..rows).filter(|row| session.history[4 * row..][..4] != [0; 4]).collect();
+                let history = random.pick(&stored).unwrap_or(0);
+                flip(&mut session.history[4 * history..], random.below(rows));
+            }
+            1 | 2 => flip(&mut session.configuration, random.below(rows + 1)),
+            3 => flip(&mut session.configuration, random.below(256)),
+            4 | 5 => flip(&mut session.history[4 * random.below(rows)..], random.below(rows)),
+            6 => flip(&mut session.history, random.below(1024 * 64)),
+            7 => session.internal_count = random.between(0, 40) as u64,
+            8 => session.external_count = session.external_count.wrapping_sub(1),
+            9 => session.internal[random.below(2048)] = random.number() as u8,
+            10 => session.external[random.below(256)] = *b"\0.*a".get(random.below(4)).unwrap_or(&0),
+            _ => session.configuration = [0; 4],
+        }
+    }
+}

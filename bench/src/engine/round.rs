@@ -1,0 +1,201 @@
+//! A round, worked out beside the session: nothing is changed before it is known to fit.
+
+use super::chart::{Chart, Part, MOST_ACTIONS_EACH, MOST_ROWS, ROOT};
+use super::row_set::RowSet;
+use super::selection::{effective_targets, Route, Selection};
+use super::session::{Session, QUEUE_NAMES};
+
+const EXITED: u32 = 1 << 16;
+const TRANSITION: u32 = 2 << 16;
+const ENTERED: u32 = 3 << 16;
+const HOST: u32 = 4 << 16;
+const RAISED: u32 = 5 << 16;
+const DONE: u32 = 6 << 16;
+
+const BLOCK: usize = MOST_ACTIONS_EACH as usize;
+/// Each row is exited once, has one transition taken, and is entered once, with its own block, two
+/// more and two done events.
+const MOST_ENTRIES: usize = MOST_ROWS * ((1 + BLOCK) + (1 + BLOCK) + (1 + 3 * BLOCK + 2));
+
+pub struct Round {
+    entries: [u32; MOST_ENTRIES],
+    count: usize,
+    /// How many names join the internal queue, and the entries of those that may find room in it.
+    pub queued: usize,
+    queue: [u32; QUEUE_NAMES],
+    /// The configuration as it moves.
+    pub configuration: RowSet,
+    /// A final under the root was entered.
+    pub closing: bool,
+}
+
+/// A name that joins the internal queue.
+pub enum Queued {
+    Raised(usize),
+    DoneOf(usize),
+}
+
+impl Round {
+    pub fn blank() -> Round {
+        Round {
+            entries: [0; MOST_ENTRIES],
+            count: 0,
+            queued: 0,
+            queue: [0; QUEUE_NAMES],
+            configuration: RowSet::EMPTY,
+            closing: false,
+        }
+    }
+
+    fn begin(&mut self, configuration: RowSet) {
+        self.count = 0;
+        self.queued = 0;
+        self.configuration = configuration;
+        self.closing = false;
+    }
+
+    #[inline]
+    pub fn entries(&self) -> &[u32] {
+        &self.entries[..self.count]
+    }
+
+    /// The names that join the internal queue, oldest first. There are no more than it can hold.
+    pub fn names(&self) -> impl Iterator<Item = Queued> + '_ {
+        self.queue[..self.queued].iter().map(|&entry| match entry {
+            DONE.. => Queued::DoneOf((entry - DONE) as usize),
+            _ => Queued::Raised((entry - RAISED) as usize),
+        })
+    }
+
+    // The three kinds of round
+
+    pub fn start(&mut self, chart: &Chart) {
+        self.begin(RowSet::EMPTY);
+        let targets = chart.with_ancestors_below(ROOT, chart.defaults(ROOT));
+        self.enter(chart, targets, RowSet::EMPTY);
+    }
+
+    pub fn take(&mut self, chart: &Chart, session: &Session, selection: &Selection) {
+        let before = session.configuration();
+        let exits = selection.exits;
+        self.begin(before);
+        self.exit(chart, exits);
+        for taken in selection.taken() {
+            let number = taken.transition as usize;
+            self.push(TRANSITION, number);
+            self.run(chart, chart.tables.transition(number).block());
+        }
+        let stored = |history: usize| match exits.contains(chart.parent(history)) {
+            true => chart.to_store(before, history),
+            false => session.stored(history),
+        };
+        let mut targets = RowSet::EMPTY;
+        let mut fallen = RowSet::EMPTY;
+        for &taken in selection.taken() {
+            if let Route::Fixed { enters, .. } = selection.route(taken) {
+                targets |= enters;
+                continue;
+            }
+            let Some(domain) = taken.domain else { continue };
+            let transition = chart.tables.transition(taken.transition as usize);
+            let effective = effective_targets(chart, transition, stored);
+            targets |= chart.with_ancestors_below(domain as usize, effective);
+            let is_fallen = |&row: &usize| chart.index.histories.contains(row) && stored(row).is_empty();
+            fallen |= chart.tables.listed(transition.targets()).filter(is_fallen).collect();
+        }
+        self.enter(chart, targets, fallen);
+    }
+
+    pub fn close(&mut self, chart: &Chart, session: &Session) {
+        self.begin(session.configuration());
+        self.exit(chart, session.configuration());
+    }
+
+    // Their parts
+
+    #[inline]
+    fn push(&mut self, kind: u32, index: usize) {
+        self.entries[self.count] = kind | index as u32;
+        self.count += 1;
+    }
+
+    #[inline]
+    fn queue(&mut self, kind: u32, index: usize) {
+        self.push(kind, index);
+        if let Some(place) = self.queue.get_mut(self.queued) {
+            *place = kind | index as u32;
+        }
+        self.queued += 1;
+    }
+
+    #[inline]
+    fn run(&mut self, chart: &Chart, block: Part) {
+        if block.count == 0 {
+            return;
+        }
+        for &[what, argument, ..] in chart.tables.block(block) {
+            match what {
+                0 => self.queue(RAISED, argument as usize),
+                _ => self.push(HOST, argument as usize),
+            }
+        }
+    }
+
+    fn exit(&mut self, chart: &Chart, exits: RowSet) {
+        for row in exits.rows_backwards() {
+            self.push(EXITED, row);
+            self.run(chart, chart.tables.row(row).exit());
+        }
+        self.configuration = self.configuration - exits;
+    }
+
+    /// Enters the rows and what they bring along. What a row brings is below it and so behind it:
+    /// one walk in document order finds all.
+    fn enter(&mut self, chart: &Chart, mut rows: RowSet, fallen: RowSet) {
+        let index = &chart.index;
+        let mut next = rows.first_from(0);
+        while let Some(number) = next {
+            let row = chart.tables.row(number);
+            self.configuration.insert(number);
+            self.push(ENTERED, number);
+            self.run(chart, row.entry());
+            if !index.atomic.contains(number) {
+                let children = chart.children(number);
+                if index.parallel.contains(number) {
+                    rows |= children;
+                } else if !rows.meets(children) {
+                    rows |= chart.with_ancestors_below(number, chart.defaults(number));
+                    self.run(chart, row.block());
+                }
+                for history in fallen.rows().filter(|&history| chart.parent(history) == number) {
+                    self.run(chart, chart.tables.row(history).block());
+                }
+            } else if index.finals.contains(number) {
+                self.reach_final(chart, row.parent() as usize);
+            }
+            next = rows.first_from(number + 1);
+        }
+    }
+
+    /// A final is entered, under this parent.
+    fn reach_final(&mut self, chart: &Chart, parent: usize) {
+        if parent == ROOT {
+            self.closing = true;
+            return;
+        }
+        self.queue(DONE, parent);
+        let above = chart.parent(parent);
+        if chart.index.parallel.contains(above) && is_in_final_state(chart, self.configuration, above) {
+            self.queue(DONE, above);
+        }
+    }
+}
+
+/// A compound state is, if a final child of it is active; a parallel, if all its children are.
+fn is_in_final_state(chart: &Chart, configuration: RowSet, row: usize) -> bool {
+    let children = chart.children(row);
+    if chart.index.parallel.contains(row) {
+        return children.rows().all(|child| is_in_final_state(chart, configuration, child));
+    }
+    chart.index.compound.contains(row) && children.meets(configuration & chart.index.finals)
+}

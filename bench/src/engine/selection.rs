@@ -1,0 +1,227 @@
+//! Which transitions a round takes.
+
+use super::chart::{Chart, Transition, MOST_ROWS, MOST_TRANSITIONS, NONE, ROOT};
+use super::names::Event;
+use super::row_set::RowSet;
+use super::session::Session;
+
+/// A transition that is taken. Without targets it has no domain and exits nothing.
+#[derive(Clone, Copy)]
+pub struct Taken {
+    pub transition: u8,
+    pub domain: Option<u8>,
+}
+
+impl Taken {
+    /// "the domain's active proper descendants".
+    #[inline]
+    fn exits(self, chart: &Chart, configuration: RowSet) -> RowSet {
+        match self.domain {
+            Some(domain) => chart.descendants(domain as usize) & configuration,
+            None => RowSet::EMPTY,
+        }
+    }
+}
+
+/// Where a transition leads. Unless there is a history among its targets that is the same in every
+/// round, so that it is worked out once.
+#[derive(Clone, Copy)]
+pub enum Route {
+    Unknown,
+    Fixed { domain: Option<u8>, enters: RowSet },
+    ByHistory,
+}
+
+impl Route {
+    fn of(chart: &Chart, number: usize) -> Route {
+        let transition = chart.tables.transition(number);
+        let targets: RowSet = chart.tables.listed(transition.targets()).collect();
+        if targets.meets(chart.index.histories) {
+            return Route::ByHistory;
+        }
+        if targets.is_empty() {
+            return Route::Fixed { domain: None, enters: RowSet::EMPTY };
+        }
+        let domain = domain(chart, transition, targets);
+        Route::Fixed { domain: Some(domain as u8), enters: chart.with_ancestors_below(domain, targets) }
+    }
+}
+
+/// Where a round comes from.
+#[derive(Clone, Copy, PartialEq, Eq)]
+pub enum Trigger {
+    Eventless,
+    Internal,
+    External,
+    Closing,
+}
+
+/// The transitions that one round takes, in the order of their selection. Each has another atomic
+/// state to thank for, so that there are never more than rows.
+pub struct Selection {
+    taken: [Taken; MOST_ROWS],
+    count: usize,
+    /// All that they exit.
+    pub exits: RowSet,
+    routes: [Route; MOST_TRANSITIONS],
+}
+
+impl Selection {
+    pub fn none() -> Selection {
+        let nothing = Taken { transition: 0, domain: None };
+        let routes = [Route::Unknown; MOST_TRANSITIONS];
+        Selection { taken: [nothing; MOST_ROWS], count: 0, exits: RowSet::EMPTY, routes }
+    }
+
+    #[inline]
+    pub fn taken(&self) -> &[Taken] {
+        &self.taken[..self.count]
+    }
+
+    /// Known for every transition that was ever selected.
+    #[inline]
+    pub fn route(&self, taken: Taken) -> Route {
+        self.routes[taken.transition as usize]
+    }
+
+    fn clear(&mut self) {
+        self.count = 0;
+        self.exits = RowSet::EMPTY;
+    }
+
+    /// The next round of a running session: eventless transitions first, then the oldest internal
+    /// event, then the oldest external one. Nothing, if the session is idle.
+    pub fn choose(&mut self, chart: &Chart, session: &Session) -> Option<Trigger> {
+        let index = &chart.index;
+        if session.configuration().meets(index.eventless) {
+            self.select(chart, session, index.eventless, |transition| transition.descriptors().count == 0);
+            if self.count > 0 {
+                return Some(Trigger::Eventless);
+            }
+        }
+        let (trigger, name) = match (session.first_internal(), session.first_external()) {
+            (Some(name), _) => (Trigger::Internal, name),
+            (None, Some(name)) => (Trigger::External, name),
+            (None, None) => return None,
+        };
+        let event = Event::of(name);
+        self.select(chart, session, index.by_event, |transition| chart.is_triggered(transition, &event));
+        Some(trigger)
+    }
+
+    /// What is selected among the transitions of these sources. Whether a row has a match does not
+    /// depend on where a climb begins, so each active one is asked once; the first match of a
+    /// climb is the one of the last such row in document order.
+    fn select(
+        &mut self,
+        chart: &Chart,
+        session: &Session,
+        sources: RowSet,
+        is_triggered: impl Fn(Transition) -> bool,
+    ) {
+        self.clear();
+        let configuration = session.configuration();
+        let mut matching = RowSet::EMPTY;
+        let mut first_match = [0; MOST_ROWS];
+        for row in (configuration & sources).rows() {
+            let is_match = |&number: &usize| {
+                let transition = chart.tables.transition(number);
+                let condition = transition.condition();
+                is_triggered(transition) && (condition == NONE || configuration.contains(condition as usize))
+            };
+            if let Some(number) = chart.transitions_of(row).find(is_match) {
+                matching.insert(row);
+                first_match[row] = number;
+            }
+        }
+        let mut chosen = RowSet::EMPTY;
+        for atomic in (configuration & chart.index.atomic).rows() {
+            let climb = chart.ancestors(atomic) | RowSet::single(atomic);
+            let Some(row) = (climb & matching).last() else { continue };
+            if !chosen.contains(row) {
+                chosen.insert(row);
+                self.admit(chart, session, first_match[row]);
+            }
+        }
+    }
+
+    /// A candidate that meets kept ones replaces them if its source is below all of theirs, and is
+    /// dropped otherwise.
+    #[inline]
+    fn admit(&mut self, chart: &Chart, session: &Session, number: usize) {
+        if let Route::Unknown = self.routes[number] {
+            self.routes[number] = Route::of(chart, number);
+        }
+        let domain = match self.routes[number] {
+            Route::Fixed { domain, .. } => domain,
+            _ => Some(domain_by_history(chart, session, chart.tables.transition(number)) as u8),
+        };
+        let candidate = Taken { transition: number as u8, domain };
+        let exits = candidate.exits(chart, session.configuration());
+        if !exits.meets(self.exits) || self.give_way(chart, session.configuration(), number, exits) {
+            self.push(candidate, exits);
+        }
+    }
+
+    /// Whether all kept transitions that exit some of these rows have sources above that of the
+    /// candidate. If so, they leave.
+    #[cold]
+    fn give_way(&mut self, chart: &Chart, configuration: RowSet, candidate: usize, exits: RowSet) -> bool {
+        let source = |number: usize| chart.tables.transition(number).source();
+        let above = chart.ancestors(source(candidate));
+        let is_met = |kept: Taken| kept.exits(chart, configuration).meets(exits);
+        let is_above = |kept: Taken| above.contains(source(kept.transition.into()));
+        if self.taken().iter().any(|&kept| is_met(kept) && !is_above(kept)) {
+            return false;
+        }
+        let (before, count) = (self.taken, self.count);
+        self.clear();
+        for kept in before.into_iter().take(count).filter(|&kept| !is_met(kept)) {
+            self.push(kept, kept.exits(chart, configuration));
+        }
+        true
+    }
+
+    #[inline]
+    fn push(&mut self, taken: Taken, exits: RowSet) {
+        self.taken[self.count] = taken;
+        self.count += 1;
+        self.exits |= exits;
+    }
+}
+
+/// "Domain and exit set use the history stored before the round."
+fn domain_by_history(chart: &Chart, session: &Session, transition: Transition) -> usize {
+    domain(chart, transition, effective_targets(chart, transition, |history| session.stored(history)))
+}
+
+/// The targets, histories replaced by what they remember or by their default lists.
+pub fn effective_targets(chart: &Chart, transition: Transition, stored: impl Fn(usize) -> RowSet) -> RowSet {
+    let mut effective = RowSet::EMPTY;
+    for target in chart.tables.listed(transition.targets()) {
+        if !chart.index.histories.contains(target) {
+            effective.insert(target);
+            continue;
+        }
+        effective |= match stored(target) {
+            RowSet::EMPTY => chart.tables.listed(chart.tables.row(target).list()).collect(),
+            remembered => remembered,
+        };
+    }
+    effective
+}
+
+/// The source itself, or its nearest ancestor that is compound or the root and has all targets
+/// below it.
+fn domain(chart: &Chart, transition: Transition, targets: RowSet) -> usize {
+    let fits = |row: usize| chart.index.compound.contains(row) && targets.is_within(chart.descendants(row));
+    let source = transition.source();
+    if transition.is_internal() && fits(source) {
+        return source;
+    }
+    let mut row = chart.parent(source);
+    while row != ROOT && !fits(row) {
+        row = chart.parent(row);
+    }
+    row
+}

@@ -1,0 +1,28 @@
+//! The engine answers as the second program does.
+
+use bench::agreement::try_seed;
+use bench::charts::{chart_a, regions, Case, Moving};
+use bench::contenders::{Engine, Follower};
+use bench::measure::Bench;
+use second::coverage::Coverage;
+
+#[test]
+fn generated_charts_agree() {
+    let mut coverage = Coverage::default();
+    for seed in 50_000..50_400 {
+        try_seed(seed, &mut coverage).unwrap_or_else(|what| panic!("{what}"));
+    }
+    for refusal in ["run: 7", "run: 8", "run: 9", "run: 10", "start: 8", "start: 10", "post: 6", "post: 7"] {
+        assert!(coverage.get(refusal) > 0, "no {refusal} among the calls");
+    }
+}
+
+/// A measurement begins with both doing the same, or fails.
+#[test]
+fn measured_charts_agree() {
+    let great = |moving| regions(62, 20, moving);
+    let cases: [Case; 4] = [chart_a(), great(Moving::All), great(Moving::One), regions(64, 1, Moving::One)];
+    for case in cases {
+        Bench::new(&Follower, &Engine, 70, 1).rounds(&case);
+    }
+}
