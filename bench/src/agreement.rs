@@ -18,6 +18,38 @@ use second::rules::{self, Place};
 
 pub type Found = Result<(), String>;
 
+const LISTS: &str = "call lists";
+const REFUSED_LISTS: &str = "call lists with a refusal";
+/// Every call with every answer that it can have.
+const ANSWERS: [&str; 17] = [
+    "start: 0",
+    "start: 7",
+    "start: 8",
+    "start: 10",
+    "post: 0",
+    "post: 6",
+    "post: 7",
+    "post: 8",
+    "post: 9",
+    "post: 11",
+    "run: more",
+    "run: idle",
+    "run: ended",
+    "run: 7",
+    "run: 8",
+    "run: 9",
+    "run: 10",
+];
+
+/// Whether a great run has met enough: every answer of every call, and a refusal in one list of four.
+pub fn enough_happened(coverage: &Coverage) -> Found {
+    for answer in ANSWERS {
+        ensure(coverage.get(answer) > 0, || format!("no {answer} among the calls"))?;
+    }
+    let (lists, refused) = (coverage.get(LISTS), coverage.get(REFUSED_LISTS));
+    ensure(refused * 4 >= lists, || format!("only {refused} of {lists} call lists have a refusal"))
+}
+
 /// Who is held to the follower.
 fn contenders() -> Vec<Box<dyn Calls>> {
     #[cfg_attr(not(feature = "linked"), allow(unused_mut))]
@@ -65,13 +97,16 @@ fn given(calls: &dyn Calls, call: &Call, session: Session, lent: Lent) -> Given 
 pub struct Comparison<'a> {
     random: Random,
     seed: u64,
+    /// Whether a call of the list was refused.
+    refused: bool,
     pub coverage: &'a mut Coverage,
 }
 
 /// One generated chart with its call lists.
 pub fn try_seed(seed: u64, coverage: &mut Coverage) -> Found {
     let trial = Trial::of_seed(seed);
-    let mut comparison = Comparison { random: Random::seeded(seed ^ 0xbe_9c4), seed, coverage };
+    let mut comparison =
+        Comparison { random: Random::seeded(seed ^ 0xbe_9c4), seed, refused: false, coverage };
     comparison.trial(&trial).map_err(|what| format!("seed {seed}: {what}"))
 }
 
@@ -110,6 +145,7 @@ impl Comparison<'_> {
     }
 
     fn count(&mut self, call: &Call, answer: u32) {
+        self.refused |= (BAD_NAME..=SESSION_ENDED).contains(&answer);
         self.coverage.note("calls");
         self.coverage.note(match (call, answer) {
             (Call::Start { .. }, DONE) => "start: 0",
@@ -133,18 +169,24 @@ impl Comparison<'_> {
     }
 
     fn call_list(&mut self, places: &Places, calls: &[Call]) -> Found {
-        self.coverage.note("call lists");
+        self.refused = false;
         let mut session = Session::ENDED;
         for call in calls {
             session = self.call(call, session, lent(places))?;
         }
+        self.count_list();
         Ok(())
+    }
+
+    fn count_list(&mut self) {
+        self.coverage.note(LISTS);
+        self.coverage.note_if(REFUSED_LISTS, self.refused);
     }
 
     /// A list in which some calls get a changed chart or a changed session. After a refusal for
     /// it the list goes on with the session from before.
     fn disturbed_list(&mut self, places: &Places, compiled: &CompiledChart, calls: &[Call]) -> Found {
-        self.coverage.note("call lists");
+        self.refused = false;
         let rows = compiled.chart.rows.len();
         let mut session = Session::ENDED;
         for call in calls {
@@ -160,6 +202,7 @@ impl Comparison<'_> {
             let goes_on = undisturbed || followed(&left).is_well_formed(compiled);
             session = if goes_on { left } else { session };
         }
+        self.count_list();
         Ok(())
     }
 

@@ -75,37 +75,37 @@ impl Counts {
     }
 }
 
-fn add(mine: &mut [u64], theirs: &[u64]) {
+pub fn add(mine: &mut [u64], theirs: &[u64]) {
     for (mine, theirs) in mine.iter_mut().zip(theirs) {
         *mine += theirs;
     }
 }
 
 /// A place between guards. Everything in it is known, so that every change is seen.
-struct Guarded<T> {
-    cells: Vec<T>,
+pub struct Guarded<T> {
+    pub cells: Vec<T>,
     lent: Range<usize>,
 }
 
 impl<T: Copy> Guarded<T> {
-    fn new(length: usize, filler: impl FnMut() -> T) -> Guarded<T> {
+    pub fn new(length: usize, filler: impl FnMut() -> T) -> Guarded<T> {
         let cells = std::iter::repeat_with(filler).take(length + 2 * GUARD).collect();
         Guarded { cells, lent: GUARD..GUARD + length }
     }
 
-    fn lent(&mut self) -> &mut [T] {
+    pub fn lent(&mut self) -> &mut [T] {
         &mut self.cells[self.lent.clone()]
     }
 
     /// What it has to hold once this was written to the place.
-    fn with(&self, written: &[T]) -> Vec<T> {
+    pub fn with(&self, written: &[T]) -> Vec<T> {
         let mut cells = self.cells.clone();
         cells[self.lent.clone()].copy_from_slice(written);
         cells
     }
 }
 
-fn ensure(holds: bool, what: impl Fn() -> String) -> Result<(), String> {
+pub fn ensure(holds: bool, what: impl Fn() -> String) -> Result<(), String> {
     match holds {
         true => Ok(()),
         false => Err(what()),
@@ -131,7 +131,7 @@ fn compiles_alike(lent: &Lent, random: &mut Random) -> Result<Result<Places, u64
     Ok(own)
 }
 
-fn difference<T: PartialEq + std::fmt::Debug>(what: &str, given: &[T], own: &[T]) -> String {
+pub fn difference<T: PartialEq + std::fmt::Debug>(what: &str, given: &[T], own: &[T]) -> String {
     let place = given.iter().zip(own).position(|(given, own)| given != own).unwrap_or(0);
     let at = place as isize - GUARD as isize;
     format!("{what} {at} of the place is {:?}, not {:?}", given[place], own[place])

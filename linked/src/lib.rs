@@ -2,3 +2,7 @@
 
 pub mod compare;
 pub mod library;
+pub mod posts;
+pub mod seeds;
+pub mod sessions;
+pub mod story;

@@ -22,6 +22,70 @@ extern "C" {
         name_place: *const u8,
         name_place_count: usize,
     ) -> c_uint;
+    fn auttervil_raw_start(
+        session: Session,
+        chart: *const u64,
+        chart_count: usize,
+        names: *const u8,
+        names_count: usize,
+        trace: *mut u32,
+        trace_count: usize,
+    ) -> Started;
+    fn auttervil_raw_post(
+        session: Session,
+        chart: *const u64,
+        chart_count: usize,
+        names: *const u8,
+        names_count: usize,
+        name: *const u8,
+        name_count: usize,
+    ) -> Posted;
+    fn auttervil_raw_run(
+        session: Session,
+        chart: *const u64,
+        chart_count: usize,
+        names: *const u8,
+        names_count: usize,
+        rounds: c_uint,
+        trace: *mut u32,
+        trace_count: usize,
+    ) -> Ran;
+}
+
+/// A session as C holds it: 12,344 bytes with nothing between the fields.
+#[repr(C)]
+#[derive(Clone, PartialEq, Eq, Debug)]
+pub struct Session {
+    pub configuration: [u64; 4],
+    pub history: [u64; 1024],
+    pub internal: [u8; 2048],
+    pub external: [u8; 2048],
+    pub internal_count: u64,
+    pub external_count: u64,
+    pub mode: u64,
+}
+
+const _: () = assert!(size_of::<Session>() == 12_344);
+
+#[repr(C)]
+pub struct Started {
+    pub session: Session,
+    pub answer: c_uint,
+    pub count: usize,
+}
+
+#[repr(C)]
+pub struct Posted {
+    pub session: Session,
+    pub answer: c_uint,
+}
+
+#[repr(C)]
+pub struct Ran {
+    pub session: Session,
+    pub status: c_uint,
+    pub rounds: c_uint,
+    pub count: usize,
 }
 
 pub fn numbers_size(numbers: &[u64]) -> usize {
@@ -52,4 +116,47 @@ pub fn check(place: &[u64], name_place: &[u8]) -> u64 {
     let answer =
         unsafe { auttervil_raw_check(place.as_ptr(), place.len(), name_place.as_ptr(), name_place.len()) };
     u64::from(answer)
+}
+
+pub fn start(session: Session, chart: &[u64], names: &[u8], trace: &mut [u32]) -> Started {
+    unsafe {
+        auttervil_raw_start(
+            session,
+            chart.as_ptr(),
+            chart.len(),
+            names.as_ptr(),
+            names.len(),
+            trace.as_mut_ptr(),
+            trace.len(),
+        )
+    }
+}
+
+pub fn post(session: Session, chart: &[u64], names: &[u8], name: &[u8]) -> Posted {
+    unsafe {
+        auttervil_raw_post(
+            session,
+            chart.as_ptr(),
+            chart.len(),
+            names.as_ptr(),
+            names.len(),
+            name.as_ptr(),
+            name.len(),
+        )
+    }
+}
+
+pub fn run(session: Session, chart: &[u64], names: &[u8], rounds: u32, trace: &mut [u32]) -> Ran {
+    unsafe {
+        auttervil_raw_run(
+            session,
+            chart.as_ptr(),
+            chart.len(),
+            names.as_ptr(),
+            names.len(),
+            rounds,
+            trace.as_mut_ptr(),
+            trace.len(),
+        )
+    }
 }

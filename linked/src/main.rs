@@ -1,12 +1,13 @@
 //! linked [first seed] [seeds]: compares the static library with the second program and ends with
 //! how many seeds, and kinds of what they made, passed and failed.
 
-use linked::compare::{try_seed, Counts, Kinds};
+use linked::compare::{self, Counts, Kinds};
+use linked::posts;
+use linked::seeds::try_all;
+use linked::story;
+use std::ops::Range;
 use std::process::ExitCode;
-use std::sync::atomic::{AtomicU64, Ordering};
-use std::thread;
 
-const THREADS: usize = 2;
 const FIRST_SEED: u64 = 1;
 const SEEDS: u64 = 20_000;
 
@@ -15,31 +16,37 @@ const ENOUGH: u64 = 10_000;
 /// How often each kind must have been met.
 const OFTEN: u64 = 20;
 
+/// How much passed, and what failed.
+#[derive(Default)]
+struct Outcome {
+    passed: u64,
+    failures: Vec<String>,
+}
+
+impl Outcome {
+    /// Seeds that were tried, and kinds that must have been met.
+    fn add(&mut self, seeds: u64, failures: Vec<String>, demands: Vec<(String, bool)>) {
+        self.passed += seeds - failures.len() as u64;
+        self.failures.extend(failures);
+        for (what, met) in demands {
+            match met || seeds < ENOUGH {
+                true => self.passed += 1,
+                false => self.failures.push(format!("not met often enough: {what}")),
+            }
+        }
+    }
+}
+
 fn main() -> ExitCode {
     let mut arguments = std::env::args().skip(1).map(|text| text.parse::<u64>());
     let first = arguments.next().and_then(Result::ok).unwrap_or(FIRST_SEED);
-    let seeds = arguments.next().and_then(Result::ok).unwrap_or(SEEDS);
-    let kinds = Kinds::all();
-    let next = AtomicU64::new(first);
-    let mut counts = Counts::none(&kinds);
-    let mut failures = Vec::new();
-    thread::scope(|scope| {
-        let work = || work(&next, first + seeds, &kinds);
-        let workers: Vec<_> = (0..THREADS).map(|_| scope.spawn(work)).collect();
-        for worker in workers {
-            let (seen, failed) = worker.join().expect("a worker ends");
-            counts.join(&seen);
-            failures.extend(failed);
-        }
-    });
-    let mut passed = seeds - failures.len() as u64;
-    for (what, met) in demands(&kinds, &counts) {
-        match met || seeds < ENOUGH {
-            true => passed += 1,
-            false => failures.push(format!("not met often enough: {what}")),
-        }
-    }
-    say(&counts);
+    let count = arguments.next().and_then(Result::ok).unwrap_or(SEEDS);
+    let seeds = first..first + count;
+    let mut outcome = Outcome::default();
+    compare_charts(seeds.clone(), &mut outcome);
+    compare_posts(seeds, &mut outcome);
+    outcome.add(1, story::play().err().into_iter().collect(), Vec::new());
+    let Outcome { passed, mut failures } = outcome;
     failures.sort();
     for failure in &failures {
         println!("FAILED {failure}");
@@ -51,18 +58,13 @@ fn main() -> ExitCode {
     }
 }
 
-fn work(next: &AtomicU64, end: u64, kinds: &Kinds) -> (Counts, Vec<String>) {
-    let mut counts = Counts::none(kinds);
-    let mut failures = Vec::new();
-    loop {
-        let seed = next.fetch_add(1, Ordering::Relaxed);
-        if seed >= end {
-            return (counts, failures);
-        }
-        if let Err(what) = try_seed(seed, kinds, &mut counts) {
-            failures.push(format!("seed {seed}: {what}"));
-        }
-    }
+fn compare_charts(seeds: Range<u64>, outcome: &mut Outcome) {
+    let kinds = Kinds::all();
+    let try_seed = |seed: u64, counts: &mut Counts| compare::try_seed(seed, &kinds, counts);
+    let count = seeds.end - seeds.start;
+    let (counts, failures) = try_all(seeds, Counts::none(&kinds), try_seed);
+    say(&counts);
+    outcome.add(count, failures, demands(&kinds, &counts));
 }
 
 /// What must have been met, lest the comparison show little: every answer, every kind of near miss,
@@ -94,4 +96,25 @@ fn say(counts: &Counts) {
     for (answer, count) in counts.answers.iter().enumerate() {
         println!("{count:>10}  compiled with answer {answer}");
     }
+}
+
+/// Every answer that a post can have, and of every kind of cell of a session a change that is refused.
+fn compare_posts(seeds: Range<u64>, outcome: &mut Outcome) {
+    let kinds = posts::Kinds::all();
+    let try_seed = |seed: u64, counts: &mut posts::Counts| posts::try_seed(seed, &kinds, counts);
+    let count = seeds.end - seeds.start;
+    let (counts, failures) = try_all(seeds, posts::Counts::none(&kinds), try_seed);
+    let mut demands = Vec::new();
+    for answer in [0, 6, 7, 8, 9, 11] {
+        println!("{:>10}  posts with answer {answer}", counts.answers[answer]);
+        demands.push((format!("a post with answer {answer}"), counts.answers[answer] >= OFTEN));
+    }
+    for (part, [_, refused]) in kinds.sessions.iter().zip(&counts.damaged) {
+        demands.push((format!("a session, {part}"), *refused >= OFTEN));
+    }
+    let [damaged, refused] = counts.damaged.iter().fold([0; 2], |[a, b], [c, d]| [a + c, b + d]);
+    println!("{:>10}  well-formed sessions", counts.well_formed);
+    println!("{damaged:>10}  sessions with a change, {refused} of them refused");
+    println!("{:>10}  sessions at will, {} of them refused", counts.at_will[0], counts.at_will[1]);
+    outcome.add(count, failures, demands);
 }

@@ -8,6 +8,7 @@ use crate::show;
 
 mod answers;
 mod by_hand;
+mod cases;
 mod input;
 mod names;
 mod near_misses;
@@ -41,6 +42,7 @@ pub fn small() -> Vec<Check> {
     checks.extend(readings::checks());
     checks.extend(near_misses::checks());
     checks.extend(by_hand::checks());
+    checks.extend(cases::checks());
     checks
 }
 

@@ -470,7 +470,7 @@ pub fn bad_names() -> Vec<Vec<u8>> {
 }
 
 /// Names that the chart's transitions may match.
-fn known_events(chart: &Chart) -> Vec<Vec<u8>> {
+pub fn known_events(chart: &Chart) -> Vec<Vec<u8>> {
     let mut events = vec![b"e".to_vec(), b"nobody.knows".to_vec()];
     for transition in &chart.transitions {
         for &descriptor in &transition.descriptors {

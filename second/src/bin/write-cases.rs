@@ -1,7 +1,7 @@
-//! write-cases DIR: writes DIR/names_run, DIR/rowset_run and DIR/compile_run, each with the files
-//! stdin and stdout.
+//! write-cases DIR: writes DIR/names_run, DIR/rowset_run, DIR/compile_run and DIR/calls_run, each with
+//! the files stdin and stdout.
 
-use second::cases::{charts, names, rows};
+use second::cases::{calls, charts, names, rows};
 use std::path::{Path, PathBuf};
 use std::{env, fs, io};
 
@@ -24,5 +24,9 @@ fn main() -> io::Result<()> {
     let compiled = folder(Path::new(&top), "compile_run")?;
     let (input, expected) = charts::texts().expect("a text takes what is written to it");
     fs::write(compiled.join("stdin"), input)?;
-    fs::write(compiled.join("stdout"), expected)
+    fs::write(compiled.join("stdout"), expected)?;
+    let called = folder(Path::new(&top), "calls_run")?;
+    let (input, expected) = calls::texts();
+    fs::write(called.join("stdin"), input)?;
+    fs::write(called.join("stdout"), expected)
 }

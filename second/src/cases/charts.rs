@@ -1,6 +1,7 @@
 //! The cases of the program `compile_run`: charts and near misses to compile, and compiled charts
 //! to damage. Its standard input, and what it has to print.
 
+use super::lines::*;
 use crate::at_limits;
 use crate::builder::Builder;
 use crate::by_hand;
@@ -9,7 +10,7 @@ use crate::encode::Layout;
 use crate::examples::{self, Example};
 use crate::faults;
 use crate::generate::{self, Flavour};
-use crate::limits::{MAX_ACTIONS, MAX_DESCRIPTORS, MAX_REFERENCES, MAX_SLOTS, NONE, SLOT_BYTES};
+use crate::limits::{MAX_ACTIONS, MAX_DESCRIPTORS, MAX_REFERENCES, MAX_SLOTS, SLOT_BYTES};
 use crate::names::slot_of;
 use crate::near_misses::{self, Lent};
 use crate::random::Random;
@@ -126,31 +127,11 @@ fn generated(seed: u64) -> Case {
 
 // The input
 
-/// Decimal numbers with a blank between them; 8*0 stands for eight zeros.
-fn spell_numbers(numbers: &[u64]) -> String {
-    let run = |run: &[u64]| match run.len() {
-        0..=2 => run.iter().map(u64::to_string).collect::<Vec<_>>().join(" "),
-        length => format!("{length}*{}", run[0]),
-    };
-    numbers.chunk_by(|one, next| one == next).map(run).collect::<Vec<_>>().join(" ")
-}
-
-/// The bytes of a slot before its last zeros; other bytes than printed ones are %, then two digits.
-fn spell_slot(slot: &[u8]) -> String {
-    let end = slot.iter().rposition(|&byte| byte != 0).map_or(1, |last| last + 1);
-    let byte = |&byte: &u8| match byte {
-        b'!'..=b'~' if byte != b'%' => char::from(byte).to_string(),
-        _ => format!("%{byte:02x}"),
-    };
-    slot[..end].iter().map(byte).collect()
-}
-
 fn write_input(case: &Case, input: &mut String) -> std::fmt::Result {
     let Lent { spelt, place } = &case.lent;
-    let slots: Vec<String> = spelt.names.chunks(SLOT_BYTES).map(spell_slot).collect();
     writeln!(input, "c {}", case.about)?;
     writeln!(input, "n {}", spell_numbers(&spelt.numbers))?;
-    writeln!(input, "s {}", slots.join(" "))?;
+    writeln!(input, "s {}", spell_slots(spelt.names.chunks(SLOT_BYTES)))?;
     if spelt.names.len() % SLOT_BYTES != 0 {
         writeln!(input, "e {}", spelt.names.len())?;
     }
@@ -182,14 +163,6 @@ fn lengths(case: &Case) -> [(usize, usize); 8] {
 
 // What is printed
 
-/// The places are lent from here on in buffers of these lengths, so that something stands before
-/// and behind them.
-const GUARD: usize = 8;
-const BUFFER_WORDS: usize = 20_480;
-const BUFFER_BYTES: usize = 12_544;
-/// What stands in the buffers before a chart is compiled: each word and each byte another.
-const FILLER: u64 = 0xa5a5_a5a5_a5a5_a5a5;
-
 /// The buffers that hold the two places.
 struct Kept {
     words: Vec<u64>,
@@ -199,11 +172,7 @@ struct Kept {
 
 impl Kept {
     fn fresh(case: &Case) -> Kept {
-        Kept {
-            words: (0..BUFFER_WORDS as u64).map(|word| word ^ FILLER).collect(),
-            bytes: (0..BUFFER_BYTES).map(|byte| (byte % 251) as u8).collect(),
-            place: case.lent.place,
-        }
+        Kept { words: filled_words(), bytes: filled_bytes(), place: case.lent.place }
     }
 
     fn numbers(&self) -> &[u64] {
@@ -233,47 +202,6 @@ fn check(numbers: &[u64], names: &[u8]) -> u64 {
     match CompiledChart::open(numbers, names) {
         Some(_) => 0,
         None => 8,
-    }
-}
-
-const FIRST_SUM: u64 = 88_172_645_463_325_252;
-
-fn mix(sum: u64, word: u64) -> u64 {
-    let mut mixed = sum ^ word;
-    mixed ^= mixed << 13;
-    mixed ^= mixed >> 7;
-    mixed ^ (mixed << 17)
-}
-
-fn sum_words(sum: u64, words: &[u64]) -> u64 {
-    words.iter().fold(sum, |sum, &word| mix(sum, word))
-}
-
-fn sum_bytes(sum: u64, bytes: &[u8]) -> u64 {
-    bytes.iter().fold(sum, |sum, &byte| mix(sum, u64::from(byte)))
-}
-
-const WAYS: usize = 6;
-
-fn changed(way: usize, number: u64) -> u64 {
-    match way {
-        0 => number.wrapping_add(1),
-        1 => number.wrapping_sub(1),
-        2 => number ^ 2,
-        3 => number ^ (1 << 63),
-        4 => 0,
-        _ => NONE,
-    }
-}
-
-fn changed_byte(way: usize, byte: u8) -> u8 {
-    match way {
-        0 => byte ^ 1,
-        1 => 0,
-        2 => b' ',
-        3 => b'*',
-        4 => b'.',
-        _ => b'a',
     }
 }
 

@@ -1,0 +1,179 @@
+// Starts and runs, with a trace between guards that is filled before each call.
+use crate::Lent;
+use crate::show;
+use lines::behind_guard;
+use session::Ran;
+use session::Session;
+use session::Started;
+
+// Room for every trace of the lists, and guards.
+const ROOM: usize = 1024;
+
+// ---- the trace
+
+fn is_kept(n: u32, at: usize, begin: usize, end: usize) -> bool {
+    if begin <= at && at < end {
+        return true;
+    }
+    n == lines::unwritten(at)
+}
+
+// Nothing but the part from begin to end was written.
+fn others_kept(trace: &[u32], begin: usize, end: usize) -> bool {
+    let mut i = 0;
+    while i < trace.len() {
+        if !is_kept(trace[i], i, begin, end) {
+            return false;
+        }
+        i += 1;
+    }
+    true
+}
+
+fn entry(n: u32) {
+    show::blank_number(n as u64);
+}
+
+fn entries(trace: &[u32], count: usize) {
+    let p = behind_guard(count, trace.len());
+    let end = p.end;
+    let mut at = p.begin;
+    while at < end {
+        entry(trace[at]);
+        at += 1;
+    }
+}
+
+fn written(trace: &[u32], count: usize) {
+    lines::show(b", ");
+    lines::show_number(count as u64);
+    lines::show(b" entries");
+    entries(trace, count);
+    let p = behind_guard(count, trace.len());
+    let begin = p.begin;
+    let end = p.end;
+    if others_kept(trace, begin, end) {
+        lines::show(b", the others kept");
+    }
+}
+
+// ---- starts
+
+fn start(
+    l: Lent,
+    s: Session,
+    room: usize,
+    place: &[u64],
+    name_place: &[u8],
+    trace: &mut [u32],
+) -> Started {
+    let p = behind_guard(l.place, place.len());
+    let q = behind_guard(l.name_place, name_place.len());
+    let r = behind_guard(room, trace.len());
+    let begin = p.begin;
+    let end = p.end;
+    let name_begin = q.begin;
+    let name_end = q.end;
+    let trace_begin = r.begin;
+    let trace_end = r.end;
+    s.start(
+        &place[begin..end],
+        &name_place[name_begin..name_end],
+        &mut trace[trace_begin..trace_end],
+    )
+}
+
+fn start_shown(
+    rest: &[u8],
+    l: Lent,
+    s: Session,
+    place: &[u64],
+    name_place: &[u8],
+    trace: &mut [u32],
+) -> Session {
+    let room = lines::read_two(rest);
+    lines::fill_trace(trace);
+    let started = start(l, s, lines::size(room.first), place, name_place, trace);
+    let after = started.session;
+    let answer = started.answer;
+    let number = show::number_of(answer);
+    lines::show(b"start ");
+    lines::show_number(number);
+    written(trace, started.count);
+    show::session(after, number);
+    after
+}
+
+pub fn start_line(rest: &[u8], l: Lent, s: Session, place: &[u64], name_place: &[u8]) -> Session {
+    let mut trace = [0u32; ROOM];
+    start_shown(rest, l, s, place, name_place, &mut trace)
+}
+
+// ---- runs
+
+fn run(
+    l: Lent,
+    s: Session,
+    rounds: u32,
+    room: usize,
+    place: &[u64],
+    name_place: &[u8],
+    trace: &mut [u32],
+) -> Ran {
+    let p = behind_guard(l.place, place.len());
+    let q = behind_guard(l.name_place, name_place.len());
+    let r = behind_guard(room, trace.len());
+    let begin = p.begin;
+    let end = p.end;
+    let name_begin = q.begin;
+    let name_end = q.end;
+    let trace_begin = r.begin;
+    let trace_end = r.end;
+    s.run(
+        &place[begin..end],
+        &name_place[name_begin..name_end],
+        rounds,
+        &mut trace[trace_begin..trace_end],
+    )
+}
+
+fn rounds_of(v: u64) -> u32 {
+    (v % 4294967296) as u32
+}
+
+fn run_shown(
+    rest: &[u8],
+    l: Lent,
+    s: Session,
+    place: &[u64],
+    name_place: &[u8],
+    trace: &mut [u32],
+) -> Session {
+    let asked = lines::read_two(rest);
+    lines::fill_trace(trace);
+    let ran = run(
+        l,
+        s,
+        rounds_of(asked.first),
+        lines::size(asked.next),
+        place,
+        name_place,
+        trace,
+    );
+    let after = ran.session;
+    let status = ran.status;
+    let number = auttervil::status_number(status) as u64;
+    lines::show(b"run ");
+    lines::show_number(number);
+    lines::show(b", ");
+    lines::show_number(ran.rounds as u64);
+    lines::show(b" rounds");
+    written(trace, ran.count);
+    show::session(after, number);
+    after
+}
+
+pub fn run_line(rest: &[u8], l: Lent, s: Session, place: &[u64], name_place: &[u8]) -> Session {
+    let mut trace = [0u32; ROOM];
+    run_shown(rest, l, s, place, name_place, &mut trace)
+}

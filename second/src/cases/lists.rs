@@ -1,0 +1,104 @@
+//! Charts with lists of starts, posts and runs for the program `calls_run`.
+
+use super::script::{making, Line};
+use crate::at_limits;
+use crate::by_hand;
+use crate::cells::INTERNAL;
+use crate::compiled::{compile, CompiledChart};
+use crate::encode::Layout;
+use crate::examples::{self, Example};
+use crate::generate::{self, CallMaker, Flavour};
+use crate::limits::SLOT_BYTES;
+use crate::near_misses::Lent;
+use crate::random::Random;
+use crate::readings;
+use crate::session::{watch_nothing, Session};
+use crate::session_damage;
+use crate::story;
+
+/// How many small generated charts there are, and how many of any size.
+const SMALL: usize = 220;
+const LARGE: u64 = 12;
+/// The first seed of those of any size, and of the lists with 8 and 9.
+const FIRST_SEED: u64 = 10_000_000;
+const REFUSED_SEED: u64 = 11_000_000;
+const REFUSED: u64 = 40;
+
+pub fn lists() -> Vec<Line> {
+    let mut lines = story();
+    lines.extend(examples().into_iter().flat_map(played));
+    lines.extend((FIRST_SEED..FIRST_SEED + LARGE).flat_map(of_any_size));
+    lines.extend((REFUSED_SEED..REFUSED_SEED + REFUSED).flat_map(refused));
+    lines
+}
+
+/// A reading that a refused chart tells has no calls: the answer of compiling it is all there is.
+fn examples() -> Vec<Example> {
+    let readings =
+        readings::all().into_iter().flatten().filter(|example| example.spelt.names.len() % SLOT_BYTES == 0);
+    let others = by_hand::all().into_iter().chain(examples::by_hand()).chain(at_limits::all());
+    let others = others.chain(examples::generated(SMALL)).filter(|example| !example.calls.is_empty());
+    readings.chain(others).collect()
+}
+
+fn played(example: Example) -> Vec<Line> {
+    let Example { about, spelt, place, calls, .. } = example;
+    let mut lines = vec![Line::About(about), Line::Chart(Lent { spelt, place }), Line::Zeros];
+    lines.extend(calls.into_iter().map(Line::Call));
+    lines
+}
+
+/// The first two slots of the queue are shown whole, before and after.
+fn story() -> Vec<Line> {
+    let chart = Line::Chart(Lent::of(&story::chart(), Layout::Plain));
+    let slots = Line::Show(INTERNAL, 2 * SLOT_BYTES);
+    let mut lines = vec![Line::About("a region with an id of 52 bytes ends".to_string()), chart, Line::Zeros];
+    lines.extend(story::before().into_iter().map(Line::Call));
+    lines.extend([slots.clone(), Line::Call(story::last()), slots, Line::Call(story::last())]);
+    lines
+}
+
+fn of_any_size(seed: u64) -> Vec<Line> {
+    let mut random = Random::seeded(seed);
+    let flavour = Flavour::any(&mut random);
+    let chart = generate::chart(&mut random, flavour);
+    let calls = CallMaker::new(&mut random, &chart).calls(3);
+    let about = format!("a generated chart of any size, seed {seed}");
+    let Lent { spelt, .. } = Lent::of(&chart, Layout::Mixed(random));
+    played(Example::of_tables("of_any_size", &about, spelt, calls))
+}
+
+/// A list of calls in which now and then the session or the compiled chart is changed for one call.
+fn refused(seed: u64) -> Vec<Line> {
+    let mut random = Random::seeded(seed);
+    let rows = random.between(3, 9);
+    let flavour = Flavour::with_rows(&mut random, rows);
+    let chart = generate::chart(&mut random, flavour);
+    let lent = Lent::of(&chart, Layout::Plain);
+    let places = compile(&lent.spelt.numbers, &lent.spelt.names, lent.place).expect("the chart is accepted");
+    let compiled = CompiledChart::open(&places.numbers, &places.names).expect("what was compiled opens");
+    let mut lines =
+        vec![Line::About(format!("a list with changes, seed {seed}")), Line::Chart(lent), Line::Zeros];
+    let calls = CallMaker::new(&mut random, &chart).calls(2);
+    let mut session = Session::ended();
+    for call in calls {
+        let parts = session_damage::all();
+        let part = parts[random.below(parts.len())];
+        let changed = session_damage::damaged(&session, part, &compiled, &mut random);
+        if let Some(changed) = changed.filter(|_| random.chance(40)) {
+            lines.extend(making(&changed));
+            lines.push(Line::Call(call.clone()));
+            lines.extend(making(&session));
+        }
+        if random.chance(40) {
+            let cell = random.below(places.numbers.len());
+            lines.push(Line::Number(cell, places.numbers[cell] ^ 1));
+            lines.push(Line::Call(call.clone()));
+            lines.push(Line::Number(cell, places.numbers[cell]));
+            lines.extend(making(&session));
+        }
+        lines.push(Line::Call(call.clone()));
+        session = call.done_on(session, Some(&compiled), &mut watch_nothing).session;
+    }
+    lines
+}
