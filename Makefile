@@ -14,7 +14,7 @@ LINKED = --manifest-path linked/Cargo.toml --target-dir build/linked
 BENCH = --release --manifest-path bench/Cargo.toml --target-dir build/bench --features linked
 
 # For C programs.
-LIB ?= build/libauttervil.a
+LIB = build/libauttervil.a
 PREFIX ?= /usr/local
 DESTDIR ?=
 VERSION = $(shell sed -n 's/^\#define AUTTERVIL_VERSION "\(.*\)"/\1/p' include/auttervil.h)
@@ -38,8 +38,8 @@ lib: build/libauttervil.a
 # Proved anew whenever code, contract or proof has changed.
 build/libauttervil.a: crates.txt $(shell find crates -name '*.rt' -o -name '*.antt')
 	@echo 'Proving and linking the library: minutes on a fresh clone, seconds when little has changed.'
+	@rt staticlib auttervil
 	@mkdir -p build
-	@rt staticlib auttervil > build/lib.log 2>&1 || { tail -n 30 build/lib.log; exit 1; }
 	@cp target/staticlib/libauttervil.a build/libauttervil.a
 
 build/lifecycle: $(LIFECYCLE)/lifecycle.c $(LIFECYCLE)/chart.h include/auttervil.h $(LIB)
