@@ -122,6 +122,8 @@ static void add_stop(auttervil_builder *b)
     auttervil_add_host(b, LOG_CRASH);
     auttervil_add_transition(b, "paused", "stop", "stopping");
     auttervil_add_transition(b, "paused", "kill", "killing");
+    auttervil_add_transition(b, "paused", "exited", "dead");
+    auttervil_add_host(b, LOG_CRASH);
     auttervil_add_transition(b, "terminating", "timeout kill", "killing");
     auttervil_add_transition(b, "stopping", "exited", "dead");
 

@@ -1,6 +1,8 @@
 /* Plays an init that drives a container's life cycle: reads event names from standard input, one to a line, posts each, runs the session until it is
  * idle, and prints the trace in words. A real one would perform each host action where this one prints it.
  *
+ * The line 'new' starts another container, an empty one or one that begins with # does nothing.
+ *
  *     lifecycle < day.txt              the trace in words
  *     lifecycle --tables < day.txt     nothing but the chart and the active rows at the end, for second's picture
  */
@@ -133,24 +135,48 @@ static void print_tables(const auttervil_tables *tables, const auttervil_chart *
     printf("\n");
 }
 
-static int play(const auttervil_chart *chart, int quiet)
+/* A container of its own: the session begins anew. */
+static int start_container(const auttervil_chart *chart, int quiet)
 {
     static uint32_t trace[ROOM];
-    char line[256];
     auttervil_started started = auttervil_start(&session, chart, trace, ROOM);
     if (!quiet) {
-        printf("start: %s\n", auttervil_strstatus(started.answer));
+        printf("a new container: %s\n", auttervil_strstatus(started.answer));
         print_entries(chart, trace, started.count);
     }
-    if (started.answer != AUTTERVIL_DONE || !run_to_idle(chart, quiet))
+    return started.answer == AUTTERVIL_DONE && run_to_idle(chart, quiet);
+}
+
+/* The next line without its end; what does not fit is left out. */
+static int read_line(char *line, int size)
+{
+    if (fgets(line, size, stdin) == NULL)
         return 0;
-    while (fgets(line, sizeof line, stdin) != NULL) {
+    if (strchr(line, '\n') == NULL) {
+        int c = 0;
+        while (c != '\n' && c != EOF)
+            c = getchar();
+    }
+    line[strcspn(line, "\r\n")] = 0;
+    return 1;
+}
+
+static int play(const auttervil_chart *chart, int quiet)
+{
+    char line[256];
+    if (!start_container(chart, quiet))
+        return 0;
+    while (read_line(line, (int)sizeof line)) {
         uint32_t answer;
-        line[strcspn(line, "\r\n")] = 0;
         if (line[0] == '#' && !quiet)
             printf("\n%s\n", line);
         if (line[0] == 0 || line[0] == '#')
             continue;
+        if (strcmp(line, "new") == 0) {
+            if (!start_container(chart, quiet))
+                return 0;
+            continue;
+        }
         answer = auttervil_post_text(&session, chart, line);
         if (!quiet)
             printf("%s: %s\n", line, auttervil_strstatus(answer));
