@@ -10,6 +10,10 @@ use second::tables::{Action, Kind, Transition, TransitionType};
 use std::io::Read;
 use std::process::ExitCode;
 
+const ACTIVE_LEAF: &str = "#ffd75e";
+const ACTIVE_BOX: &str = "#fff3c4";
+const INACTIVE: &str = "white";
+
 struct Picture {
     compiled: CompiledChart,
     active: RowSet,
@@ -48,6 +52,12 @@ impl Picture {
         String::from_utf8_lossy(self.compiled.chart.id(row)).into_owned()
     }
 
+    /// A row that is not active is white, so that it does not look as the active one around it.
+    fn fill(&self, row: RowNumber, active: &str) -> String {
+        let color = if self.active.contains(row) { active } else { INACTIVE };
+        format!("fillcolor=\"{color}\"")
+    }
+
     /// A row that is drawn around others.
     fn has_children(&self, row: RowNumber) -> bool {
         !self.compiled.tree.children(row).is_empty()
@@ -83,14 +93,14 @@ impl Picture {
 
     fn leaf(&mut self, row: RowNumber, depth: usize) {
         let label = self.label(row);
-        let fill = if self.active.contains(row) { ",filled" } else { "" };
+        let fill = self.fill(row, ACTIVE_LEAF);
         let shape = match self.compiled.chart.kind(row) {
             Kind::ShallowHistory => format!("shape=circle, label=\"H\", tooltip=\"{label}\""),
             Kind::DeepHistory => format!("shape=circle, label=\"H*\", tooltip=\"{label}\""),
             Kind::Final => format!("peripheries=2, label=\"{label}\""),
             _ => format!("label=\"{label}\""),
         };
-        self.line(depth, &format!("row{} [{shape}, style=\"rounded{fill}\"];", row.0));
+        self.line(depth, &format!("row{} [{shape}, style=\"rounded,filled\", {fill}];", row.0));
     }
 
     /// A row with rows inside. Its point is where edges begin and end, and for all but a parallel
@@ -99,10 +109,10 @@ impl Picture {
         let is_parallel = self.compiled.chart.kind(row) == Kind::Parallel;
         if row != ROOT {
             let style = if is_parallel { "dashed" } else { "rounded" };
-            let fill = if self.active.contains(row) { ",filled" } else { "" };
+            let fill = self.fill(row, ACTIVE_BOX);
             let label = self.label(row);
             self.line(depth, &format!("subgraph cluster{} {{", row.0));
-            self.line(depth + 1, &format!("label=\"{label}\"; style=\"{style}{fill}\";"));
+            self.line(depth + 1, &format!("label=\"{label}\"; style=\"{style},filled\"; {fill};"));
         }
         let look = if is_parallel { "style=invis" } else { "style=filled, fillcolor=black" };
         self.line(depth + 1, &format!("row{} [shape=point, label=\"\", width=0.08, {look}];", row.0));
@@ -180,8 +190,8 @@ impl Picture {
 
     fn draw(mut self) -> String {
         self.line(0, "digraph chart {");
-        self.line(1, "compound=true; fontname=\"sans-serif\"; fillcolor=\"#fff3c4\";");
-        self.line(1, "node [shape=box, fontname=\"sans-serif\", fillcolor=\"#ffd75e\"];");
+        self.line(1, "compound=true; fontname=\"sans-serif\";");
+        self.line(1, "node [shape=box, fontname=\"sans-serif\"];");
         self.line(1, "edge [fontname=\"sans-serif\", fontsize=10];");
         self.box_of(ROOT, 0);
         for row in self.compiled.chart.row_numbers() {
