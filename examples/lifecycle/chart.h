@@ -31,13 +31,8 @@ enum host_action {
     REMOVE_CONTAINER
 };
 
-#define CHART_COUNTS 24, 24, 40, 32, 24, 64
-
-enum {
-    CHART_NUMBERS = AUTTERVIL_NUMBERS_CELLS(24, 24, 40, 32, 24),
-    CHART_COMPILED = AUTTERVIL_COMPILED_CELLS(24, 24, 40, 32, 24),
-    CHART_NAMES = AUTTERVIL_NAMES_BYTES(64)
-};
+/* Rows, transitions, references, descriptors, actions, names. */
+AUTTERVIL_PLACES(lifecycle, 24, 24, 40, 32, 24, 64);
 
 static void add_rows(auttervil_builder *b, const char *mounted)
 {
@@ -133,16 +128,17 @@ static void add_stop(auttervil_builder *b)
     auttervil_add_host(b, REMOVE_CONTAINER);
 }
 
-/* The whole chart; the state of mounted volumes has the id that is given. */
-static uint32_t build_chart(auttervil_builder *b, uint64_t *numbers, uint8_t *names, const char *mounted, auttervil_tables *tables)
+/* Builds and compiles the whole chart; the state of mounted volumes has the id that is given. A fault of the builder leaves empty tables, which
+ * compiling refuses. */
+static auttervil_compiled compile_chart(auttervil_builder *b, const char *mounted, auttervil_tables *tables)
 {
-    static const auttervil_counts most = {CHART_COUNTS};
-    auttervil_begin(b, most, numbers, CHART_NUMBERS, names, CHART_NAMES);
+    AUTTERVIL_BEGIN(b, lifecycle);
     add_rows(b, mounted);
     add_volumes(b, mounted);
     add_process(b, mounted);
     add_stop(b);
-    return auttervil_finish(b, tables);
+    (void)auttervil_finish(b, tables);
+    return AUTTERVIL_COMPILE(tables, lifecycle);
 }
 
 #endif

@@ -13,10 +13,6 @@
 
 enum { ROOM = 64 };
 
-static uint64_t numbers[CHART_NUMBERS];
-static uint8_t names[CHART_NAMES];
-static uint64_t place[CHART_COMPILED];
-static uint8_t name_place[CHART_NAMES];
 static auttervil_session session;
 static unsigned host_actions; /* asked for so far */
 
@@ -91,12 +87,9 @@ static void show_incident(void)
         auttervil_builder b;
         auttervil_tables tables;
         auttervil_compiled compiled;
-        uint32_t fault;
         memcpy(cut, id, lengths[i]);
-        fault = build_chart(&b, numbers, names, cut, &tables);
-        compiled = auttervil_compile(&tables, place, CHART_COMPILED, name_place, CHART_NAMES);
-        printf("    an id of %u bytes: builder: %s; compile answers %u, %s\n", (unsigned)lengths[i], auttervil_strfault(fault), (unsigned)compiled.answer,
-               auttervil_strstatus(compiled.answer));
+        compiled = compile_chart(&b, cut, &tables);
+        printf("    an id of %u bytes: compile answers %u, %s\n", (unsigned)lengths[i], (unsigned)compiled.answer, auttervil_strstatus(compiled.answer));
     }
     printf("    host actions asked for so far: %u\n\n", host_actions);
 }
@@ -194,13 +187,9 @@ int main(int count, char **arguments)
     auttervil_compiled compiled;
     if (!quiet)
         show_incident();
-    if (build_chart(&b, numbers, names, "mounted", &tables) != AUTTERVIL_FAULT_NONE) {
-        fprintf(stderr, "chart: %s: %s\n", auttervil_strfault(b.fault), text(b.culprit));
-        return 1;
-    }
-    compiled = auttervil_compile(&tables, place, CHART_COMPILED, name_place, CHART_NAMES);
+    compiled = compile_chart(&b, "mounted", &tables);
     if (compiled.answer != AUTTERVIL_DONE) {
-        fprintf(stderr, "chart: %s\n", auttervil_strstatus(compiled.answer));
+        fprintf(stderr, "chart: %s; builder: %s: %s\n", auttervil_strstatus(compiled.answer), auttervil_strfault(b.fault), text(b.culprit));
         return 1;
     }
     if (!play(&compiled.chart, quiet))
