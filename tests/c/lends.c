@@ -220,6 +220,9 @@ static void chart_in_session(void)
         CHECK(auttervil_start(&shared.session, chart, a.trace, COUNT(a.trace)).answer == AUTTERVIL_BAD_CHART);
         CHECK(memcmp(&copy, &shared.session, sizeof copy) == 0);
     }
+    /* Misaligned too: then nothing of it is read, and the session it lies in is not cleared. */
+    CHECK(auttervil_start(&shared.session, (const auttervil_chart *)shifted(inside, 1), a.trace, COUNT(a.trace)).answer == AUTTERVIL_BAD_CHART);
+    CHECK(memcmp(&copy, &shared.session, sizeof copy) == 0);
 }
 
 static void refused_trace(auttervil_session *session, const auttervil_chart *chart, uint32_t *trace, size_t room, int is_left)
