@@ -38,6 +38,7 @@ lib: build/libauttervil.a
 # Proved anew whenever code, contract or proof has changed.
 build/libauttervil.a: crates.txt $(shell find crates -name '*.rt' -o -name '*.antt')
 	@echo 'Proving and linking the library: minutes on a fresh clone, seconds when little has changed.'
+	@command -v rt > /dev/null || { echo 'rt, the command of the Rattle kit, is not on the PATH'; exit 1; }
 	@rt staticlib auttervil
 	@mkdir -p build
 	@cp target/staticlib/libauttervil.a build/libauttervil.a
