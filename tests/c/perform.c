@@ -213,7 +213,7 @@ int main(void)
     marked_run();
     what_is_no_call();
     lends();
-    random_lists(&a, 400);
-    random_lists(&door, 400);
+    random_lists(&a, 200);
+    random_lists(&door, 200);
     return report();
 }
