@@ -173,6 +173,42 @@ static void changed(const lent *l, enum side side, size_t times)
     CHECK(listed);
 }
 
+#ifdef WITH_PERFORM
+/* A list of calls: its cells and text may not be written, results and trace end or begin at a fence. */
+static void performing(const lent *l, enum side side)
+{
+    static const char events[] = "e4close";
+    auttervil_chart chart = fenced_chart(l, l->chart.cells, l->chart.bytes, side);
+    const char *lent_text = (const char *)copy_at_fence(text, events, 7, side);
+    auttervil_call list[5], ends;
+    auttervil_call *calls;
+    auttervil_result *results;
+    static auttervil_session session;
+    size_t count;
+    int listed = 1;
+    list[0] = auttervil_call_start(8);
+    list[1] = auttervil_call_post(0, 2);
+    list[2] = auttervil_call_post(2, 5);
+    list[3] = auttervil_call_run(UINT32_MAX, 16);
+    list[4] = auttervil_call_run(0, 0);
+    ends = auttervil_call_post(7, 1);
+    for (count = 0; count <= 5; count++) {
+        set_writable(names, 1);
+        calls = (auttervil_call *)(void *)copy_at_fence(numbers, list, count * sizeof list[0], side);
+        results = (auttervil_result *)(void *)at_fence(names, count * sizeof *results, side);
+        auttervil_clear(&session);
+        listed = listed && auttervil_perform(&session, &chart, calls, count, lent_text, 7, results, fenced_trace(24, side), 24).performed == count;
+        listed = listed && auttervil_perform(&session, &chart, calls, count, lent_text, 7, results, fenced_trace(7, side), 7).performed == 0;
+        listed = listed && (count == 0 || results[0].number == AUTTERVIL_DONE);
+    }
+    list[1] = ends;
+    calls = (auttervil_call *)(void *)copy_at_fence(numbers, list, sizeof list, side);
+    results = (auttervil_result *)(void *)at_fence(names, 5 * sizeof *results, side);
+    listed = listed && auttervil_perform(&session, &chart, calls, 5, lent_text, 7, results, fenced_trace(24, side), 24).performed == 1;
+    CHECK(listed);
+}
+#endif
+
 int main(void)
 {
     static const char *const of_a[] = {"e4", "e1", "e2", "*", "nothing"};
@@ -198,6 +234,10 @@ int main(void)
         cut_short(&door, (enum side)side);
         changed(&a, (enum side)side, 5000);
         changed(&door, (enum side)side, 5000);
+#ifdef WITH_PERFORM
+        performing(&a, (enum side)side);
+        performing(&door, (enum side)side);
+#endif
     }
     return report();
 }

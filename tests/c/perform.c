@@ -206,6 +206,32 @@ static void lends(void)
     CHECK(auttervil_perform(&s, &a.chart, NULL, 0, NULL, 0, NULL, NULL, 0).answer == AUTTERVIL_DONE);
 }
 
+/* Random cells as calls: what is done is a front part of the list, and nothing behind it is written. */
+static void random_cells(size_t lists)
+{
+    int kept = 1;
+    for (; lists > 0; lists--) {
+        auttervil_session session = door.session;
+        auttervil_performed performed;
+        size_t i, used;
+        fill_random(calls, sizeof calls);
+        for (i = 0; i < MOST_CALLS; i++) {
+            /* Mostly small numbers, so that some are calls. */
+            calls[i].kind %= next_random() % 8 == 0 ? 5 : 3;
+            calls[i].room %= next_random() % 8 == 0 ? UINT64_MAX : 20;
+            calls[i].a %= next_random() % 8 == 0 ? UINT64_MAX : 40;
+            calls[i].b %= next_random() % 8 == 0 ? UINT64_MAX : 60;
+        }
+        fill();
+        performed = auttervil_perform(&session, &door.chart, calls, MOST_CALLS, text, sizeof text - 1, results, trace, ROOM);
+        used = auttervil_window(calls, performed.performed);
+        kept = kept && performed.answer == AUTTERVIL_DONE && performed.performed <= MOST_CALLS && used <= ROOM;
+        kept = kept && is_left(results + performed.performed, (COUNT(results) - performed.performed) * sizeof results[0]);
+        kept = kept && is_left(trace + used, (COUNT(trace) - used) * 4);
+    }
+    CHECK(kept);
+}
+
 int main(void)
 {
     make_chart_a(&a);
@@ -215,5 +241,6 @@ int main(void)
     lends();
     random_lists(&a, 200);
     random_lists(&door, 200);
+    random_cells(300);
     return report();
 }
