@@ -1,15 +1,26 @@
-# make test    proves every crate, tries every must-fail edit, runs the second program and every check of this repository
-# make demo    plays chart A and prints its trace in words
+# make demo    a container's day as a C program plays it, and a picture of its chart (build/lifecycle.svg) where Graphviz is installed
+# make test    proves every crate, tries every must-fail edit, runs the second program, the tests in C and every check of this repository
 # make lib     build/libauttervil.a, the static library for C
+# make install PREFIX=..   header, library and auttervil.pc; make uninstall PREFIX=.. takes them away
+# make test-c  the tests in C alone
+# make chart-a   plays chart A by the second program and prints its trace in words
 # make bench   how long the library and the second program take (docs/bench.md)
 # make examples   writes the computed examples anew (crates/examples)
 # make cases   writes what the programs over the crates read and print anew
+# make expected   writes what the life cycle prints anew
 # make manifest   notes the files that make test expects
 CARGO = cargo build --quiet --offline
 LINKED = --manifest-path linked/Cargo.toml --target-dir build/linked
 BENCH = --release --manifest-path bench/Cargo.toml --target-dir build/bench --features linked
 
-.PHONY: test demo lib bench agree examples cases manifest second linked clean
+# For C programs.
+LIB = build/libauttervil.a
+PREFIX ?= /usr/local
+DESTDIR ?=
+VERSION = $(shell sed -n 's/^\#define AUTTERVIL_VERSION "\(.*\)"/\1/p' include/auttervil.h)
+LIFECYCLE = examples/lifecycle
+
+.PHONY: test demo lib bench agree examples cases manifest second linked clean lifecycle picture chart-a test-c expected install uninstall
 
 test:
 	@bash tests/run
@@ -17,16 +28,49 @@ test:
 second:
 	@$(CARGO) --release --manifest-path second/Cargo.toml --target-dir build/second
 
-demo: second
+demo: lifecycle picture
+
+chart-a: second
 	@build/second/release/demo
 
 lib: build/libauttervil.a
 
 # Proved anew whenever code, contract or proof has changed.
 build/libauttervil.a: crates.txt $(shell find crates -name '*.rt' -o -name '*.antt')
+	@echo 'Proving and linking the library: minutes on a fresh clone, seconds when little has changed.'
+	@command -v rt > /dev/null || { echo 'rt, the command of the Rattle kit, is not on the PATH'; exit 1; }
 	@rt staticlib auttervil
 	@mkdir -p build
 	@cp target/staticlib/libauttervil.a build/libauttervil.a
+
+build/lifecycle: $(LIFECYCLE)/lifecycle.c $(LIFECYCLE)/chart.h include/auttervil.h $(LIB)
+	@$(CC) -std=c99 -O2 -Wall -Wextra -Iinclude $(LIFECYCLE)/lifecycle.c -o build/lifecycle $(LIB)
+
+lifecycle: build/lifecycle
+	@build/lifecycle < $(LIFECYCLE)/day.txt
+
+# The chart at noon, when a reload has been paused.
+picture: build/lifecycle second
+	@sed '/^resume/,$$d' $(LIFECYCLE)/day.txt | build/lifecycle --tables | build/second/release/picture > build/lifecycle.dot
+	@if command -v dot > /dev/null; then dot -Tsvg build/lifecycle.dot -o build/lifecycle.svg && echo 'The chart at noon: build/lifecycle.svg'; \
+	else echo 'The chart at noon: build/lifecycle.dot (Graphviz, which is not installed, would make a picture of it)'; fi
+
+# Writes what the example prints anew, for reading before it is committed.
+expected: build/lifecycle
+	@build/lifecycle < $(LIFECYCLE)/day.txt > $(LIFECYCLE)/expected.txt
+
+test-c:
+	@bash tests/c/run
+
+install: $(LIB)
+	install -d $(DESTDIR)$(PREFIX)/include $(DESTDIR)$(PREFIX)/lib/pkgconfig
+	install -m 644 include/auttervil.h $(DESTDIR)$(PREFIX)/include/auttervil.h
+	install -m 644 $(LIB) $(DESTDIR)$(PREFIX)/lib/libauttervil.a
+	sed -e 's|@PREFIX@|$(PREFIX)|' -e 's|@VERSION@|$(VERSION)|' auttervil.pc.in > $(DESTDIR)$(PREFIX)/lib/pkgconfig/auttervil.pc
+	chmod 644 $(DESTDIR)$(PREFIX)/lib/pkgconfig/auttervil.pc
+
+uninstall:
+	rm -f $(DESTDIR)$(PREFIX)/include/auttervil.h $(DESTDIR)$(PREFIX)/lib/libauttervil.a $(DESTDIR)$(PREFIX)/lib/pkgconfig/auttervil.pc
 
 linked: lib
 	@$(CARGO) --release $(LINKED) --bin linked

@@ -1,7 +1,9 @@
-//! With the feature `linked`, the folder of libauttervil.a is taken from AUTTERVIL_LIBRARY.
+//! With the feature `linked`, the folder of libauttervil.a is taken from AUTTERVIL_LIBRARY, and the
+//! header's wrappers are compiled by the C compiler, CC or cc.
 
 use std::env;
-use std::path::Path;
+use std::path::{Path, PathBuf};
+use std::process::Command;
 
 const FOLDER: &str = "AUTTERVIL_LIBRARY";
 
@@ -16,5 +18,26 @@ fn main() {
     let archive = archive.canonicalize().unwrap_or_else(|_| panic!("there is no {}", archive.display()));
     println!("cargo:rerun-if-changed={}", archive.display());
     println!("cargo:rustc-link-search=native={}", archive.parent().expect("it is in a folder").display());
+    wrappers();
+}
+
+/// src/wrappers.c as an archive, which has to stand before the library that it calls.
+fn wrappers() {
+    let out = PathBuf::from(env::var_os("OUT_DIR").expect("cargo says where"));
+    let (object, archive) = (out.join("wrappers.o"), out.join("libwrappers.a"));
+    let compiler = env::var_os("CC").unwrap_or_else(|| "cc".into());
+    let flags = ["-std=c99", "-O2", "-Wall", "-Wextra", "-Werror", "-fPIC", "-I../include", "-c"];
+    run(Command::new(compiler).args(flags).arg("src/wrappers.c").arg("-o").arg(&object));
+    run(Command::new("ar").arg("rcs").arg(&archive).arg(&object));
+    println!("cargo:rerun-if-env-changed=CC");
+    println!("cargo:rerun-if-changed=src/wrappers.c");
+    println!("cargo:rerun-if-changed=../include/auttervil.h");
+    println!("cargo:rustc-link-search=native={}", out.display());
+    println!("cargo:rustc-link-lib=static=wrappers");
     println!("cargo:rustc-link-lib=static=auttervil");
+}
+
+fn run(command: &mut Command) {
+    let status = command.status().unwrap_or_else(|why| panic!("{command:?}: {why}"));
+    assert!(status.success(), "{command:?} failed");
 }

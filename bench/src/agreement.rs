@@ -1,5 +1,6 @@
-//! The engine, and the library where it is linked, against the second program: the same answers,
-//! sessions and traces on generated charts and call lists, with every refusal among them.
+//! The engine, and the library where it is linked, bare and behind the header's wrappers, against
+//! the second program: the same answers, sessions and traces on generated charts and call lists,
+//! with every refusal among them.
 
 use crate::bridge::{followed, plain};
 use crate::contenders::{Calls, Engine, Follower, Lent};
@@ -55,7 +56,10 @@ fn contenders() -> Vec<Box<dyn Calls>> {
     #[cfg_attr(not(feature = "linked"), allow(unused_mut))]
     let mut all: Vec<Box<dyn Calls>> = vec![Box::new(Engine)];
     #[cfg(feature = "linked")]
-    all.push(Box::new(crate::library::Library));
+    {
+        all.push(Box::new(crate::library::Library));
+        all.push(Box::new(crate::wrappers::Wrappers));
+    }
     all
 }
 

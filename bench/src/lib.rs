@@ -13,3 +13,5 @@ pub mod engine;
 pub mod library;
 pub mod measure;
 pub mod plot;
+#[cfg(feature = "linked")]
+pub mod wrappers;

@@ -1,0 +1,200 @@
+/* Plays an init that drives a container's life cycle: reads event names from standard input, one to a line, posts each, runs the session until it is
+ * idle, and prints the trace in words. A real one would perform each host action where this one prints it.
+ *
+ * The line 'new' starts another container, an empty one or one that begins with # does nothing.
+ *
+ *     lifecycle < day.txt              the trace in words
+ *     lifecycle --tables < day.txt     nothing but the chart and the active rows at the end, for second's picture
+ */
+#include <stdio.h>
+#include <string.h>
+
+#include "chart.h"
+
+enum { ROOM = 64 };
+
+static auttervil_session session;
+static unsigned host_actions; /* asked for so far */
+
+static const char *host_words(uint32_t action)
+{
+    static const char *const words[] = {"?",
+        "mount the volumes", "unmount the volumes", "exec the process", "freeze the process", "thaw the process", "send SIGTERM", "send SIGKILL",
+        "send SIGHUP", "start the timer", "stop the timer", "log a crash", "remove the container"};
+    return action < sizeof words / sizeof words[0] ? words[action] : words[0];
+}
+
+/* Printing null is not C's to define; a chart that was compiled has a text for every number of its traces. */
+static const char *text(const char *found)
+{
+    return found == NULL ? "?" : found;
+}
+
+static void print_transition(const auttervil_chart *chart, uint32_t transition)
+{
+    const char *event;
+    uint64_t i;
+    printf("    transition %u of %s", (unsigned)transition, text(auttervil_row_id(chart, auttervil_transition_source(chart, transition))));
+    for (i = 0; (event = auttervil_transition_event(chart, transition, i)) != NULL; i++)
+        printf("%s%s", i == 0 ? " on " : " or ", event);
+    printf("\n");
+}
+
+static void print_entry(const auttervil_chart *chart, uint32_t entry)
+{
+    uint32_t index = auttervil_entry_index(entry);
+    switch (auttervil_entry_kind(entry)) {
+    case AUTTERVIL_TRACE_EXITED: printf("    leave %s\n", text(auttervil_row_id(chart, index))); break;
+    case AUTTERVIL_TRACE_TRANSITION: print_transition(chart, index); break;
+    case AUTTERVIL_TRACE_ENTERED: printf("    enter %s\n", text(auttervil_row_id(chart, index))); break;
+    case AUTTERVIL_TRACE_HOST:
+        host_actions++;
+        printf("    DO %s\n", host_words(index));
+        break;
+    case AUTTERVIL_TRACE_RAISED: printf("    raise %s\n", text(auttervil_name(chart, index))); break;
+    case AUTTERVIL_TRACE_DONE: printf("    done.state.%s\n", text(auttervil_row_id(chart, index))); break;
+    default: printf("    entry %u\n", (unsigned)entry);
+    }
+}
+
+static void print_entries(const auttervil_chart *chart, const uint32_t *trace, size_t count)
+{
+    size_t i;
+    for (i = 0; i < count; i++)
+        print_entry(chart, trace[i]);
+}
+
+static void print_active(const auttervil_chart *chart)
+{
+    uint64_t row;
+    printf("    [");
+    for (row = 1; row < auttervil_row_count(chart); row++)
+        if (auttervil_is_active(&session, row))
+            printf(" %s", text(auttervil_row_id(chart, row)));
+    printf(" ]\n");
+}
+
+/* The runtime of the incident kept names in slots of 64 bytes: an id of 60 fitted, its done event did not. Here such a chart is refused when it is
+ * compiled. There is no session yet, and so no host action that could mount anything. */
+static void show_incident(void)
+{
+    static const char id[] = "mounted-volume-of-the-orders-database-with-its-write-ahead-log";
+    static const size_t lengths[] = {52, 53, 60};
+    size_t i;
+    printf("The incident, with ids cut from \"%s\":\n", id);
+    for (i = 0; i < sizeof lengths / sizeof lengths[0]; i++) {
+        char cut[64] = {0};
+        auttervil_builder b;
+        auttervil_tables tables;
+        auttervil_compiled compiled;
+        memcpy(cut, id, lengths[i]);
+        compiled = compile_chart(&b, cut, &tables);
+        printf("    an id of %u bytes: compile answers %u, %s\n", (unsigned)lengths[i], (unsigned)compiled.answer, auttervil_strstatus(compiled.answer));
+    }
+    printf("    host actions asked for so far: %u\n\n", host_actions);
+}
+
+/* Runs until nothing is left to do. A trace that is too small for a single round would refuse it for ever, so that ends the program. */
+static int run_to_idle(const auttervil_chart *chart, int quiet)
+{
+    static uint32_t trace[ROOM];
+    auttervil_ran ran;
+    do {
+        ran = auttervil_run(&session, chart, 100, trace, ROOM);
+        if (!quiet) {
+            print_entries(chart, trace, ran.count);
+            printf("    rounds: %u, then %s\n", (unsigned)ran.rounds, auttervil_strstatus(ran.status));
+        }
+    } while (ran.status == AUTTERVIL_MORE || (ran.status == AUTTERVIL_NO_ROOM && ran.rounds > 0));
+    if (!quiet)
+        print_active(chart);
+    return ran.status == AUTTERVIL_IDLE || ran.status == AUTTERVIL_ENDED;
+}
+
+static void print_tables(const auttervil_tables *tables, const auttervil_chart *chart)
+{
+    size_t i;
+    uint64_t row;
+    printf("numbers");
+    for (i = 0; i < tables->cells; i++)
+        printf(" %llu", (unsigned long long)tables->numbers[i]);
+    printf("\nnames");
+    for (i = 0; i < tables->bytes; i++)
+        printf(" %u", (unsigned)tables->names[i]);
+    printf("\nactive");
+    for (row = 1; row < auttervil_row_count(chart); row++)
+        if (auttervil_is_active(&session, row))
+            printf(" %llu", (unsigned long long)row);
+    printf("\n");
+}
+
+/* A container of its own: the session begins anew. */
+static int start_container(const auttervil_chart *chart, int quiet)
+{
+    static uint32_t trace[ROOM];
+    auttervil_started started = auttervil_start(&session, chart, trace, ROOM);
+    if (!quiet) {
+        printf("a new container: %s\n", auttervil_strstatus(started.answer));
+        print_entries(chart, trace, started.count);
+    }
+    return started.answer == AUTTERVIL_DONE && run_to_idle(chart, quiet);
+}
+
+/* The next line without its end; what does not fit is left out. */
+static int read_line(char *line, int size)
+{
+    if (fgets(line, size, stdin) == NULL)
+        return 0;
+    if (strchr(line, '\n') == NULL) {
+        int c = 0;
+        while (c != '\n' && c != EOF)
+            c = getchar();
+    }
+    line[strcspn(line, "\r\n")] = 0;
+    return 1;
+}
+
+static int play(const auttervil_chart *chart, int quiet)
+{
+    char line[256];
+    if (!start_container(chart, quiet))
+        return 0;
+    while (read_line(line, (int)sizeof line)) {
+        uint32_t answer;
+        if (line[0] == '#' && !quiet)
+            printf("\n%s\n", line);
+        if (line[0] == 0 || line[0] == '#')
+            continue;
+        if (strcmp(line, "new") == 0) {
+            if (!start_container(chart, quiet))
+                return 0;
+            continue;
+        }
+        answer = auttervil_post_text(&session, chart, line);
+        if (!quiet)
+            printf("%s: %s\n", line, auttervil_strstatus(answer));
+        if (answer == AUTTERVIL_DONE && !run_to_idle(chart, quiet))
+            return 0;
+    }
+    return 1;
+}
+
+int main(int count, char **arguments)
+{
+    int quiet = count > 1 && strcmp(arguments[1], "--tables") == 0;
+    auttervil_builder b;
+    auttervil_tables tables;
+    auttervil_compiled compiled;
+    if (!quiet)
+        show_incident();
+    compiled = compile_chart(&b, "mounted", &tables);
+    if (compiled.answer != AUTTERVIL_DONE) {
+        fprintf(stderr, "chart: %s; builder: %s: %s\n", auttervil_strstatus(compiled.answer), auttervil_strfault(b.fault), text(b.culprit));
+        return 1;
+    }
+    if (!play(&compiled.chart, quiet))
+        return 1;
+    if (quiet)
+        print_tables(&tables, &compiled.chart);
+    return 0;
+}

@@ -1,0 +1,32 @@
+/* The header without a C library: compiled for a freestanding program, to see what it asks for. */
+#include "auttervil.h"
+
+static uint64_t numbers[AUTTERVIL_NUMBERS_CELLS(3, 1, 1, 1, 1)];
+static uint8_t names[AUTTERVIL_NAMES_BYTES(3)];
+static uint64_t place[AUTTERVIL_COMPILED_CELLS(3, 1, 1, 1, 1)];
+static uint8_t name_place[AUTTERVIL_NAMES_BYTES(3)];
+static auttervil_session session;
+static uint32_t trace[8];
+
+uint64_t play(void);
+
+uint64_t play(void)
+{
+    static const auttervil_counts most = {3, 1, 1, 1, 1, 3};
+    auttervil_builder b;
+    auttervil_tables tables;
+    auttervil_compiled compiled;
+    auttervil_begin(&b, most, numbers, sizeof numbers / sizeof numbers[0], names, sizeof names);
+    auttervil_add_row(&b, AUTTERVIL_KIND_STATE, NULL, "off");
+    auttervil_add_row(&b, AUTTERVIL_KIND_STATE, NULL, "on");
+    auttervil_add_entry(&b, "on");
+    auttervil_add_host(&b, 1);
+    auttervil_add_transition(&b, "off", "push", "on");
+    if (auttervil_finish(&b, &tables) != AUTTERVIL_FAULT_NONE)
+        return b.fault;
+    compiled = auttervil_compile(&tables, place, sizeof place / sizeof place[0], name_place, sizeof name_place);
+    (void)auttervil_start(&session, &compiled.chart, trace, 8);
+    (void)auttervil_post_text(&session, &compiled.chart, "push");
+    (void)auttervil_run(&session, &compiled.chart, 10, trace, 8);
+    return auttervil_find_row(&compiled.chart, "on") + (uint64_t)auttervil_is_active(&session, 2);
+}

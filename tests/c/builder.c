@@ -1,0 +1,248 @@
+/* The builder: what it fills in, and what it reports. */
+#include "test.h"
+
+static uint64_t numbers[AUTTERVIL_NUMBERS_CELLS(64, 128, 5120, 512, 2560)];
+static uint8_t names[AUTTERVIL_NAMES_BYTES(192)];
+static uint64_t place[AUTTERVIL_COMPILED_CELLS(64, 128, 5120, 512, 2560)];
+static uint8_t name_place[AUTTERVIL_NAMES_BYTES(192)];
+static auttervil_builder b;
+static auttervil_tables tables;
+
+static void begin_with(auttervil_counts most)
+{
+    memset(numbers, 0xff, sizeof numbers);
+    memset(names, 0xff, sizeof names);
+    auttervil_begin(&b, most, numbers, COUNT(numbers), names, COUNT(names));
+}
+
+static auttervil_counts counts(size_t rows, size_t transitions, size_t references, size_t descriptors, size_t actions, size_t slots)
+{
+    auttervil_counts most;
+    most.rows = rows;
+    most.transitions = transitions;
+    most.references = references;
+    most.descriptors = descriptors;
+    most.actions = actions;
+    most.names = slots;
+    return most;
+}
+
+static int ends_with(uint32_t fault, const char *culprit)
+{
+    uint32_t got = auttervil_finish(&b, &tables);
+    int same = culprit == NULL ? b.culprit == NULL : b.culprit != NULL && strcmp(b.culprit, culprit) == 0;
+    if (fault != AUTTERVIL_FAULT_NONE)
+        CHECK(tables.numbers == NULL && tables.cells == 0 && auttervil_sizes(&tables).answer == AUTTERVIL_SIZE);
+    return got == fault && b.fault == fault && same && strcmp(auttervil_strfault(fault), "no fault of the builder") != 0;
+}
+
+/* A chart of two states that uses 3 rows, 1 transition, 2 references, 2 descriptors, 2 actions and 5 names. */
+static void small_chart(auttervil_counts most)
+{
+    begin_with(most);
+    auttervil_add_row(&b, AUTTERVIL_KIND_STATE, NULL, "one");
+    auttervil_add_row(&b, AUTTERVIL_KIND_STATE, NULL, "two");
+    auttervil_add_list(&b, NULL, "one");
+    auttervil_add_entry(&b, "one");
+    auttervil_add_host(&b, 65535);
+    auttervil_add_transition(&b, "one", " go  away.* ", "two ");
+    auttervil_add_raise(&b, "gone");
+}
+
+static uint32_t compile(void)
+{
+    return auttervil_compile(&tables, place, COUNT(place), name_place, COUNT(name_place)).answer;
+}
+
+static void fits_exactly(void)
+{
+    small_chart(counts(3, 1, 2, 2, 2, 5));
+    CHECK(ends_with(AUTTERVIL_FAULT_NONE, NULL));
+    CHECK(tables.cells == AUTTERVIL_NUMBERS_CELLS(3, 1, 2, 2, 2) && tables.bytes == AUTTERVIL_NAMES_BYTES(5));
+    CHECK(compile() == AUTTERVIL_DONE);
+    memcpy(name_place, names, sizeof names);
+    memcpy(place, numbers, 8 * tables.cells);
+    /* With more room than is used the tables are the same, and the cells behind them are not looked at. */
+    small_chart(counts(64, 128, 5120, 512, 2560, 192));
+    CHECK(ends_with(AUTTERVIL_FAULT_NONE, NULL));
+    CHECK(memcmp(place, numbers, 8 * tables.cells) == 0 && memcmp(name_place, names, tables.bytes) == 0);
+    CHECK(compile() == AUTTERVIL_DONE);
+    CHECK(auttervil_finish(&b, &tables) == AUTTERVIL_FAULT_FINISHED && tables.cells == 0);
+}
+
+static void does_not_fit(void)
+{
+    small_chart(counts(2, 1, 2, 2, 2, 5));
+    CHECK(ends_with(AUTTERVIL_FAULT_ROWS, "two"));
+    small_chart(counts(3, 0, 2, 2, 2, 5));
+    CHECK(ends_with(AUTTERVIL_FAULT_TRANSITIONS, "one"));
+    small_chart(counts(3, 1, 1, 2, 2, 5));
+    CHECK(ends_with(AUTTERVIL_FAULT_REFERENCES, "two "));
+    small_chart(counts(3, 1, 2, 1, 2, 5));
+    CHECK(ends_with(AUTTERVIL_FAULT_DESCRIPTORS, "away.* "));
+    small_chart(counts(3, 1, 2, 2, 1, 5));
+    CHECK(ends_with(AUTTERVIL_FAULT_ACTIONS, "gone"));
+    small_chart(counts(3, 1, 2, 2, 0, 5));
+    CHECK(ends_with(AUTTERVIL_FAULT_ACTIONS, NULL));
+    small_chart(counts(3, 1, 2, 2, 2, 4));
+    CHECK(ends_with(AUTTERVIL_FAULT_NAMES, "gone"));
+}
+
+static void mistakes(void)
+{
+    static const char longest[] = "a123456789b123456789c123456789d123456789e123456789f123456789123";
+    static const char too_long[] = "a123456789b123456789c123456789d123456789e123456789f1234567891234";
+    const auttervil_counts most = counts(8, 8, 8, 8, 8, 8);
+    begin_with(most);
+    auttervil_add_row(&b, AUTTERVIL_KIND_STATE, NULL, too_long);
+    CHECK(ends_with(AUTTERVIL_FAULT_TEXT, too_long));
+    begin_with(most);
+    auttervil_add_row(&b, AUTTERVIL_KIND_STATE, NULL, NULL);
+    CHECK(ends_with(AUTTERVIL_FAULT_TEXT, NULL));
+    begin_with(most);
+    auttervil_add_row(&b, AUTTERVIL_KIND_STATE, NULL, "");
+    CHECK(ends_with(AUTTERVIL_FAULT_TEXT, ""));
+    begin_with(most);
+    auttervil_add_row(&b, AUTTERVIL_KIND_STATE, "above", "x");
+    CHECK(ends_with(AUTTERVIL_FAULT_NO_ROW, "above"));
+    small_chart(most);
+    auttervil_add_transition(&b, "two", "back", "one three");
+    auttervil_add_row(&b, AUTTERVIL_KIND_STATE, "nowhere", "x");
+    CHECK(ends_with(AUTTERVIL_FAULT_NO_ROW, "three"));
+    small_chart(most);
+    auttervil_add_transition(&b, "gone", "back", "one");
+    CHECK(ends_with(AUTTERVIL_FAULT_NO_ROW, "gone"));
+    begin_with(most);
+    auttervil_add_host(&b, 1);
+    CHECK(ends_with(AUTTERVIL_FAULT_NOT_OPEN, NULL));
+    begin_with(most);
+    auttervil_add_row(&b, AUTTERVIL_KIND_STATE, NULL, "x");
+    auttervil_set_condition(&b, "x");
+    CHECK(ends_with(AUTTERVIL_FAULT_NOT_OPEN, "x"));
+    begin_with(most);
+    auttervil_set_internal(&b);
+    CHECK(ends_with(AUTTERVIL_FAULT_NOT_OPEN, NULL));
+    small_chart(most);
+    auttervil_add_entry(&b, "one");
+    CHECK(ends_with(AUTTERVIL_FAULT_TWICE, "one"));
+    small_chart(most);
+    auttervil_add_list(&b, "", "two");
+    CHECK(ends_with(AUTTERVIL_FAULT_TWICE, ""));
+    small_chart(most);
+    CHECK(ends_with(AUTTERVIL_FAULT_NONE, NULL));
+    auttervil_add_host(&b, 1);
+    CHECK(b.fault == AUTTERVIL_FAULT_FINISHED);
+    /* 63 bytes fit a slot; whether they may be an id is for the rules to say. */
+    begin_with(most);
+    auttervil_add_row(&b, AUTTERVIL_KIND_STATE, NULL, longest);
+    CHECK(ends_with(AUTTERVIL_FAULT_NONE, NULL) && compile() == AUTTERVIL_NAMES);
+    begin_with(most);
+    auttervil_add_row(&b, AUTTERVIL_KIND_STATE, NULL, longest + 11);
+    CHECK(ends_with(AUTTERVIL_FAULT_NONE, NULL) && compile() == AUTTERVIL_NAMES);
+    begin_with(most);
+    auttervil_add_row(&b, AUTTERVIL_KIND_STATE, NULL, longest + 20);
+    CHECK(ends_with(AUTTERVIL_FAULT_NONE, NULL) && compile() == AUTTERVIL_DONE);
+}
+
+/* Rules 2 to 5, each broken through the builder, which does not judge them. */
+static void rules(void)
+{
+    const auttervil_counts most = counts(8, 8, 8, 8, 16, 16);
+    size_t i;
+    small_chart(most);
+    auttervil_add_row(&b, AUTTERVIL_KIND_STATE, NULL, "two");
+    CHECK(ends_with(AUTTERVIL_FAULT_NONE, NULL) && compile() == AUTTERVIL_NAMES);
+    small_chart(most);
+    auttervil_add_row(&b, AUTTERVIL_KIND_PARALLEL, NULL, "empty");
+    CHECK(ends_with(AUTTERVIL_FAULT_NONE, NULL) && compile() == AUTTERVIL_TREE);
+    small_chart(most);
+    auttervil_add_list(&b, "two", "one");
+    CHECK(ends_with(AUTTERVIL_FAULT_NONE, NULL) && compile() == AUTTERVIL_LISTS);
+    small_chart(most);
+    auttervil_add_transition(&b, "two", NULL, NULL);
+    CHECK(ends_with(AUTTERVIL_FAULT_NONE, NULL) && compile() == AUTTERVIL_TRANSITIONS);
+    small_chart(most);
+    auttervil_add_row(&b, 6, NULL, "odd");
+    CHECK(ends_with(AUTTERVIL_FAULT_NONE, NULL) && compile() == AUTTERVIL_SIZE);
+    small_chart(most);
+    for (i = 0; i < 8; i++)
+        auttervil_add_host(&b, 1);
+    CHECK(ends_with(AUTTERVIL_FAULT_NONE, NULL) && compile() == AUTTERVIL_SIZE);
+    begin_with(most);
+    CHECK(ends_with(AUTTERVIL_FAULT_NONE, NULL) && tables.bytes == 0 && compile() == AUTTERVIL_TREE);
+}
+
+static int begins(auttervil_counts most, uint64_t *cells, size_t n, uint8_t *bytes, size_t m)
+{
+    auttervil_begin(&b, most, cells, n, bytes, m);
+    if (b.fault == AUTTERVIL_FAULT_NONE)
+        return 1;
+    auttervil_add_row(&b, AUTTERVIL_KIND_STATE, NULL, "x");
+    CHECK(ends_with(AUTTERVIL_FAULT_ARRAYS, NULL));
+    return 0;
+}
+
+static void arrays(void)
+{
+    const auttervil_counts most = counts(3, 1, 2, 2, 2, 5);
+    const size_t cells = AUTTERVIL_NUMBERS_CELLS(3, 1, 2, 2, 2);
+    memset(numbers, 0xff, sizeof numbers);
+    CHECK(begins(most, numbers, cells, names, 320));
+    CHECK(!begins(most, numbers, cells - 1, names, 320));
+    CHECK(!begins(most, numbers, cells, names, 319));
+    CHECK(!begins(most, NULL, cells, names, 320));
+    CHECK(!begins(most, numbers, cells, NULL, 320));
+    CHECK(!begins(most, (uint64_t *)((uintptr_t)numbers + 4), cells, names, 320));
+    CHECK(!begins(most, numbers, cells, (uint8_t *)numbers + 8 * cells - 1, 320));
+    CHECK(begins(most, numbers, cells, (uint8_t *)numbers + 8 * cells, 320));
+    CHECK(!begins(most, numbers, SIZE_MAX, names, 320));
+    CHECK(!begins(counts(0, 0, 0, 0, 0, 0), numbers, cells, names, 320));
+    CHECK(!begins(counts(65, 0, 0, 0, 0, 0), numbers, COUNT(numbers), names, 320));
+    CHECK(!begins(counts(SIZE_MAX / 8, 0, 0, 0, 0, 0), numbers, COUNT(numbers), names, 320));
+    CHECK(!begins(counts(1, 0, 0, 0, 0, 193), numbers, COUNT(numbers), names, COUNT(names)));
+    CHECK(begins(counts(1, 0, 0, 0, 0, 0), numbers, 17, NULL, 0));
+    auttervil_begin(NULL, most, numbers, cells, names, 320);
+    auttervil_add_row(NULL, AUTTERVIL_KIND_STATE, NULL, "x");
+    CHECK(auttervil_finish(NULL, &tables) == AUTTERVIL_FAULT_ARRAYS && auttervil_finish(&b, NULL) == AUTTERVIL_FAULT_ARRAYS);
+}
+
+/* As many rows and transitions as a chart may have. */
+static void at_the_limits(void)
+{
+    char id[16], next[16];
+    auttervil_compiled compiled;
+    int i;
+    begin_with(counts(64, 128, 128, 128, 128, 192));
+    for (i = 1; i < 64; i++) {
+        snprintf(id, sizeof id, "s%d", i);
+        auttervil_add_row(&b, AUTTERVIL_KIND_STATE, NULL, id);
+    }
+    for (i = 127; i >= 0; i--) {
+        snprintf(id, sizeof id, "s%d", i % 63 + 1);
+        snprintf(next, sizeof next, "s%d", (i + 1) % 63 + 1);
+        auttervil_add_transition(&b, id, "go", next);
+        auttervil_add_host(&b, (uint16_t)i);
+    }
+    CHECK(auttervil_finish(&b, &tables) == AUTTERVIL_FAULT_NONE);
+    compiled = auttervil_compile(&tables, place, COUNT(place), name_place, COUNT(name_place));
+    CHECK(compiled.answer == AUTTERVIL_DONE && auttervil_transition_count(&compiled.chart) == 128);
+    for (i = 1; i < 128; i++)
+        CHECK(auttervil_transition_source(&compiled.chart, (uint64_t)i - 1) <= auttervil_transition_source(&compiled.chart, (uint64_t)i));
+    begin_with(counts(64, 128, 128, 128, 128, 192));
+    for (i = 1; i < 65; i++) {
+        snprintf(id, sizeof id, "s%d", i);
+        auttervil_add_row(&b, AUTTERVIL_KIND_STATE, NULL, id);
+    }
+    CHECK(ends_with(AUTTERVIL_FAULT_ROWS, "s64"));
+}
+
+int main(void)
+{
+    fits_exactly();
+    does_not_fit();
+    mistakes();
+    rules();
+    arrays();
+    at_the_limits();
+    return report();
+}

@@ -1,0 +1,37 @@
+// The header as C++: a chart through the builder, a start and a run.
+#include "test.h"
+
+static lent a;
+
+AUTTERVIL_PLACES(lamp, 3, 2, 2, 2, 1, 4);
+
+static void lamp_is_lit()
+{
+    auttervil_builder b;
+    auttervil_tables tables;
+    AUTTERVIL_BEGIN(&b, lamp);
+    auttervil_add_row(&b, AUTTERVIL_KIND_STATE, nullptr, "off");
+    auttervil_add_row(&b, AUTTERVIL_KIND_STATE, nullptr, "on");
+    auttervil_add_transition(&b, "off", "push", "on");
+    auttervil_add_host(&b, 1);
+    auttervil_add_transition(&b, "on", "push", "off");
+    CHECK(auttervil_finish(&b, &tables) == AUTTERVIL_FAULT_NONE);
+    auttervil_compiled compiled = AUTTERVIL_COMPILE(&tables, lamp);
+    CHECK(compiled.answer == AUTTERVIL_DONE);
+    CHECK(auttervil_start(&a.session, &compiled.chart, a.trace, COUNT(a.trace)).count == 1);
+    CHECK(auttervil_post_text(&a.session, &compiled.chart, "push") == AUTTERVIL_DONE);
+    CHECK(auttervil_run(&a.session, &compiled.chart, 9, a.trace, COUNT(a.trace)).count == 4 && a.trace[2] == entry(AUTTERVIL_TRACE_HOST, 1));
+}
+
+int main()
+{
+    lamp_is_lit();
+    make_chart_a(&a);
+    auttervil_started started = auttervil_start(&a.session, &a.chart, a.trace, COUNT(a.trace));
+    CHECK(started.answer == AUTTERVIL_DONE && started.count == 5);
+    CHECK(auttervil_post_text(&a.session, &a.chart, "e4") == AUTTERVIL_DONE);
+    auttervil_ran ran = auttervil_run(&a.session, &a.chart, 10, a.trace, COUNT(a.trace));
+    CHECK(ran.status == AUTTERVIL_IDLE && ran.rounds == 1 && ran.count == 3);
+    CHECK(auttervil_is_active(&a.session, auttervil_find_row(&a.chart, "S12")));
+    return report();
+}

@@ -1,0 +1,138 @@
+/* How much stack each wrapper takes, the library's part with it: each call is made on a stack that was painted before, on two charts, through a whole session.
+ * tests/c/depth tells the bound of the library's part for all inputs. */
+#define _POSIX_C_SOURCE 200809L
+#include <pthread.h>
+#include <stdlib.h>
+
+#include "test.h"
+
+enum { STACK = 1 << 20, PAINT = 0x5a };
+
+/* A call to be measured: of a chart, with a name. */
+typedef struct made {
+    lent *l;
+    const char *name;
+} made;
+
+static lent charts[2];
+static union {
+    max_align_t aligned;
+    uint8_t bytes[STACK];
+} stack __attribute__((aligned(4096)));
+
+static void *nothing(void *m)
+{
+    return m;
+}
+
+static void *sizes(void *m)
+{
+    (void)auttervil_sizes(&((made *)m)->l->tables);
+    return m;
+}
+
+static void *compile(void *m)
+{
+    lent *l = ((made *)m)->l;
+    (void)auttervil_compile(&l->tables, l->place, COUNT(l->place), l->name_place, COUNT(l->name_place));
+    return m;
+}
+
+static void *check_chart(void *m)
+{
+    (void)auttervil_check(&((made *)m)->l->chart);
+    return m;
+}
+
+static void *start(void *m)
+{
+    lent *l = ((made *)m)->l;
+    (void)auttervil_start(&l->session, &l->chart, l->trace, COUNT(l->trace));
+    return m;
+}
+
+static void *post(void *m)
+{
+    lent *l = ((made *)m)->l;
+    (void)auttervil_post_text(&l->session, &l->chart, ((made *)m)->name);
+    return m;
+}
+
+static void *run(void *m)
+{
+    lent *l = ((made *)m)->l;
+    (void)auttervil_run(&l->session, &l->chart, 10, l->trace, COUNT(l->trace));
+    return m;
+}
+
+#ifdef WITH_PERFORM
+static void *perform(void *m)
+{
+    lent *l = ((made *)m)->l;
+    const char *name = ((made *)m)->name;
+    auttervil_call calls[3];
+    auttervil_result results[3];
+    calls[0] = auttervil_call_start(16);
+    calls[1] = auttervil_call_post(0, strlen(name));
+    calls[2] = auttervil_call_run(10, 48);
+    (void)auttervil_perform(&l->session, &l->chart, calls, 3, name, strlen(name), results, l->trace, COUNT(l->trace));
+    return m;
+}
+#endif
+
+/* The bytes of the stack that the call changed, from its top down. */
+static size_t used_by(void *(*call)(void *), made *m)
+{
+    pthread_t thread;
+    pthread_attr_t how;
+    size_t low = 0;
+    memset(stack.bytes, PAINT, STACK);
+    if (pthread_attr_init(&how) != 0 || pthread_attr_setstack(&how, stack.bytes, STACK) != 0 || pthread_create(&thread, &how, call, m) != 0) {
+        printf("no thread\n");
+        exit(1);
+    }
+    pthread_join(thread, NULL);
+    pthread_attr_destroy(&how);
+    while (low < STACK && stack.bytes[low] == PAINT)
+        low++;
+    return STACK - low;
+}
+
+int main(void)
+{
+    static const struct {
+        const char *name;
+        void *(*call)(void *);
+    } calls[] = {{"auttervil_sizes", sizes}, {"auttervil_compile", compile}, {"auttervil_check", check_chart}, {"auttervil_start", start},
+                 {"auttervil_post", post}, {"auttervil_run", run},
+#ifdef WITH_PERFORM
+                 {"auttervil_perform", perform},
+#endif
+    };
+    static const char *const events[2][8] = {{"e4", "e1", "e2", "nothing"}, {"close", "open", "close", "key", "any", "reset", "quit", "."}};
+    size_t most[COUNT(calls)] = {0};
+    size_t none, i, chart, turn;
+    make_chart_a(&charts[0]);
+    make_door(&charts[1]);
+    none = used_by(nothing, NULL);
+    for (chart = 0; chart < 2; chart++) {
+        made m = {&charts[chart], "e"};
+        (void)start(&m);
+        for (turn = 0; turn < 8 && events[chart][turn] != NULL; turn++) {
+            m.name = events[chart][turn];
+            for (i = 0; i < COUNT(calls); i++) {
+                /* A start would undo what the posts have reached, and so would a list with a start. */
+                auttervil_session kept = m.l->session;
+                size_t used = used_by(calls[i].call, &m) - none;
+                most[i] = used > most[i] ? used : most[i];
+                if (calls[i].call != post && calls[i].call != run)
+                    m.l->session = kept;
+            }
+        }
+    }
+    for (i = 0; i < COUNT(calls); i++) {
+        printf("%s: %lu bytes of stack\n", calls[i].name, (unsigned long)most[i]);
+        CHECK(most[i] < STACK / 2);
+    }
+    return report();
+}
