@@ -195,23 +195,18 @@ pub fn perform(
 {
     let mut current = session;
     let mut performed = 0;
+    let mut put = 0;
     let mut used = 0;
     while performed < calls.len() / CALL_WIDTH {
         let at = performed * CALL_WIDTH;
-        let put = performed * RESULT_WIDTH;
         let kind = calls[at];
         let room = calls[at + 1];
         let a = calls[at + 2];
         let b = calls[at + 3];
-        if !is_call(
-            kind,
-            room,
-            a,
-            b,
-            text.len(),
-            results.len() - put,
-            trace.len() - used,
-        ) {
+        let size = text.len();
+        let free = results.len() - put;
+        let left = trace.len() - used;
+        if !is_call(kind, room, a, b, size, free, left) {
             break;
         }
         let put_end = put + RESULT_WIDTH;
@@ -227,6 +222,7 @@ pub fn perform(
             &mut results[put..put_end],
             &mut trace[used..end],
         );
+        put = put_end;
         used = end;
         performed += 1;
     }

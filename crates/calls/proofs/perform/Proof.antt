@@ -8,11 +8,11 @@ use Rattle.calls.proofs.perform.Statement.{statement}
 use Rattle.calls.proofs.perform.Tie as tie
 
 abbrev Inv-loop : tie.InvT-loop
-Inv-loop chart names calls text results₀ trace₀ current₀ performed₀ used₀ results trace current performed used =
-    Left current₀ chart names calls text results₀ trace₀ current results trace performed used
+Inv-loop chart names calls text results₀ trace₀ current₀ performed₀ put₀ used₀ results trace current performed put used =
+    Left current₀ chart names calls text results₀ trace₀ current results trace performed put used
 
 abbrev μ-loop : tie.MeasureT-loop
-μ-loop chart names calls text results₀ trace₀ current₀ performed₀ used₀ results trace current performed used =
+μ-loop chart names calls text results₀ trace₀ current₀ performed₀ put₀ used₀ results trace current performed put used =
     length calls / 4 - performed
 
 loop-holds : tie.Need-loop-holds Inv-loop μ-loop
@@ -20,9 +20,6 @@ loop-holds c = left-begin _ _ _ _ _ _ _
 
 mul-at : tie.Need-mul-at Inv-loop μ-loop
 mul-at c = search needs
-
-mul-put : tie.Need-mul-put Inv-loop μ-loop
-mul-put c = search needs
 
 mul-kind : tie.Need-mul-kind Inv-loop μ-loop
 mul-kind c = search needs
@@ -57,11 +54,11 @@ mul-b c = search needs
 shared-slice-read-b : tie.Need-shared-slice-read-b Inv-loop μ-loop
 shared-slice-read-b c = search needs
 
-sub-is-call : tie.Need-sub-is-call Inv-loop μ-loop
-sub-is-call c = search needs
+sub-free : tie.Need-sub-free Inv-loop μ-loop
+sub-free c = search needs
 
-sub-is-call-2 : tie.Need-sub-is-call-2 Inv-loop μ-loop
-sub-is-call-2 c = search needs
+sub-left : tie.Need-sub-left Inv-loop μ-loop
+sub-left c = search needs
 
 is-call-requires : tie.Need-is-call-requires Inv-loop μ-loop
 is-call-requires c κs = search needs
@@ -74,7 +71,7 @@ add-end c =
     let h = c .before .before .before .before .before .before .before .loop .inv in
     let t = c .before .before .before .before .before .before .loop-test .taken in
     let f = said-not-no _ _ (c .before .is-call .ensures) (c .if1 .left) in
-    let g = left-fits _ _ _ _ _ _ _ _ _ _ _ _ h t f in
+    let g = left-fits _ _ _ _ _ _ _ _ _ _ _ _ _ h t f in
     search needs
 
 mul-perform-call : tie.Need-mul-perform-call Inv-loop μ-loop
@@ -91,7 +88,7 @@ part-perform-call-end c =
     let h = c .before .before .before .before .before .before .before .loop .inv in
     let t = c .before .before .before .before .before .before .loop-test .taken in
     let f = said-not-no _ _ (c .before .is-call .ensures) (c .if1 .left) in
-    let g = left-fits _ _ _ _ _ _ _ _ _ _ _ _ h t f in
+    let g = left-fits _ _ _ _ _ _ _ _ _ _ _ _ _ h t f in
     search needs
 
 mul-perform-call-2 : tie.Need-mul-perform-call-2 Inv-loop μ-loop
@@ -108,7 +105,7 @@ part-perform-call-end-2 c =
     let h = c .before .before .before .before .before .before .before .before .loop .inv in
     let t = c .before .before .before .before .before .before .before .loop-test .taken in
     let f = said-not-no _ _ (c .before .before .is-call .ensures) (c .before .if1 .left) in
-    let g = left-fits _ _ _ _ _ _ _ _ _ _ _ _ h t f in
+    let g = left-fits _ _ _ _ _ _ _ _ _ _ _ _ _ h t f in
     search needs
 
 perform-call-requires : tie.Need-perform-call-requires Inv-loop μ-loop
@@ -116,7 +113,7 @@ perform-call-requires c κs =
     let h = c .before .before .before .before .before .before .before .before .before .loop .inv in
     let t = c .before .before .before .before .before .before .before .before .loop-test .taken in
     let f = said-not-no _ _ (c .before .before .before .is-call .ensures) (c .before .before .if1 .left) in
-    (left-fits _ _ _ _ _ _ _ _ _ _ _ _ h t f .2, result-part _ _ _ _ _ _ _ _ _ _ _ _ h t f)
+    (left-fits _ _ _ _ _ _ _ _ _ _ _ _ _ h t f .2, result-part _ _ _ _ _ _ _ _ _ _ _ _ _ h t f)
 
 add-performed : tie.Need-add-performed Inv-loop μ-loop
 add-performed c =
@@ -132,7 +129,7 @@ loop-again c =
     let h = c .before .before .before .before .before .before .before .before .before .before .before .before .before .before .loop .inv in
     let t = c .before .before .before .before .before .before .before .before .before .before .before .before .before .loop-test .taken in
     let f = said-not-no _ _ (c .before .before .before .before .before .before .before .before .is-call .ensures) (c .before .before .before .before .before .before .before .if1 .left) in
-    left-again _ _ _ _ _ _ _ _ _ _ _ _ h t f _ _ _ (c .before .before .before .before .perform-call .ensures) (c .before .trace .given .0)
+    left-again _ _ _ _ _ _ _ _ _ _ _ _ _ h t f _ _ _ (c .before .before .before .before .perform-call .ensures) (c .before .trace .given .0)
 
 same-length : tie.Need-same-length Inv-loop μ-loop
 same-length c = search needs
@@ -141,7 +138,7 @@ same-length-2 : tie.Need-same-length-2 Inv-loop μ-loop
 same-length-2 c = search needs
 
 returns : tie.Need-returns Inv-loop μ-loop
-returns c = left-ends _ _ _ _ _ _ _ _ _ _ _ _ (c .before .loop .inv) (c .loop-test .left)
+returns c = left-ends _ _ _ _ _ _ _ _ _ _ _ _ _ (c .before .loop .inv) (c .loop-test .left)
 
 same-length-3 : tie.Need-same-length-3 Inv-loop μ-loop
 same-length-3 c = search needs
@@ -150,7 +147,7 @@ same-length-4 : tie.Need-same-length-4 Inv-loop μ-loop
 same-length-4 c = search needs
 
 returns-2 : tie.Need-returns-2 Inv-loop μ-loop
-returns-2 c = left-stops _ _ _ _ _ _ _ _ _ _ _ _ (c .before .before .before .before .before .before .before .loop .inv) (c .before .before .before .before .before .before .loop-test .taken) (said-not-yes _ _ (c .before .is-call .ensures) (c .if1 .taken))
+returns-2 c = left-stops _ _ _ _ _ _ _ _ _ _ _ _ _ (c .before .before .before .before .before .before .before .loop .inv) (c .before .before .before .before .before .before .loop-test .taken) (said-not-yes _ _ (c .before .is-call .ensures) (c .if1 .taken))
 
 pub perform-spec : {M : Type 1} → statement M
 perform-spec =
@@ -160,7 +157,6 @@ perform-spec =
     μ-loop
     loop-holds
     mul-at
-    mul-put
     mul-kind
     shared-slice-read-kind
     add-room
@@ -172,8 +168,8 @@ perform-spec =
     add-b
     mul-b
     shared-slice-read-b
-    sub-is-call
-    sub-is-call-2
+    sub-free
+    sub-left
     is-call-requires
     add-put-end
     add-end
