@@ -138,12 +138,12 @@ fn run_call(
     ensures { λ s. ⌜ Did (runStep (now (chart .entry)) (now (names .entry)) session rounds (length (now (trace .entry)))) (now (trace .entry)) s (now (result .exit)) (now (trace .exit)) ⌝ }
 {
     let ran = session.run(chart, names, rounds, trace);
-    let after = ran.session;
+    let next = ran.session;
     let status = ran.status;
     let number = ran.rounds;
     let count = ran.count;
     put_result(result, status_number(status), number, count);
-    after
+    next
 }
 
 // One call of a list: its kind, a and b, its three results and its window.
