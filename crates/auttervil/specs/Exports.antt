@@ -16,7 +16,9 @@ use Rattle.session.specs.declared.Posted.{Posted}
 use Rattle.session.specs.declared.Ran.{Ran}
 use Rattle.auttervil.specs.declared.StartResult.{StartResult}
 use Rattle.auttervil.specs.declared.PostResult.{PostResult}
+use Rattle.calls.specs.declared.Performed.{Performed}
 use Rattle.auttervil.specs.declared.RunResult.{RunResult}
+use Rattle.auttervil.specs.declared.PerformResult.{PerformResult}
 
 -- compiling: the answer's number; and the two places afterwards, the compiled chart and its names, or what was there
 pub record CompilesTo (numbers names place namePlace : List ℕ) (answer : ℕ) (after namesAfter : List ℕ) : Type 0 where
@@ -61,3 +63,8 @@ unfolding runResult
 run-result r n t e g =
     let b = g ∙ ap (λ (x : Ran). statusNo (x .status)) e in
     λ i. record { session = e i .session; status = b i; rounds = e i .rounds; count = e i .count }
+
+-- ---- a list of calls
+
+abbrev pub performedBy : PerformResult → Performed
+performedBy r = record { session = r .session; performed = r .performed }

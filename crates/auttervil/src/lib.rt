@@ -7,32 +7,13 @@ ghost use Prim.Native.Nat.{_*_};
 ghost use lib.ListN.{length};
 ghost use Rattle.definition.specs.Tables.{nameCount, slotSize};
 ghost use Rattle.definition.specs.Rules.{countsFit, compiledSize};
-ghost use Rattle.definition.specs.Follower.{answerNo, statusNo};
+ghost use Rattle.definition.specs.Follower.{answerNo};
 ghost use Rattle.state.specs.State.{traceWith};
 ghost use Rattle.session.specs.Sessions.{startOf, startEffects, postOf, runOf, runEffects};
-ghost use Rattle.auttervil.specs.Exports.{CompilesTo, chartAnswer, startResult, postResult, runResult};
+ghost use Rattle.calls.specs.Performing.{Performs};
+ghost use Rattle.auttervil.specs.Exports.{CompilesTo, chartAnswer, startResult, postResult, runResult, performedBy};
 use definition::Answer;
-use definition::Status;
 use session::Session;
-
-pub fn answer_number(a: Answer) -> u32
-    ensures { λ n. ⌜ n ≡ answerNo a ⌝ }
-{
-    match a {
-        Answer::Done => 0,
-        Answer::Size => 1,
-        Answer::Names => 2,
-        Answer::Tree => 3,
-        Answer::Lists => 4,
-        Answer::Transitions => 5,
-        Answer::NotAName => 6,
-        Answer::Full => 7,
-        Answer::BadChart => 8,
-        Answer::BadSession => 9,
-        Answer::NoRoom => 10,
-        Answer::SessionEnded => 11,
-    }
-}
 
 // ---- the sizes of the two places for a compiled chart; 0 where the header's counts break rule 1
 
@@ -63,7 +44,7 @@ pub extern "C" fn auttervil_raw_compile(
     ensures { λ n. ⌜ CompilesTo (now (numbers .entry)) (now (names .entry)) (now (place .entry)) (now («name_place» .entry)) n (now (place .exit)) (now («name_place» .exit)) ⌝ }
 {
     let answer = compiler::compile(numbers, names, place, name_place);
-    answer_number(answer)
+    calls::answer_number(answer)
 }
 
 // 8 where the places hold no compiled chart, else 0.
@@ -72,23 +53,12 @@ pub extern "C" fn auttervil_raw_check(place: &[u64], name_place: &[u8]) -> u32
     ensures { λ n. ⌜ n ≡ answerNo (chartAnswer (now (place .entry)) (now («name_place» .entry))) ⌝ }
 {
     if compiler::check(place, name_place) {
-        return answer_number(Answer::Done);
+        return calls::answer_number(Answer::Done);
     }
-    answer_number(Answer::BadChart)
+    calls::answer_number(Answer::BadChart)
 }
 
 // ---- a session: handed over by value, and handed back beside the answer
-
-pub fn status_number(status: Status) -> u32
-    ensures { λ n. ⌜ n ≡ statusNo status ⌝ }
-{
-    match status {
-        Status::More => 100,
-        Status::Idle => 101,
-        Status::Ended => 102,
-        Status::Refused(a) => answer_number(a),
-    }
-}
 
 // The first count entries of the trace are the start's.
 #[repr(C)]
@@ -114,7 +84,7 @@ pub extern "C" fn auttervil_raw_start(
     let count = started.count;
     StartResult {
         session: after,
-        answer: answer_number(answer),
+        answer: calls::answer_number(answer),
         count: count,
     }
 }
@@ -140,7 +110,7 @@ pub extern "C" fn auttervil_raw_post(
     let answer = posted.answer;
     PostResult {
         session: after,
-        answer: answer_number(answer),
+        answer: calls::answer_number(answer),
     }
 }
 
@@ -171,8 +141,40 @@ pub extern "C" fn auttervil_raw_run(
     let count = ran.count;
     RunResult {
         session: after,
-        status: status_number(status),
+        status: calls::status_number(status),
         rounds: number,
         count: count,
+    }
+}
+
+// ---- a list of calls
+
+// How many of the calls were performed, and the session after the last of them.
+#[repr(C)]
+pub struct PerformResult {
+    pub session: Session,
+    pub performed: usize,
+}
+
+// Four numbers a call: its kind (0 a start, 1 a post, 2 a run), the length of its own window of the trace, and a and b: for a post where its name begins and ends in the text, for a
+// run its rounds in a. Three results a call. The list ends before the first call that is none, or that results or trace have no room for.
+#[no_mangle]
+pub extern "C" fn auttervil_raw_perform(
+    session: Session,
+    chart: &[u64],
+    names: &[u8],
+    calls: &[u64],
+    text: &[u8],
+    results: &mut [u64],
+    trace: &mut [u32],
+) -> PerformResult
+    ensures { λ r. ⌜ Performs session (now (chart .entry)) (now (names .entry)) (now (calls .entry)) (now (text .entry)) (now (results .entry)) (now (trace .entry)) (performedBy r) (now (results .exit)) (now (trace .exit)) ⌝ }
+{
+    let done = calls::perform(session, chart, names, calls, text, results, trace);
+    let after = done.session;
+    let performed = done.performed;
+    PerformResult {
+        session: after,
+        performed: performed,
     }
 }

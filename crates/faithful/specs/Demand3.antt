@@ -1,5 +1,5 @@
 -- Demand 3 as one theorem, from what compile left in the lent places.
-use mathlib.Core.Path.{_≡_, sym, ap, _∙_}
+use mathlib.Core.Path.{_≡_, refl, sym, ap, _∙_}
 use mathlib.Core.Bool.{true}
 use mathlib.Core.List.{List, [], _∷_}
 use mathlib.Core.Option.{none}
@@ -15,11 +15,12 @@ use Rattle.definition.specs.Rules.{keepsRules, verdict}
 use Rattle.definition.specs.Microstep.{Effect}
 use Rattle.definition.specs.Follower.{answerNo, Follower, endedFollower, did, round, refusal, Call, starts, Outcome, startedOutcome, follow, followAll}
 use Rattle.definition.specs.Legal.{isLegal, WellFormed}
+use Rattle.definition.specs.Compiled.{ownNumbers, isCompiled}
 use Rattle.theory.specs.Shown.{takenIn, DisjointExits}
 use Rattle.theory.specs.Theorems.{EveryAfter, start-keeps, calls-keep, all-calls-keep, round-keeps, round-disjoint}
 use Rattle.chart.specs.Own.{answer-done, compiled-ready}
 use Rattle.compiler.specs.Results.{Compiles, verdict-sizes}
-use Rattle.compiler.specs.Theorems.{names-written, place-written}
+use Rattle.compiler.specs.Theorems.{names-written, place-written, check-compiled}
 use Rattle.session.specs.declared.Session.{Session}
 use Rattle.state.specs.State.{rowsAt, modeFrom}
 use Rattle.session.specs.Sessions.{endedSession, view}
@@ -99,3 +100,10 @@ module _ (numbers names place namePlace chart slots : List ℕ) (a : Answer) (ma
     rounds = round-keeps numbers names accepted;
     disjoint = round-disjoint numbers names accepted;
   }
+
+-- of any places that pass the check behind refusal 8, over their own numbers
+pub demand-3-checked : (chart names : List ℕ) → isCompiled chart names ≡ true → Demand3 (ownNumbers chart) names chart names
+unfolding answerNo
+demand-3-checked chart names h =
+    let k = check-compiled chart names h in
+    demand-3 (ownNumbers chart) names chart names chart names Done (record { is = sym (answer-done _ (k .answer)); chart = k .is; slots = refl }) refl

@@ -3,3 +3,4 @@ pub mod Alike
 pub mod Faithful
 pub mod Demand3
 pub mod ChartA
+pub mod MarkedRuns

@@ -2,8 +2,8 @@
 use borrow.Author.Needs.{needs}
 use mathlib.Core.Path.{sym, ap}
 use Rattle.definition.specs.Follower.{answerNo}
-use Rattle.auttervil.proofs.answer_number.Statement.{statement}
-use Rattle.auttervil.proofs.answer_number.Tie as tie
+use Rattle.calls.proofs.answer_number.Statement.{statement}
+use Rattle.calls.proofs.answer_number.Tie as tie
 
 enum-told : tie.Need-enum-told
 enum-told c = search needs

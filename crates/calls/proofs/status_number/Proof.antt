@@ -1,8 +1,8 @@
 use borrow.Author.Needs.{needs}
 use mathlib.Core.Path.{sym, ap, _∙_}
 use Rattle.definition.specs.Follower.{statusNo}
-use Rattle.auttervil.proofs.status_number.Statement.{statement}
-use Rattle.auttervil.proofs.status_number.Tie as tie
+use Rattle.calls.proofs.status_number.Statement.{statement}
+use Rattle.calls.proofs.status_number.Tie as tie
 
 enum-told : tie.Need-enum-told
 enum-told c = search needs

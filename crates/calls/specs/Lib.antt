@@ -1,0 +1,5 @@
+pub mod Calls
+pub mod Performing
+pub mod Follows
+pub mod Reading
+pub mod Turns
