@@ -173,7 +173,6 @@ static void changed(const lent *l, enum side side, size_t times)
     CHECK(listed);
 }
 
-#ifdef WITH_PERFORM
 /* A list of calls: its cells and text may not be written, results and trace end or begin at a fence. */
 static void performing(const lent *l, enum side side)
 {
@@ -207,7 +206,6 @@ static void performing(const lent *l, enum side side)
     listed = listed && auttervil_perform(&session, &chart, calls, 5, lent_text, 7, results, fenced_trace(24, side), 24).performed == 1;
     CHECK(listed);
 }
-#endif
 
 int main(void)
 {
@@ -234,10 +232,8 @@ int main(void)
         cut_short(&door, (enum side)side);
         changed(&a, (enum side)side, 5000);
         changed(&door, (enum side)side, 5000);
-#ifdef WITH_PERFORM
         performing(&a, (enum side)side);
         performing(&door, (enum side)side);
-#endif
     }
     return report();
 }

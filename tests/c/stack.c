@@ -65,7 +65,6 @@ static void *run(void *m)
     return m;
 }
 
-#ifdef WITH_PERFORM
 static void *perform(void *m)
 {
     lent *l = ((made *)m)->l;
@@ -78,7 +77,6 @@ static void *perform(void *m)
     (void)auttervil_perform(&l->session, &l->chart, calls, 3, name, strlen(name), results, l->trace, COUNT(l->trace));
     return m;
 }
-#endif
 
 /* The bytes of the stack that the call changed, from its top down. */
 static size_t used_by(void *(*call)(void *), made *m)
@@ -105,9 +103,7 @@ int main(void)
         void *(*call)(void *);
     } calls[] = {{"auttervil_sizes", sizes}, {"auttervil_compile", compile}, {"auttervil_check", check_chart}, {"auttervil_start", start},
                  {"auttervil_post", post}, {"auttervil_run", run},
-#ifdef WITH_PERFORM
                  {"auttervil_perform", perform},
-#endif
     };
     static const char *const events[2][8] = {{"e4", "e1", "e2", "nothing"}, {"close", "open", "close", "key", "any", "reset", "quit", "."}};
     size_t most[COUNT(calls)] = {0};
