@@ -15,7 +15,7 @@ use Rattle.theory.specs.Tree.{low}
 use Rattle.tables.specs.Ranges.{Counts}
 use Rattle.rowset.specs.declared.RowSet.{RowSet}
 use Rattle.rowset.specs.Member.{rowsOf}
-use Rattle.chart.specs.Ready.{RowReady, TransitionReady, ParentRow, SetInside}
+use Rattle.chart.specs.Ready.{RowReady, BelowRoot, TransitionReady, ParentRow, SetInside}
 
 -- ---- the counts, as the test has them
 
@@ -32,14 +32,14 @@ row-set chart w i l h =
     let s = h .ready .size in
     let m : rowCount chart * w ≤ rowCount chart * 12 = mul-le-mul-left (rowCount chart) l in
     let k = h .inside in
-    record { counts = counts-fit chart (h .ready .tables .sized .counts); inside = omega arith }
+    record { counts = h .ready .tables .sized .counts; inside = omega arith }
 
 pub transition-set : (chart : List ℕ) (t : ℕ) → TransitionReady chart t → SetInside chart 16 t
 unfolding compiledSize
 transition-set chart t h =
     let s = h .ready .size in
     let k = h .inside in
-    record { counts = counts-fit chart (h .ready .tables .sized .counts); inside = omega arith }
+    record { counts = h .ready .tables .sized .counts; inside = omega arith }
 
 -- where a set stands, by the numbers that were read
 pub set-place : (chart : List ℕ) (column i rows size : ℕ) → rows ≡ rowCount chart → size ≡ tablesSize chart →
@@ -83,12 +83,12 @@ module _ (c : Chart) (i : ℕ) where
 
 -- ---- parents
 
-pub parent-before : (chart : List ℕ) (i : ℕ) → RowReady chart i → 0 < i → parentAt chart i < i
-parent-before chart zero h l = absurd (omega arith)
-parent-before chart (suc i) h l = let p = low (chartOf chart) (h .ready .sound .tree) i in omega arith
+pub parent-before : (chart : List ℕ) (i : ℕ) → BelowRoot chart i → parentAt chart i < i
+parent-before chart zero h = let l = h .later in absurd (omega arith)
+parent-before chart (suc i) h = let p = low (chartOf chart) (h .row .ready .sound .tree) i in omega arith
 
-pub parent-is : (chart : List ℕ) (i p : ℕ) → RowReady chart i → 0 < i → p ≡ parentAt chart i → ParentRow chart i p
-parent-is chart i p h l e =
-    let b = parent-before chart i h l in
-    let k = h .inside in
-    record { is = e; before = omega arith; row = record { ready = h .ready; inside = omega arith } }
+pub parent-is : (chart : List ℕ) (i p : ℕ) → BelowRoot chart i → p ≡ parentAt chart i → ParentRow chart i p
+parent-is chart i p h e =
+    let b = parent-before chart i h in
+    let k = h .row .inside in
+    record { is = e; before = omega arith; row = record { ready = h .row .ready; inside = omega arith } }

@@ -7,9 +7,9 @@ use lib.ListN.{length}
 use Rattle.definition.specs.Rows.{union}
 use Rattle.definition.specs.Tables.{slotSize, rowCount, transitionCount, nameCount, tablesSize, parentAt, chartOf}
 use Rattle.definition.specs.Tree.{ancestors, descendants, children, defaultTargets, anchors}
-use Rattle.definition.specs.Rules.{countsFit, compiledSize, rule2}
+use Rattle.definition.specs.Rules.{compiledSize, rule2}
 use Rattle.definition.specs.Compiled.{ownNumbers}
-use Rattle.tables.specs.Ranges.{InTables}
+use Rattle.tables.specs.Ranges.{Counts, InTables}
 unfoldable pub use Rattle.tables.specs.Parts.{setAt}
 use Rattle.theory.specs.Accepted.{Sound}
 use Rattle.rowset.specs.Member.{rowsOf}
@@ -52,6 +52,11 @@ pub record TransitionReady (chart : List ℕ) (t : ℕ) : Type 0 where
   pub ready : Ready chart
   pub inside : t < transitionCount chart
 
+-- a row that is not the root
+pub record BelowRoot (chart : List ℕ) (i : ℕ) : Type 0 where
+  pub row : RowReady chart i
+  pub later : 0 < i
+
 -- the row above row i
 pub record ParentRow (chart : List ℕ) (i p : ℕ) : Type 0 where
   pub is : p ≡ parentAt chart i
@@ -60,7 +65,7 @@ pub record ParentRow (chart : List ℕ) (i p : ℕ) : Type 0 where
 
 -- a set inside the chart, behind so many words of each row
 pub record SetInside (chart : List ℕ) (words i : ℕ) : Type 0 where
-  pub counts : countsFit chart ≡ true
+  pub counts : Counts chart
   pub inside : tablesSize chart + rowCount chart * words + i * 4 + 4 ≤ length chart
 
 -- and the names are well formed

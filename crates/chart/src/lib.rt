@@ -1,12 +1,12 @@
 // Readers of a compiled chart: the sets behind the numbers, and what they say of a row.
 ghost use mathlib.Core.Path.{_≡_};
 ghost use mathlib.Core.List.{[]};
-ghost use Prim.Native.Nat.{_+_, _*_, _<_};
+ghost use Prim.Native.Nat.{_+_, _*_};
 ghost use Rattle.definition.specs.Rows.{union};
 ghost use Rattle.definition.specs.Tables.{rowCount, tablesSize, chartOf};
 ghost use Rattle.definition.specs.Tree.{ancestors, descendants, children, isCompound, isAtomic, isDomainKind, defaultTargets, anchors};
 ghost use Rattle.rowset.specs.Member.{rowsOf};
-ghost use Rattle.chart.specs.Ready.{setAt, RowReady, TransitionReady, ParentRow, SetInside};
+ghost use Rattle.chart.specs.Ready.{setAt, RowReady, BelowRoot, TransitionReady, ParentRow, SetInside};
 use numbers::Row;
 use numbers::Transition;
 use rowset::RowSet;
@@ -111,7 +111,7 @@ pub fn is_domain_kind(chart: &[u64], r: Row) -> bool
 
 // The parent of a row that is not the root.
 pub fn parent_row(chart: &[u64], r: Row) -> Row
-    requires { ⌜ RowReady (now chart) (r .0) × (0 < r .0) ⌝ }
+    requires { ⌜ BelowRoot (now chart) (r .0) ⌝ }
     ensures { λ p. ⌜ ParentRow (now (chart .entry)) (r .0) (p .0) ⌝ }
 {
     tables::parent_row(chart, r)

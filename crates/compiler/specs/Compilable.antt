@@ -6,7 +6,7 @@ use native.Mathlib.Omega.{arith}
 use lib.ListN.{length, drop}
 use Rattle.definition.specs.Chart.{Chart}
 use Rattle.definition.specs.Tables.{rowCount, transitionCount, parentAt, chartOf}
-use Rattle.tables.specs.Ranges.{InTables, RowIn, TransitionIn}
+use Rattle.tables.specs.Ranges.{InTables, RowIn, TransitionIn, HasParent}
 use Rattle.theory.specs.Tree.{low}
 use Rattle.theory.specs.Accepted.{Sound}
 use Rattle.definition.specs.Tree.{children, defaultTargets}
@@ -59,5 +59,5 @@ module _ (numbers : List ℕ) (h : Compilable numbers) where
   parent-low zero l = absurd (omega arith)
   parent-low (suc i) l = let p = low (chartOf numbers) (h .sound .tree) i in omega arith
 
-  pub has-parent : (i : ℕ) → i < rowCount numbers → 0 < i → RowIn numbers i × (parentAt numbers i < rowCount numbers)
-  has-parent i l s = let p = parent-low i s in (row-in i l, omega arith)
+  pub has-parent : (i : ℕ) → i < rowCount numbers → 0 < i → HasParent numbers i
+  has-parent i l s = let p = parent-low i s in record { row = row-in i l; parent = omega arith }

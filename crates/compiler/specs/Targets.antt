@@ -7,12 +7,12 @@ use native.Mathlib.Omega.{arith}
 use lib.ListN.{length}
 use Rattle.definition.specs.Rows.{fold, isEmpty, firstOf, insert, with, union}
 use Rattle.definition.specs.Chart.{Chart, kind, parent, isHistory}
-use Rattle.definition.specs.Tables.{rowCount, transitionCount, parentAt, kindAt, chartOf}
+use Rattle.definition.specs.Tables.{rowCount, transitionCount, kindAt, chartOf}
 use Rattle.definition.specs.Tree.{children, isDomainKind, listed, defaultTargets, anchor, anchors}
 use Rattle.laws.specs.Bools.{clash}
 use Rattle.laws.specs.Orders.{union-none}
 use Rattle.theory.specs.Tree.{root-kind}
-use Rattle.tables.specs.Ranges.{RowIn}
+use Rattle.tables.specs.Ranges.{HasParent}
 use Rattle.rowset.specs.declared.RowSet.{RowSet}
 use Rattle.rowset.specs.Member.{rowsOf}
 use Rattle.tables.specs.Stands.{root-no-history}
@@ -75,8 +75,7 @@ unfoldable pub withAnchor : Chart → List ℕ → ℕ → List ℕ
 withAnchor c set x = insert (anchor c x) set
 
 -- a history has a parent
-pub history-parent : (numbers : List ℕ) (i : ℕ) → Compilable numbers → i < rowCount numbers → isHistory (kindAt numbers i) ≡ true →
-    RowIn numbers i × (parentAt numbers i < rowCount numbers)
+pub history-parent : (numbers : List ℕ) (i : ℕ) → Compilable numbers → i < rowCount numbers → isHistory (kindAt numbers i) ≡ true → HasParent numbers i
 history-parent numbers zero h l y = absurd (clash _ y (root-no-history (kindAt numbers 0) (root-kind (chartOf numbers) (h .sound .tree))))
 history-parent numbers (suc i) h l y = has-parent numbers h (suc i) l (omega arith)
 

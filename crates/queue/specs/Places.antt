@@ -10,6 +10,7 @@ use Rattle.definition.specs.Tables.{slotAt}
 use Rattle.definition.specs.Marked.{slotOf}
 use Rattle.laws.specs.Cells.{blank}
 use Rattle.names.specs.Slots.{padded, slot-padded, padded-blank}
+use Rattle.queue.specs.Queues.{SlotInside}
 
 -- the part from a to e
 part-length : (q : List ℕ) (a e : ℕ) → a ≤ e → e ≤ length q → length (take (e - a) (drop a q)) ≡ e - a
@@ -23,12 +24,12 @@ unfolding slotAt
 slot-part q k = let e : k * 64 + 64 - k * 64 ≡ 64 = omega arith in rw e
 
 -- a name in the slot behind count names
-pub put-slot : (q : List ℕ) (count : ℕ) (name slot : List ℕ) → count * 64 + 64 ≤ length q →
+pub put-slot : (q : List ℕ) (count : ℕ) (name slot : List ℕ) → SlotInside q count →
     slot ≡ padded (length (take (count * 64 + 64 - count * 64) (drop (count * 64) q))) name →
     take (count * 64) q ++ (slot ++ drop (count * 64 + 64 - count * 64) (drop (count * 64) q)) ≡ take (count * 64) q ++ (slotOf name ++ drop (count * 64 + 64) q)
 put-slot q count name slot h e =
     let w : count * 64 + 64 - count * 64 ≡ 64 = omega arith in
-    let s : slot ≡ slotOf name = e ∙ rw (part-length q (count * 64) (count * 64 + 64) (omega arith) h, w) (sym (slot-padded name)) in
+    let s : slot ≡ slotOf name = e ∙ rw (part-length q (count * 64) (count * 64 + 64) (omega arith) (h .inside), w) (sym (slot-padded name)) in
     rw (s, part-behind q (count * 64) (count * 64 + 64) (omega arith))
 
 -- ---- every byte one slot forward, the first i of them so far
@@ -51,10 +52,11 @@ module _ (q₀ q : List ℕ) (i : ℕ) (so-far : q ≡ take i (drop 64 q₀) ++ 
       so-far ∙ ap₂ {C = List ℕ} (λ a b. a ++ b) (take-all i (drop 64 q₀) (omega (arith, length-drop 64 q₀))) (ap (λ (k : ℕ). drop k q₀) s)
 
 -- zeros in the last slot
-pub clear-last : (q₀ q slot : List ℕ) → 64 ≤ length q₀ → q ≡ drop 64 q₀ ++ drop (length q₀ - 64) q₀ →
+pub clear-last : (q₀ q slot : List ℕ) → SlotInside q₀ 0 → q ≡ drop 64 q₀ ++ drop (length q₀ - 64) q₀ →
     slot ≡ padded (length (take (length q - (length q - 64)) (drop (length q - 64) q))) [] →
     take (length q - 64) q ++ (slot ++ drop (length q - (length q - 64)) (drop (length q - 64) q)) ≡ drop 64 q₀ ++ blank 64
 clear-last q₀ q slot h e f =
+    let l : 64 ≤ length q₀ = h .inside in
     let size : length q ≡ length q₀ = ap length e ∙ length-append (drop 64 q₀) (drop (length q₀ - 64) q₀) ∙ omega (arith, length-drop 64 q₀, length-drop (length q₀ - 64) q₀) in
     let w : length q - (length q - 64) ≡ 64 = omega arith in
     let front : take (length q - 64) q ≡ drop 64 q₀ =

@@ -22,6 +22,14 @@ use Rattle.laws.specs.Cells.{cells, blank, cells-ext, cells-none, cells-length,
 use Rattle.laws.specs.Maps.{map-length, map-at, map-reads, each-map, all-at}
 use Rattle.names.specs.Slots.{slot-length, name-in-slot, zeros-in-slot, slot-of-name}
 
+-- slot k is inside the bytes: there is one to read, or room for a name behind k names
+pub record SlotInside (bytes : List ℕ) (k : ℕ) : Type 0 where
+  pub inside : k * 64 + 64 ≤ length bytes
+
+-- the bytes of 32 slots
+pub record QueueSized (bytes : List ℕ) : Type 0 where
+  pub size : length bytes ≡ 2048
+
 -- the bytes that hold the names
 unfoldable pub queueBytes : List Name → List ℕ
 queueBytes names = take 2048 (flat slotOf names ++ replicate 2048 0)
@@ -119,10 +127,10 @@ names-again names h =
 
 -- ---- the test of the bytes, slot by slot
 
-module _ (bytes : List ℕ) (count : ℕ) (size : length bytes ≡ 2048) where
+module _ (bytes : List ℕ) (count : ℕ) (sized : QueueSized bytes) where
   slot-size : (k : ℕ) → k < 32 → length (slotAt bytes k) ≡ 64
   unfolding slotAt
-  slot-size k h = length-take-le 64 (drop (k * 64) bytes) (omega (arith, length-drop (k * 64) bytes))
+  slot-size k h = let size = sized .size in length-take-le 64 (drop (k * 64) bytes) (omega (arith, length-drop (k * 64) bytes))
 
   -- a slot as the queue of its names has it
   slot-again : (k : ℕ) → k < 32 → holdsAt bytes count k ≡ true → slotAt bytes k ≡ slotAt (queueBytes (queueOf bytes count)) k
@@ -146,7 +154,7 @@ module _ (bytes : List ℕ) (count : ℕ) (size : length bytes ≡ 2048) where
   unfolding isQueue queueFits queueOf
   holds-queue short h =
       let e : bytes ≡ queueBytes (queueOf bytes count) =
-      cells-ext 64 32 bytes (queueBytes (queueOf bytes count)) size (queue-length (queueOf bytes count))
+      cells-ext 64 32 bytes (queueBytes (queueOf bytes count)) (sized .size) (queue-length (queueOf bytes count))
       (λ k l. unfold slotAt in slot-again k l (each-below (holdsAt bytes count) 32 h k l)) in
       and-true (same bytes (queueBytes (queueOf bytes count))) _ (ap (same bytes) (sym e) ∙ same-self bytes)
       (and-true (leb (length (queueOf bytes count)) mostQueued) _ (le-leb (length (queueOf bytes count)) mostQueued (rw (names-length bytes count) short))

@@ -2,12 +2,12 @@
 // the bytes; specs/Queues turns them into the names.
 ghost use mathlib.Core.Path.{_≡_};
 ghost use mathlib.Core.List.{_++_};
-ghost use Prim.Native.Nat.{_+_, _-_, _*_, _≤_};
+ghost use Prim.Native.Nat.{_+_, _-_, _*_};
 ghost use lib.ListN.{length, take, drop, replicate};
 ghost use Rattle.definition.specs.Names.{doneName};
 ghost use Rattle.definition.specs.Tables.{slotAt, nameAt};
 ghost use Rattle.definition.specs.Marked.{slotOf};
-ghost use Rattle.queue.specs.Queues.{isQueue, slotHolds};
+ghost use Rattle.queue.specs.Queues.{isQueue, slotHolds, SlotInside, QueueSized};
 
 // "at most 32 names each"
 pub const MOST_QUEUED: u64 = 32;
@@ -16,7 +16,7 @@ const SLOT: usize = 64;
 
 // Slot k.
 fn slot(queue: &[u8], k: usize) -> &[u8]
-    requires { ⌜ k * 64 + 64 ≤ length (now queue) ⌝ }
+    requires { ⌜ SlotInside (now queue) k ⌝ }
     ensures { λ s. ⌜ now s ≡ slotAt (now (queue .entry)) k ⌝ }
 {
     let from = k * SLOT;
@@ -26,7 +26,7 @@ fn slot(queue: &[u8], k: usize) -> &[u8]
 
 // The name that has waited longest.
 pub fn first_name(queue: &[u8]) -> &[u8]
-    requires { ⌜ 64 ≤ length (now queue) ⌝ }
+    requires { ⌜ SlotInside (now queue) 0 ⌝ }
     ensures { λ n. ⌜ now n ≡ nameAt (now (queue .entry)) 0 ⌝ }
 {
     names::name_of(slot(queue, 0))
@@ -34,7 +34,7 @@ pub fn first_name(queue: &[u8]) -> &[u8]
 
 // The name into the slot behind the count names.
 pub fn put_last(queue: &mut [u8], count: u64, name: &[u8])
-    requires { ⌜ count * 64 + 64 ≤ length (now queue) ⌝ }
+    requires { ⌜ SlotInside (now queue) count ⌝ }
     ensures { λ _. ⌜ now (queue .exit) ≡ take (count * 64) (now (queue .entry)) ++ (slotOf (now (name .entry)) ++ drop (count * 64 + 64) (now (queue .entry))) ⌝ }
 {
     let from = count as usize * SLOT;
@@ -44,7 +44,7 @@ pub fn put_last(queue: &mut [u8], count: u64, name: &[u8])
 
 // The done name of a row, by its id, into the slot behind the count names.
 pub fn put_done_last(queue: &mut [u8], count: u64, id: &[u8])
-    requires { ⌜ count * 64 + 64 ≤ length (now queue) ⌝ }
+    requires { ⌜ SlotInside (now queue) count ⌝ }
     ensures { λ _. ⌜ now (queue .exit) ≡ take (count * 64) (now (queue .entry)) ++ (slotOf (doneName (now (id .entry))) ++ drop (count * 64 + 64) (now (queue .entry))) ⌝ }
 {
     let from = count as usize * SLOT;
@@ -54,7 +54,7 @@ pub fn put_done_last(queue: &mut [u8], count: u64, id: &[u8])
 
 // Every byte one slot forward; those of the last slot stay.
 fn shift(queue: &mut [u8])
-    requires { ⌜ 64 ≤ length (now queue) ⌝ }
+    requires { ⌜ SlotInside (now queue) 0 ⌝ }
     ensures { λ _. ⌜ now (queue .exit) ≡ drop 64 (now (queue .entry)) ++ drop (length (now (queue .entry)) - 64) (now (queue .entry)) ⌝ }
 {
     let n = queue.len() - SLOT;
@@ -67,7 +67,7 @@ fn shift(queue: &mut [u8])
 
 // The first name leaves, the others move up.
 pub fn take_first(queue: &mut [u8])
-    requires { ⌜ 64 ≤ length (now queue) ⌝ }
+    requires { ⌜ SlotInside (now queue) 0 ⌝ }
     ensures { λ _. ⌜ now (queue .exit) ≡ drop 64 (now (queue .entry)) ++ replicate 64 0 ⌝ }
 {
     shift(queue);
@@ -97,7 +97,7 @@ fn slot_holds(slot: &[u8], used: bool) -> bool
 
 // Whether the bytes are those of a queue of count names: at most 32, each a name and zeros to its slot's end, and zeros in every unused slot.
 pub fn queue_fits(queue: &[u8], count: u64) -> bool
-    requires { ⌜ length (now queue) ≡ 2048 ⌝ }
+    requires { ⌜ QueueSized (now queue) ⌝ }
     ensures { λ b. ⌜ b ≡ isQueue (now (queue .entry)) count ⌝ }
 {
     if MOST_QUEUED < count {

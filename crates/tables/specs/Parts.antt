@@ -16,11 +16,11 @@ use Rattle.numbers.specs.declared.Row.{Row}
 use Rattle.rowset.specs.declared.RowSet.{RowSet}
 use Rattle.definition.specs.Rows.{from, all, insert, with}
 use Rattle.laws.specs.Maps.{map-length, each-map}
-use Rattle.definition.specs.Tables.{mostActions, slotSize, noNumber, rowCount, nameCount, referenceCount, descriptorCount, actionCount, referenceBase, descriptorBase, actionBase, referenceCell, descriptorCell, transitionCell, part, referencesAt, descriptorsAt, blockAt, idAt, conditionAt, slotAt, kindOf, actionCell, actionAt, actionOf}
+use Rattle.definition.specs.Tables.{mostActions, slotSize, noNumber, rowCount, nameCount, referenceBase, descriptorBase, actionBase, referenceCell, descriptorCell, transitionCell, part, referencesAt, descriptorsAt, blockAt, idAt, conditionAt, slotAt, kindOf, actionCell, actionAt, actionOf}
 use Rattle.definition.specs.Rules.{optionalBelow, referenceInRange, descriptorInRange, argumentFits}
 use Rattle.tables.specs.declared.Condition.{Condition}
 use Rattle.tables.specs.declared.Condition.the-variants.{Always, In}
-use Rattle.tables.specs.Ranges.{InTables, RowIn, RowsIn, NamesIn, TransitionIn, ActionIn, SlotIn, layout, argument-fits, condition-below}
+use Rattle.tables.specs.Ranges.{RowIn, RowsIn, NamesIn, TransitionIn, ActionIn, SlotIn, ReferencesIn, DescriptorsIn, BlockIn, layout, argument-fits, condition-below}
 
 -- the list xs, as a part of the numbers: at most so many, each in its table
 pub record Listed (Within : List ℕ → Type 0) (most : ℕ) (xs l : List ℕ) : Type 0 where
@@ -50,6 +50,10 @@ actionsOf (k ∷ []) = []
 actionsOf (k ∷ x ∷ []) = []
 actionsOf (k ∷ x ∷ y ∷ []) = []
 actionsOf (k ∷ x ∷ y ∷ z ∷ b) = actionOf k x ∷ actionsOf b
+
+-- action k of such a part
+pub record ActionInBlock (b : List ℕ) (k : ℕ) : Type 0 where
+  pub below : k < length (actionsOf b)
 
 -- the block of these actions, as a part of the numbers
 pub record BlockOf (numbers : List ℕ) (actions : List Action) (b : List ℕ) : Type 0 where
@@ -95,19 +99,21 @@ part-listed Within numbers base b start count n make low e =
       short = s;
     })
 
-pub references-listed : (numbers : List ℕ) (b start count : ℕ) → InTables numbers → start + count ≤ referenceCount numbers → b ≡ referenceBase numbers →
+pub references-listed : (numbers : List ℕ) (b start count : ℕ) → ReferencesIn numbers start count → b ≡ referenceBase numbers →
     Listed (RowsIn numbers) count (referencesAt numbers start count) (take (b + start + count - (b + start)) (drop (b + start) numbers))
 unfolding referencesAt referenceInRange referenceCell
-references-listed numbers b start count h l e =
-    part-listed (RowsIn numbers) numbers (referenceBase numbers) b start count (rowCount numbers) (λ xs f. record { tables = h; low = f })
-    (λ k m. ltb-true _ _ (h .reference k (omega arith))) e
+references-listed numbers b start count h e =
+    let l = h .inside in
+    part-listed (RowsIn numbers) numbers (referenceBase numbers) b start count (rowCount numbers) (λ xs f. record { tables = h .tables; low = f })
+    (λ k m. ltb-true _ _ (h .tables .reference k (omega arith))) e
 
-pub descriptors-listed : (numbers : List ℕ) (b start count : ℕ) → InTables numbers → start + count ≤ descriptorCount numbers → b ≡ descriptorBase numbers →
+pub descriptors-listed : (numbers : List ℕ) (b start count : ℕ) → DescriptorsIn numbers start count → b ≡ descriptorBase numbers →
     Listed (NamesIn numbers) count (descriptorsAt numbers start count) (take (b + start + count - (b + start)) (drop (b + start) numbers))
 unfolding descriptorsAt descriptorInRange descriptorCell
-descriptors-listed numbers b start count h l e =
-    part-listed (NamesIn numbers) numbers (descriptorBase numbers) b start count (nameCount numbers) (λ xs f. record { tables = h; low = f })
-    (λ k m. ltb-true _ _ (h .descriptor k (omega arith))) e
+descriptors-listed numbers b start count h e =
+    let l = h .inside in
+    part-listed (NamesIn numbers) numbers (descriptorBase numbers) b start count (nameCount numbers) (λ xs f. record { tables = h .tables; low = f })
+    (λ k m. ltb-true _ _ (h .tables .descriptor k (omega arith))) e
 
 -- a list that was read by a start and a count of the tables
 pub listed-as : (Within : List ℕ → Type 0) (f : ℕ → ℕ → List ℕ) (most s c s′ c′ : ℕ) (l : List ℕ) → s ≡ s′ → c ≡ c′ → c′ ≤ most → Listed Within c (f s c) l →
@@ -186,8 +192,8 @@ actions-count (k ∷ x ∷ y ∷ []) = refl
 actions-count (k ∷ x ∷ y ∷ z ∷ b) = let h = actions-count b in omega arith
 
 -- the cells of action k lie inside
-pub actions-inside : (b : List ℕ) (k : ℕ) → k < length (actionsOf b) → k * 4 + 4 ≤ length b
-actions-inside b k l = let h = actions-count b in omega arith
+pub actions-inside : (b : List ℕ) (k : ℕ) → ActionInBlock b k → k * 4 + 4 ≤ length b
+actions-inside b k i = let l = i .below in let h = actions-count b in omega arith
 
 pub actions-at : (b : List ℕ) (k : ℕ) (d : Action) → k < length (actionsOf b) → actionOf (getD b (k * 4) 0) (getD b (k * 4 + 1) 0) ≡ getD (actionsOf b) k d
 unfolding actionsOf
@@ -212,18 +218,20 @@ actions-from numbers start (suc n) l =
     let s : at + 4 ≡ actionBase numbers + suc start * 4 = omega arith in
     rw (w, take-add 4 (n * 4) (drop at numbers), ← part-four numbers at (omega arith), drop-drop 4 at numbers, s, actions-from numbers (suc start) n (omega arith), add-zero)
 
-pub block-listed : (numbers : List ℕ) (b start count : ℕ) → InTables numbers → start + count ≤ actionCount numbers → count ≤ mostActions → b ≡ actionBase numbers →
+pub block-listed : (numbers : List ℕ) (b start count : ℕ) → BlockIn numbers start count → b ≡ actionBase numbers →
     BlockOf numbers (blockAt numbers start count) (take (b + start * 4 + count * 4 - (b + start * 4)) (drop (b + start * 4) numbers))
 unfolding layout part blockAt
-block-listed numbers b start count h l m e =
+block-listed numbers b start count h e =
+    let l = h .fits .inside in
+    let m = h .fits .short in
     let c : b + start * 4 + count * 4 - (b + start * 4) ≡ count * 4 = omega arith in
-    let z = h .sized .size in
+    let z = h .tables .sized .size in
     let n = map-length (actionAt numbers) count start in
     rw (c, e) (record {
       is = actions-from numbers start count (omega arith);
       width = length-take-le (count * 4) (drop (actionBase numbers + start * 4) numbers) (omega (arith, length-drop (actionBase numbers + start * 4) numbers)) ∙ omega arith;
       short = omega arith;
-      fits = each-map (actionAt numbers) (argumentFits numbers) count start (λ k q. argument-fits numbers (start + k) (record { tables = h; below = omega arith }));
+      fits = each-map (actionAt numbers) (argumentFits numbers) count start (λ k q. argument-fits numbers (start + k) (record { tables = h .tables; below = omega arith }));
     })
 
 -- a block that was read by a start and a count of the tables

@@ -8,7 +8,7 @@ use native.Mathlib.Omega.{arith}
 use lib.Dec.{eqb, leb, ltb}
 use lib.ListN.{length, getD}
 use borrow.Author.Tests.{eqb-true, leb-true, ltb-true}
-use Rattle.definition.specs.Tables.{mostRows, mostTransitions, mostNames, mostDescriptors, mostTargets, mostActions, slotSize, noNumber, rowCount, transitionCount, referenceCount, descriptorCount, actionCount, nameCount, transitionBase, referenceBase, descriptorBase, actionBase, tablesSize, rowCell, transitionCell, actionCell, actionAt}
+use Rattle.definition.specs.Tables.{mostRows, mostTransitions, mostNames, mostDescriptors, mostTargets, mostActions, slotSize, noNumber, rowCount, transitionCount, referenceCount, descriptorCount, actionCount, nameCount, transitionBase, referenceBase, descriptorBase, actionBase, tablesSize, rowCell, transitionCell, actionCell, actionAt, parentAt}
 use Rattle.definition.specs.Rules.{countsFit, sizesFit, compiledSize, optionalBelow, inside, blockFits, rowInRange, transitionInRange, referenceInRange, descriptorInRange, argumentFits, actionInRange, rule1}
 use Rattle.laws.specs.Bools.{and-left, and-right, and4, and7, or-elim}
 use Rattle.laws.specs.Loops.{each-below}
@@ -33,6 +33,31 @@ pub record Sized (numbers : List ℕ) : Type 0 where
   pub counts : Counts numbers
   pub size : tablesSize numbers ≤ length numbers
 
+-- a cell: its line and its column are of its table, and the table is inside. References and descriptors have one column
+pub record CellOfRow (numbers : List ℕ) (i column : ℕ) : Type 0 where
+  pub sized : Sized numbers
+  pub row : i < rowCount numbers
+  pub width : column < 11
+
+pub record CellOfTransition (numbers : List ℕ) (t column : ℕ) : Type 0 where
+  pub sized : Sized numbers
+  pub transition : t < transitionCount numbers
+  pub width : column < 9
+
+pub record CellOfAction (numbers : List ℕ) (a column : ℕ) : Type 0 where
+  pub sized : Sized numbers
+  pub action : a < actionCount numbers
+  pub width : column < 4
+
+pub record ReferenceIn (numbers : List ℕ) (k : ℕ) : Type 0 where
+  pub sized : Sized numbers
+  pub below : k < referenceCount numbers
+
+pub record DescriptorIn (numbers : List ℕ) (k : ℕ) : Type 0 where
+  pub sized : Sized numbers
+  pub below : k < descriptorCount numbers
+
+-- every number is within its table or range
 pub record InTables (numbers : List ℕ) : Type 0 where
   pub sized : Sized numbers
   pub row : (i : ℕ) → i < rowCount numbers → rowInRange numbers i ≡ true
@@ -54,6 +79,28 @@ pub record ActionIn (numbers : List ℕ) (a : ℕ) : Type 0 where
   pub tables : InTables numbers
   pub below : a < actionCount numbers
 
+-- a row whose parent is a row of the tables: every row but the root, once rule 3 holds
+pub record HasParent (numbers : List ℕ) (i : ℕ) : Type 0 where
+  pub row : RowIn numbers i
+  pub parent : parentAt numbers i < rowCount numbers
+
+-- count references, descriptors, actions from start on
+pub record ReferencesIn (numbers : List ℕ) (start count : ℕ) : Type 0 where
+  pub tables : InTables numbers
+  pub inside : start + count ≤ referenceCount numbers
+
+pub record DescriptorsIn (numbers : List ℕ) (start count : ℕ) : Type 0 where
+  pub tables : InTables numbers
+  pub inside : start + count ≤ descriptorCount numbers
+
+pub record BlockFits (numbers : List ℕ) (start count : ℕ) : Type 0 where
+  pub inside : start + count ≤ actionCount numbers
+  pub short : count ≤ mostActions
+
+pub record BlockIn (numbers : List ℕ) (start count : ℕ) : Type 0 where
+  pub tables : InTables numbers
+  pub fits : BlockFits numbers start count
+
 -- row numbers of the tables, and name numbers, one beside the other
 pub record RowsIn (numbers l : List ℕ) : Type 0 where
   pub tables : InTables numbers
@@ -63,12 +110,25 @@ pub record NamesIn (numbers l : List ℕ) : Type 0 where
   pub tables : InTables numbers
   pub low : (k : ℕ) → k < length l → getD l k 0 < nameCount numbers
 
+-- member k of such a list
+pub record RowInList (numbers l : List ℕ) (k : ℕ) : Type 0 where
+  pub rows : RowsIn numbers l
+  pub below : k < length l
+
+pub record NameInList (numbers l : List ℕ) (k : ℕ) : Type 0 where
+  pub names : NamesIn numbers l
+  pub below : k < length l
+
 -- the slots that the header counts, and one of them
 pub record SlotsIn (numbers names : List ℕ) : Type 0 where
   pub size : nameCount numbers * slotSize ≤ length names
 
 pub record SlotIn (names : List ℕ) (n : ℕ) : Type 0 where
   pub inside : n * slotSize + slotSize ≤ length names
+
+-- the four words of a set, in any place
+pub record SetIn (place : List ℕ) (at : ℕ) : Type 0 where
+  pub inside : at + 4 ≤ length place
 
 -- ---- rule 1, read as facts
 
@@ -122,11 +182,6 @@ module _ (numbers names : List ℕ) (room nameRoom : ℕ) where
 
 pub slot-in : (numbers names : List ℕ) (n : ℕ) → SlotsIn numbers names → n < nameCount numbers → SlotIn names n
 slot-in numbers names n h l = let s = h .size in record { inside = omega arith }
-
--- a block inside the actions
-pub record BlockFits (numbers : List ℕ) (start count : ℕ) : Type 0 where
-  pub inside : start + count ≤ actionCount numbers
-  pub short : count ≤ mostActions
 
 within : (total start count most : ℕ) → (inside total start count && leb count most) ≡ true → (start + count ≤ total) × (count ≤ most)
 within total start count most h =

@@ -1,15 +1,15 @@
 // Readers of the lent chart. Where a number stands is known in this crate alone; rule 1 and the compiler name columns.
 ghost use mathlib.Core.Path.{_≡_};
 ghost use mathlib.Core.Bool.{true};
-ghost use Prim.Native.Nat.{_+_, _*_, _<_, _≤_};
+ghost use Prim.Native.Nat.{_+_, _*_, _<_};
 ghost use lib.ListN.{length, getD};
 ghost use Rattle.definition.specs.Rows.{union};
 ghost use Rattle.rowset.specs.Member.{rowsOf};
-ghost use Rattle.definition.specs.Tables.{rowCount, transitionCount, referenceCount, descriptorCount, actionCount, nameCount, transitionBase, referenceBase, descriptorBase, actionBase, tablesSize, rowCell, transitionCell, referenceCell, descriptorCell, actionCell, actionOf, actionAt, blockAt, kindAt, parentAt, entryAt, exitAt, listAt, listBlockAt, sourceAt, eventsAt, internalAt, targetsAt, transitionBlockAt, referencesAt, descriptorsAt, mostTargets, mostDescriptors, mostActions};
+ghost use Rattle.definition.specs.Tables.{rowCount, transitionCount, referenceCount, descriptorCount, actionCount, nameCount, transitionBase, referenceBase, descriptorBase, actionBase, tablesSize, rowCell, transitionCell, referenceCell, descriptorCell, actionCell, actionOf, actionAt, blockAt, kindAt, parentAt, entryAt, exitAt, listAt, listBlockAt, sourceAt, eventsAt, internalAt, targetsAt, transitionBlockAt, referencesAt, descriptorsAt, mostTargets, mostDescriptors};
 ghost use Rattle.definition.specs.Chart.{kindNo, isRoot, isState, isParallel, isFinal, isShallow, isHistory};
 ghost use Rattle.definition.specs.Rules.{countsFit, compiledSize, argumentFits, mayStand};
-ghost use Rattle.tables.specs.Ranges.{Counts, Sized, InTables, RowIn, TransitionIn, ActionIn, RowsIn, NamesIn, SlotIn};
-ghost use Rattle.tables.specs.Parts.{Listed, RowOf, NameOf, IdOf, actionsOf, BlockOf, ConditionIn, SlotOf, setAt};
+ghost use Rattle.tables.specs.Ranges.{Counts, CellOfRow, CellOfTransition, CellOfAction, ReferenceIn, DescriptorIn, RowIn, TransitionIn, ActionIn, HasParent, ReferencesIn, DescriptorsIn, BlockIn, RowsIn, NamesIn, RowInList, NameInList, SlotIn, SetIn};
+ghost use Rattle.tables.specs.Parts.{Listed, RowOf, NameOf, IdOf, actionsOf, ActionInBlock, BlockOf, ConditionIn, SlotOf, setAt};
 use definition::Action;
 use definition::Kind;
 use numbers::NameNumber;
@@ -125,7 +125,7 @@ fn action_base(numbers: &[u64]) -> usize
 
 // How many numbers the tables have by their header.
 pub fn tables_size(numbers: &[u64]) -> usize
-    requires { ⌜ countsFit (now numbers) ≡ true ⌝ }
+    requires { ⌜ Counts (now numbers) ⌝ }
     ensures { λ n. ⌜ n ≡ tablesSize (now (numbers .entry)) ⌝ }
 {
     action_base(numbers) + action_count(numbers) as usize * columns::ACTION_WIDTH
@@ -133,7 +133,7 @@ pub fn tables_size(numbers: &[u64]) -> usize
 
 // How many numbers its compiled chart has.
 pub fn compiled_size(numbers: &[u64]) -> usize
-    requires { ⌜ countsFit (now numbers) ≡ true ⌝ }
+    requires { ⌜ Counts (now numbers) ⌝ }
     ensures { λ n. ⌜ n ≡ compiledSize (now (numbers .entry)) ⌝ }
 {
     tables_size(numbers)
@@ -144,7 +144,7 @@ pub fn compiled_size(numbers: &[u64]) -> usize
 // ---- the cells of tables that lie inside the numbers
 
 pub fn row_cell(numbers: &[u64], r: Row, column: usize) -> u64
-    requires { ⌜ Sized (now numbers) × (r .0 < rowCount (now numbers)) × (column < 11) ⌝ }
+    requires { ⌜ CellOfRow (now numbers) (r .0) column ⌝ }
     ensures { λ x. ⌜ x ≡ rowCell (now (numbers .entry)) (r .0) column ⌝ }
 {
     let at = columns::HEADER + r.0 as usize * columns::ROW_WIDTH + column;
@@ -152,7 +152,7 @@ pub fn row_cell(numbers: &[u64], r: Row, column: usize) -> u64
 }
 
 pub fn transition_cell(numbers: &[u64], t: Transition, column: usize) -> u64
-    requires { ⌜ Sized (now numbers) × (t .0 < transitionCount (now numbers)) × (column < 9) ⌝ }
+    requires { ⌜ CellOfTransition (now numbers) (t .0) column ⌝ }
     ensures { λ x. ⌜ x ≡ transitionCell (now (numbers .entry)) (t .0) column ⌝ }
 {
     let at = transition_base(numbers) + t.0 as usize * columns::TRANSITION_WIDTH + column;
@@ -160,7 +160,7 @@ pub fn transition_cell(numbers: &[u64], t: Transition, column: usize) -> u64
 }
 
 pub fn reference_cell(numbers: &[u64], k: u64) -> u64
-    requires { ⌜ Sized (now numbers) × (k < referenceCount (now numbers)) ⌝ }
+    requires { ⌜ ReferenceIn (now numbers) k ⌝ }
     ensures { λ x. ⌜ x ≡ referenceCell (now (numbers .entry)) k ⌝ }
 {
     let at = reference_base(numbers) + k as usize;
@@ -168,7 +168,7 @@ pub fn reference_cell(numbers: &[u64], k: u64) -> u64
 }
 
 pub fn descriptor_cell(numbers: &[u64], k: u64) -> u64
-    requires { ⌜ Sized (now numbers) × (k < descriptorCount (now numbers)) ⌝ }
+    requires { ⌜ DescriptorIn (now numbers) k ⌝ }
     ensures { λ x. ⌜ x ≡ descriptorCell (now (numbers .entry)) k ⌝ }
 {
     let at = descriptor_base(numbers) + k as usize;
@@ -176,7 +176,7 @@ pub fn descriptor_cell(numbers: &[u64], k: u64) -> u64
 }
 
 pub fn action_cell(numbers: &[u64], a: u64, column: usize) -> u64
-    requires { ⌜ Sized (now numbers) × (a < actionCount (now numbers)) × (column < 4) ⌝ }
+    requires { ⌜ CellOfAction (now numbers) a column ⌝ }
     ensures { λ x. ⌜ x ≡ actionCell (now (numbers .entry)) a column ⌝ }
 {
     let at = action_base(numbers) + a as usize * columns::ACTION_WIDTH + column;
@@ -209,7 +209,7 @@ pub fn parent_of(numbers: &[u64], r: Row) -> u64
 
 // The parent of a row that has one.
 pub fn parent_row(numbers: &[u64], r: Row) -> Row
-    requires { ⌜ RowIn (now numbers) (r .0) × (parentAt (now numbers) (r .0) < rowCount (now numbers)) ⌝ }
+    requires { ⌜ HasParent (now numbers) (r .0) ⌝ }
     ensures { λ p. ⌜ RowOf (now (numbers .entry)) (parentAt (now (numbers .entry)) (r .0)) (p .0) ⌝ }
 {
     Row(parent_of(numbers, r) as u8)
@@ -225,7 +225,7 @@ pub fn id_of(numbers: &[u64], r: Row) -> NameNumber
 
 // A part of the references, and of the descriptors.
 fn references_part(numbers: &[u64], start: u64, count: u64) -> &[u64]
-    requires { ⌜ InTables (now numbers) × (start + count ≤ referenceCount (now numbers)) ⌝ }
+    requires { ⌜ ReferencesIn (now numbers) start count ⌝ }
     ensures { λ l. ⌜ Listed (RowsIn (now (numbers .entry))) count (referencesAt (now (numbers .entry)) start count) (now l) ⌝ }
 {
     let from = reference_base(numbers) + start as usize;
@@ -234,7 +234,7 @@ fn references_part(numbers: &[u64], start: u64, count: u64) -> &[u64]
 }
 
 fn descriptors_part(numbers: &[u64], start: u64, count: u64) -> &[u64]
-    requires { ⌜ InTables (now numbers) × (start + count ≤ descriptorCount (now numbers)) ⌝ }
+    requires { ⌜ DescriptorsIn (now numbers) start count ⌝ }
     ensures { λ l. ⌜ Listed (NamesIn (now (numbers .entry))) count (descriptorsAt (now (numbers .entry)) start count) (now l) ⌝ }
 {
     let from = descriptor_base(numbers) + start as usize;
@@ -272,14 +272,14 @@ pub fn descriptors_of(numbers: &[u64], t: Transition) -> &[u64]
 
 // A member of a list of rows, and of descriptors.
 pub fn row_at(numbers: &[u64], list: &[u64], k: usize) -> Row
-    requires { ⌜ RowsIn (now numbers) (now list) × (k < length (now list)) ⌝ }
+    requires { ⌜ RowInList (now numbers) (now list) k ⌝ }
     ensures { λ r. ⌜ RowOf (now (numbers .entry)) (getD (now (list .entry)) k 0) (r .0) ⌝ }
 {
     Row(list[k] as u8)
 }
 
 pub fn name_at(numbers: &[u64], list: &[u64], k: usize) -> NameNumber
-    requires { ⌜ NamesIn (now numbers) (now list) × (k < length (now list)) ⌝ }
+    requires { ⌜ NameInList (now numbers) (now list) k ⌝ }
     ensures { λ n. ⌜ NameOf (now (numbers .entry)) (getD (now (list .entry)) k 0) (n .0) ⌝ }
 {
     NameNumber(list[k] as u16)
@@ -326,7 +326,7 @@ pub fn condition_of(numbers: &[u64], t: Transition) -> Condition
 
 // A part of the actions: four cells each.
 fn actions_part(numbers: &[u64], start: u64, count: u64) -> &[u64]
-    requires { ⌜ InTables (now numbers) × (start + count ≤ actionCount (now numbers)) × (count ≤ mostActions) ⌝ }
+    requires { ⌜ BlockIn (now numbers) start count ⌝ }
     ensures { λ b. ⌜ BlockOf (now (numbers .entry)) (blockAt (now (numbers .entry)) start count) (now b) ⌝ }
 {
     let from = action_base(numbers) + start as usize * columns::ACTION_WIDTH;
@@ -389,7 +389,7 @@ pub fn actions_in(block: &[u64]) -> usize
 }
 
 pub fn action_of(block: &[u64], k: usize) -> Action
-    requires { ⌜ k < length (actionsOf (now block)) ⌝ }
+    requires { ⌜ ActionInBlock (now block) k ⌝ }
     ensures { λ x. ⌜ x ≡ getD (actionsOf (now (block .entry))) k (Action.Raise 0) ⌝ }
 {
     let at = k * columns::ACTION_WIDTH;
@@ -422,7 +422,7 @@ pub fn slot_of(names: &[u8], n: NameNumber) -> &[u8]
 // ---- a set of rows as four words, behind the tables of a compiled chart or in any other place
 
 pub fn set_at(place: &[u64], at: usize) -> RowSet
-    requires { ⌜ at + 4 ≤ length (now place) ⌝ }
+    requires { ⌜ SetIn (now place) at ⌝ }
     ensures { λ s. ⌜ s ≡ setAt (now (place .entry)) at ⌝ }
 {
     RowSet {

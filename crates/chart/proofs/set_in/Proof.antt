@@ -25,7 +25,7 @@ add-set-at-2 : tie.Need-add-set-at-2
 add-set-at-2 c = let e = set-place _ (c .before .before .before .args .column) (c .before .before .before .args .i) _ _ (c .before .row-count .ensures) (c .tables-size .ensures) in omega arith
 
 set-at-requires : tie.Need-set-at-requires
-set-at-requires c κs = let e = set-place _ (c .before .before .before .args .column) (c .before .before .before .args .i) _ _ (c .before .row-count .ensures) (c .tables-size .ensures) in omega arith
+set-at-requires c κs = let e = set-place _ (c .before .before .before .args .column) (c .before .before .before .args .i) _ _ (c .before .row-count .ensures) (c .tables-size .ensures) in record { inside = omega arith }
 
 returns : tie.Need-returns
 returns c =

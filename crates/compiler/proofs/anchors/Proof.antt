@@ -28,7 +28,7 @@ loop-holds : tie.Need-loop-holds Inv-loop μ-loop
 loop-holds c = walk-begin _ _ _ _ _ refl (c .empty .ensures)
 
 row-at-requires : tie.Need-row-at-requires Inv-loop μ-loop
-row-at-requires c κs = (c .before .before .before .targets-of .ensures .within, omega arith)
+row-at-requires c κs = record { rows = c .before .before .before .targets-of .ensures .within; below = omega arith }
 
 anchor-requires : tie.Need-anchor-requires Inv-loop μ-loop
 anchor-requires c κs = record { numbersKeep = c .before .before .before .before .before .before .pre .numbersKeep; inside = c .row-at .ensures .row .below }

@@ -4,6 +4,7 @@ use borrow.Author.Tests.{not-true, not-false}
 use Rattle.compiler.proofs.Answers.{not-done}
 use borrow.Author.Needs.{needs}
 use mathlib.Core.Path.{sym, _∙_}
+use Rattle.tables.specs.Ranges.{counts-of}
 use Rattle.compiler.proofs.check.Statement.{statement}
 use Rattle.compiler.proofs.check.Tie as tie
 
@@ -14,7 +15,7 @@ returns : tie.Need-returns
 returns c = no-counts _ _ (sym (c .before .counts-fit .ensures) ∙ not-true _ (c .if1 .taken))
 
 tables-size-requires : tie.Need-tables-size-requires
-tables-size-requires c κs = sym (c .before .counts-fit .ensures) ∙ not-false _ (c .if1 .left)
+tables-size-requires c κs = counts-of _ (sym (c .before .counts-fit .ensures) ∙ not-false _ (c .if1 .left))
 
 returns-2 : tie.Need-returns-2
 returns-2 c = too-short _ _ _ (c .before .tables-size .ensures) (c .if2 .taken)

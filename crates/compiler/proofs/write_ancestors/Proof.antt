@@ -43,7 +43,7 @@ set-at-requires : tie.Need-set-at-requires Inv-loop μ-loop
 set-at-requires c κs =
     let e = c .before .before .parent-row .ensures .is in
     let b = parent-low _ (c .before .before .before .before .before .before .before .before .before .before .before .before .pre .numbersKeep) (c .before .before .before .before .loop .i) (omega arith) in
-    omega arith
+    record { inside = omega arith }
 
 mul-put-set : tie.Need-mul-put-set Inv-loop μ-loop
 mul-put-set c = search needs

@@ -59,7 +59,7 @@ set-at-requires : tie.Need-set-at-requires Inv-loop μ-loop
 set-at-requires c κs =
     let e = c .before .before .parent-row .ensures .is in
     let b = parent-low _ (c .before .before .before .before .before .before .before .before .before .before .before .before .before .before .before .pre .numbersKeep) (c .before .before .before .before .before .before .before .loop .i) (omega arith) in
-    omega arith
+    record { inside = omega arith }
 
 with-requires : tie.Need-with-requires Inv-loop μ-loop
 with-requires c κs = search needs

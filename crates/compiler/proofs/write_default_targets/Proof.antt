@@ -23,7 +23,7 @@ mul-set-at : tie.Need-mul-set-at Inv-loop μ-loop
 mul-set-at c = search needs
 
 set-at-requires : tie.Need-set-at-requires Inv-loop μ-loop
-set-at-requires c κs = omega arith
+set-at-requires c κs = record { inside = omega arith }
 
 add-put-set : tie.Need-add-put-set Inv-loop μ-loop
 add-put-set c = search needs

@@ -50,7 +50,7 @@ mul-set-at : tie.Need-mul-set-at Inv-loop μ-loop
 mul-set-at c = search needs
 
 set-at-requires : tie.Need-set-at-requires Inv-loop μ-loop
-set-at-requires c κs = omega arith
+set-at-requires c κs = record { inside = omega arith }
 
 with-requires : tie.Need-with-requires Inv-loop μ-loop
 with-requires c κs = search needs
@@ -68,7 +68,7 @@ set-at-requires-2 : tie.Need-set-at-requires-2 Inv-loop μ-loop
 set-at-requires-2 c κs =
     let e = c .before .before .parent-row .ensures .is in
     let b = parent-low _ (c .before .before .before .before .before .before .before .before .before .before .before .before .before .before .before .before .before .before .pre .numbersKeep) (c .before .before .before .before .before .before .before .before .before .before .loop .i - 1) (omega arith) in
-    omega arith
+    record { inside = omega arith }
 
 union-requires : tie.Need-union-requires Inv-loop μ-loop
 union-requires c κs = search needs

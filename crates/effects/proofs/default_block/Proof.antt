@@ -10,7 +10,7 @@ use Rattle.effects.proofs.default_block.Statement.{statement}
 use Rattle.effects.proofs.default_block.Tie as tie
 
 parent-row-requires : tie.Need-parent-row-requires
-parent-row-requires c κs = (c .before .before .pre .0 .row, history-later _ _ (c .before .before .pre .0))
+parent-row-requires c κs = record { row = c .before .before .pre .0 .row; later = history-later _ _ (c .before .before .pre .0) }
 
 same-row-requires : tie.Need-same-row-requires
 same-row-requires c κs = search needs

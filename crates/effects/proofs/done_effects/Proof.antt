@@ -29,7 +29,7 @@ returns : tie.Need-returns
 returns c = subst (Wrote _ _ _ _) (sym (done-plain _ _ _ (told isFinal _ _ _ _ (c .before .before .kind-of .ensures) (c .before .is-final .ensures) (not-true _ (c .if1 .taken))))) (wrote-none _ _)
 
 parent-row-requires : tie.Need-parent-row-requires
-parent-row-requires c κs = (c .before .before .before .before .before .pre .0, final-later _ _ (c .before .before .before .before .before .pre .0 .ready) (told isFinal _ _ _ _ (c .before .before .kind-of .ensures) (c .before .is-final .ensures) (not-false _ (c .if1 .left))))
+parent-row-requires c κs = record { row = c .before .before .before .before .before .pre .0; later = final-later _ _ (c .before .before .before .before .before .pre .0 .ready) (told isFinal _ _ _ _ (c .before .before .kind-of .ensures) (c .before .is-final .ensures) (not-false _ (c .if1 .left))) }
 
 kind-of-requires-2 : tie.Need-kind-of-requires-2
 kind-of-requires-2 c κs = search needs
@@ -41,7 +41,7 @@ returns-2 : tie.Need-returns-2
 returns-2 c = subst (Wrote _ _ _ _) (sym (done-closing _ _ _ _ (told isFinal _ _ _ _ (c .before .before .before .before .before .before .kind-of .ensures) (c .before .before .before .before .before .is-final .ensures) (not-false _ (c .before .before .before .before .if1 .left))) (c .before .before .before .parent-row .ensures .is) (told isRoot _ _ _ _ (c .before .before .kind-of2 .ensures) (c .before .is-root .ensures) (c .if2 .taken)))) (wrote-none _ _)
 
 parent-row-requires-2 : tie.Need-parent-row-requires-2
-parent-row-requires-2 c κs = (c .before .before .before .parent-row .ensures .row, not-root-later _ _ (c .before .before .before .before .before .before .before .before .before .pre .0 .ready) (told isRoot _ _ _ _ (c .before .before .kind-of2 .ensures) (c .before .is-root .ensures) (c .if2 .left)))
+parent-row-requires-2 c κs = record { row = c .before .before .before .parent-row .ensures .row; later = not-root-later _ _ (c .before .before .before .before .before .before .before .before .before .pre .0 .ready) (told isRoot _ _ _ _ (c .before .before .kind-of2 .ensures) (c .before .is-root .ensures) (c .if2 .left)) }
 
 active-at-requires : tie.Need-active-at-requires
 active-at-requires c κs = search needs

@@ -18,7 +18,7 @@ loop-holds : tie.Need-loop-holds Inv-loop μ-loop
 loop-holds c = let p = c .before .before .before .pre in perform-begin _ _ _ _ (c .actions-in .ensures) (p .0) (p .1)
 
 action-of-requires : tie.Need-action-of-requires Inv-loop μ-loop
-action-of-requires c κs = perform-inside _ _ _ _ _ _ _ (c .before .loop-test .taken) (c .before .before .loop .inv)
+action-of-requires c κs = record { below = perform-inside _ _ _ _ _ _ _ (c .before .loop-test .taken) (c .before .before .loop .inv) }
 
 perform-action-requires : tie.Need-perform-action-requires Inv-loop μ-loop
 perform-action-requires c κs =

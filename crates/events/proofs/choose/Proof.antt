@@ -14,7 +14,7 @@ returns : tie.Need-returns
 returns c = choose-eventless _ _ (c .before .before .before .before .before .before .before .before .before .before .before .before .pre .0 .compiled) _ _ _ _ _ (c .before .before .before .before .before .before .before .before .before .before .before .before .pre .1) _ (c .before .before .before .select .ensures) (c .if1 .taken)
 
 first-name-requires : tie.Need-first-name-requires
-first-name-requires c κs = let e = internal-size _ _ (c .before .before .before .before .before .before .before .before .before .before .before .before .before .before .pre .0 .compiled) _ _ _ _ _ (c .before .before .before .before .before .before .before .before .before .before .before .before .before .before .pre .1) in let f = external-size _ _ (c .before .before .before .before .before .before .before .before .before .before .before .before .before .before .pre .0 .compiled) _ _ _ _ _ (c .before .before .before .before .before .before .before .before .before .before .before .before .before .before .pre .1) in omega arith
+first-name-requires c κs = let e = internal-size _ _ (c .before .before .before .before .before .before .before .before .before .before .before .before .before .before .pre .0 .compiled) _ _ _ _ _ (c .before .before .before .before .before .before .before .before .before .before .before .before .before .before .pre .1) in let f = external-size _ _ (c .before .before .before .before .before .before .before .before .before .before .before .before .before .before .pre .0 .compiled) _ _ _ _ _ (c .before .before .before .before .before .before .before .before .before .before .before .before .before .before .pre .1) in record { inside = omega arith }
 
 select-requires-2 : tie.Need-select-requires-2
 select-requires-2 c κs = (c .before .before .before .before .before .before .before .before .before .before .before .before .before .before .before .pre .0, conf-within _ _ (c .before .before .before .before .before .before .before .before .before .before .before .before .before .before .before .pre .0 .compiled) _ _ _ _ _ (c .before .before .before .before .before .before .before .before .before .before .before .before .before .before .before .pre .1), history-size _ _ (c .before .before .before .before .before .before .before .before .before .before .before .before .before .before .before .pre .0 .compiled) _ _ _ _ _ (c .before .before .before .before .before .before .before .before .before .before .before .before .before .before .before .pre .1))
@@ -23,7 +23,7 @@ returns-2 : tie.Need-returns-2
 returns-2 c = choose-internal _ _ (c .before .before .before .before .before .before .before .before .before .before .before .before .before .before .before .before .pre .0 .compiled) _ _ _ _ _ (c .before .before .before .before .before .before .before .before .before .before .before .before .before .before .before .before .pre .1) _ (c .before .before .before .before .before .before .before .select .ensures) (c .before .before .before .before .if1 .left) (c .before .before .if2 .taken) _ _ (c .before .first-name .ensures) (c .select2 .ensures)
 
 first-name-requires-2 : tie.Need-first-name-requires-2
-first-name-requires-2 c κs = let e = internal-size _ _ (c .before .before .before .before .before .before .before .before .before .before .before .before .before .before .before .before .pre .0 .compiled) _ _ _ _ _ (c .before .before .before .before .before .before .before .before .before .before .before .before .before .before .before .before .pre .1) in let f = external-size _ _ (c .before .before .before .before .before .before .before .before .before .before .before .before .before .before .before .before .pre .0 .compiled) _ _ _ _ _ (c .before .before .before .before .before .before .before .before .before .before .before .before .before .before .before .before .pre .1) in omega arith
+first-name-requires-2 c κs = let e = internal-size _ _ (c .before .before .before .before .before .before .before .before .before .before .before .before .before .before .before .before .pre .0 .compiled) _ _ _ _ _ (c .before .before .before .before .before .before .before .before .before .before .before .before .before .before .before .before .pre .1) in let f = external-size _ _ (c .before .before .before .before .before .before .before .before .before .before .before .before .before .before .before .before .pre .0 .compiled) _ _ _ _ _ (c .before .before .before .before .before .before .before .before .before .before .before .before .before .before .before .before .pre .1) in record { inside = omega arith }
 
 select-requires-3 : tie.Need-select-requires-3
 select-requires-3 c κs = (c .before .before .before .before .before .before .before .before .before .before .before .before .before .before .before .before .before .pre .0, conf-within _ _ (c .before .before .before .before .before .before .before .before .before .before .before .before .before .before .before .before .before .pre .0 .compiled) _ _ _ _ _ (c .before .before .before .before .before .before .before .before .before .before .before .before .before .before .before .before .before .pre .1), history-size _ _ (c .before .before .before .before .before .before .before .before .before .before .before .before .before .before .before .before .before .pre .0 .compiled) _ _ _ _ _ (c .before .before .before .before .before .before .before .before .before .before .before .before .before .before .before .before .before .pre .1))

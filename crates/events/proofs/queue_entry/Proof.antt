@@ -22,7 +22,7 @@ put-last-requires c κs =
     let s = c .before .before .before .before .before .before .before .before in
     let l = raised-low _ _ _ _ (s .pre .3) (c .before .before .before .if2 .taken) in
     let e = s .pre .2 in
-    omega arith
+    record { inside = omega arith }
 
 add-result : tie.Need-add-result
 add-result c =
@@ -65,7 +65,7 @@ put-done-last-requires c κs =
     let s = c .before .before .before .before .before .before .before .before .before in
     let l = done-low _ _ _ _ (s .pre .3) (past-raised _ (c .before .before .before .before .before .if1 .left) (c .before .before .before .before .if2 .left)) in
     let e = s .pre .2 in
-    omega arith
+    record { inside = omega arith }
 
 add-result-2 : tie.Need-add-result-2
 add-result-2 c =

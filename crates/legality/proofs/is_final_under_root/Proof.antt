@@ -16,7 +16,7 @@ returns : tie.Need-returns
 returns c = final-not _ _ (told isFinal _ _ _ _ (c .before .before .kind-of .ensures) (c .before .is-final .ensures) (not-true _ (c .if1 .taken)))
 
 parent-row-requires : tie.Need-parent-row-requires
-parent-row-requires c κs = (c .before .before .before .before .pre, final-after _ _ (c .before .before .before .before .pre .ready) (told isFinal _ _ _ _ (c .before .before .kind-of .ensures) (c .before .is-final .ensures) (not-false _ (c .if1 .left))))
+parent-row-requires c κs = record { row = c .before .before .before .before .pre; later = final-after _ _ (c .before .before .before .before .pre .ready) (told isFinal _ _ _ _ (c .before .before .kind-of .ensures) (c .before .is-final .ensures) (not-false _ (c .if1 .left))) }
 
 kind-of-requires-2 : tie.Need-kind-of-requires-2
 kind-of-requires-2 c κs = search needs

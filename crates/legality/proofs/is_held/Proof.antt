@@ -5,7 +5,7 @@ use Rattle.legality.proofs.is_held.Statement.{statement}
 use Rattle.legality.proofs.is_held.Tie as tie
 
 parent-row-requires : tie.Need-parent-row-requires
-parent-row-requires c κs = c .before .pre
+parent-row-requires c κs = search needs
 
 kind-of-requires : tie.Need-kind-of-requires
 kind-of-requires c κs = search needs

@@ -13,7 +13,7 @@ returns : tie.Need-returns
 returns c = storable-outside _ _ _ (said-not-yes _ _ (c .before .is-inside .ensures) (c .if1 .taken))
 
 parent-row-requires : tie.Need-parent-row-requires
-parent-row-requires c κs = let h = c .before .before .before .pre in (h .row, history-after _ _ (h .row .ready) (h .history))
+parent-row-requires c κs = let h = c .before .before .before .pre in record { row = h .row; later = history-after _ _ (h .row .ready) (h .history) }
 
 kind-of-requires : tie.Need-kind-of-requires
 kind-of-requires c κs = search needs

@@ -26,7 +26,7 @@ loop-holds : tie.Need-loop-holds Inv-loop μ-loop
 loop-holds c = failing-begin _ _ _ refl
 
 name-at-requires : tie.Need-name-at-requires Inv-loop μ-loop
-name-at-requires c κs = (c .before .before .before .descriptors-of .ensures .within, c .loop-test .taken)
+name-at-requires c κs = record { names = c .before .before .before .descriptors-of .ensures .within; below = c .loop-test .taken }
 
 matches-at-requires : tie.Need-matches-at-requires Inv-loop μ-loop
 matches-at-requires c κs = slot-ready _ _ _ (c .before .before .before .before .before .before .before .before .pre .compiled) (c .name-at .ensures .below)

@@ -25,7 +25,7 @@ loop-holds : tie.Need-loop-holds Inv-loop μ-loop
 loop-holds c = pass-begin _ _ _ _ refl
 
 row-at-requires : tie.Need-row-at-requires Inv-loop μ-loop
-row-at-requires c κs = (c .before .before .targets-of .ensures .within, c .loop-test .taken)
+row-at-requires c κs = record { rows = c .before .before .targets-of .ensures .within; below = c .loop-test .taken }
 
 add-fell-requires : tie.Need-add-fell-requires Inv-loop μ-loop
 add-fell-requires c κs = (c .before .before .before .before .before .before .pre .round, c .row-at .ensures .row .below)

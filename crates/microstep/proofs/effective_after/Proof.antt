@@ -30,7 +30,7 @@ loop-holds : tie.Need-loop-holds Inv-loop μ-loop
 loop-holds c = pass-begin _ _ _ _ (c .empty .ensures)
 
 row-at-requires : tie.Need-row-at-requires Inv-loop μ-loop
-row-at-requires c κs = (c .before .before .before .targets-of .ensures .within, c .loop-test .taken)
+row-at-requires c κs = record { rows = c .before .before .before .targets-of .ensures .within; below = c .loop-test .taken }
 
 stored-after-requires : tie.Need-stored-after-requires Inv-loop μ-loop
 stored-after-requires c κs = (c .before .before .before .before .before .before .before .pre .round, c .row-at .ensures .row .below)

@@ -7,7 +7,7 @@ use Rattle.microstep.proofs.store_row.Statement.{statement}
 use Rattle.microstep.proofs.store_row.Tie as tie
 
 parent-row-requires : tie.Need-parent-row-requires
-parent-row-requires c κs = (c .before .before .pre .1 .row, history-later _ _ (c .before .before .pre .1))
+parent-row-requires c κs = record { row = c .before .before .pre .1 .row; later = history-later _ _ (c .before .before .pre .1) }
 
 has-requires : tie.Need-has-requires
 has-requires c κs = search needs

@@ -25,7 +25,7 @@ returns : tie.Need-returns
 returns c = stored-words _ _ _ _ (c .stored-at .ensures) (stored-plain _ _ _ _ _ (told isHistory _ _ _ _ (c .before .before .before .kind-of .ensures) (c .before .before .is-history .ensures) (not-true _ (c .before .if1 .taken))))
 
 parent-row-requires : tie.Need-parent-row-requires
-parent-row-requires c κs = (history c .row, history-later _ _ (history c))
+parent-row-requires c κs = record { row = history c .row; later = history-later _ _ (history c) }
 
 has-requires : tie.Need-has-requires
 has-requires c κs = search needs

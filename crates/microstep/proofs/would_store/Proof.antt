@@ -12,7 +12,7 @@ use Rattle.microstep.proofs.would_store.Statement.{statement}
 use Rattle.microstep.proofs.would_store.Tie as tie
 
 parent-row-requires : tie.Need-parent-row-requires
-parent-row-requires c κs = (c .before .pre .1 .row, history-later _ _ (c .before .pre .1))
+parent-row-requires c κs = record { row = c .before .pre .1 .row; later = history-later _ _ (c .before .pre .1) }
 
 kind-of-requires : tie.Need-kind-of-requires
 kind-of-requires c κs = search needs

@@ -3,15 +3,14 @@ use mathlib.Core.Path.{_≡_, refl, _∙_}
 use mathlib.Core.Bool.{true}
 use Prim.Native.Nat.{_-_, _≤_}
 use native.Mathlib.Omega.{arith}
-use lib.ListN.{length}
-use Rattle.queue.specs.Queues.{holdsAt, holds-at, queue-holds, queue-long}
+use Rattle.queue.specs.Queues.{QueueSized, holdsAt, holds-at, queue-holds, queue-long}
 use Rattle.laws.specs.Loops.{all-begin, all-turn, all-leave, all-done, said-not-yes, said-not-no}
 use Rattle.definition.specs.Rows.{all, from}
 use Rattle.queue.proofs.queue_fits.Statement.{statement}
 use Rattle.queue.proofs.queue_fits.Tie as tie
 
 abbrev Inv-loop : tie.InvT-loop
-Inv-loop queue count k₀ k = (k ≤ 32) × (count ≤ 32) × (length queue ≡ 2048) × (all (holdsAt queue count) (from k 0) ≡ true)
+Inv-loop queue count k₀ k = (k ≤ 32) × (count ≤ 32) × QueueSized queue × (all (holdsAt queue count) (from k 0) ≡ true)
 
 abbrev μ-loop : tie.MeasureT-loop
 μ-loop queue count k₀ k = 32 - k

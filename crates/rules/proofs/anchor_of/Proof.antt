@@ -19,7 +19,7 @@ parent-row-requires c κs =
     let is = told isHistory _ _ _ _ (c .before .before .kind-of .ensures) (c .before .is-history .ensures) (c .if1 .taken) in
     let l = history-parent _ (pre .0) _ (pre .1) is in
     let m = pre .1 .below in
-    (pre .1, omega arith)
+    record { row = pre .1; parent = omega arith }
 
 returns : tie.Need-returns
 returns c = anchor-parent _ _ (c .before .before .before .before .before .pre .1) _ (told isHistory _ _ _ _ (c .before .before .before .kind-of .ensures) (c .before .before .is-history .ensures) (c .before .if1 .taken)) (c .parent-row .ensures)

@@ -14,7 +14,7 @@ returns : tie.Need-returns
 returns c = default-none _ _ _ (c .before .list-of .ensures .is) (c .if1 .taken)
 
 parent-row-requires : tie.Need-parent-row-requires
-parent-row-requires c κs = let l = history-parent _ (c .before .before .before .before .pre .0 .tree) _ (c .before .before .before .before .pre .1) (c .before .before .before .before .pre .2) in let m = c .before .before .before .before .pre .1 .below in (c .before .before .before .before .pre .1, omega arith)
+parent-row-requires c κs = let l = history-parent _ (c .before .before .before .before .pre .0 .tree) _ (c .before .before .before .before .pre .1) (c .before .before .before .before .pre .2) in let m = c .before .before .before .before .pre .1 .below in record { row = c .before .before .before .before .pre .1; parent = omega arith }
 
 kind-of-requires : tie.Need-kind-of-requires
 kind-of-requires c κs = search needs

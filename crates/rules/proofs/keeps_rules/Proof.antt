@@ -1,5 +1,6 @@
 use borrow.Author.Needs.{needs}
 use Rattle.laws.specs.Loops.{said-laws}
+use Rattle.tables.specs.Ranges.{counts-of}
 use Rattle.rules.specs.Verdict.{counts-broken, kept-is}
 use Rattle.rules.proofs.keeps_rules.Statement.{statement}
 use Rattle.rules.proofs.keeps_rules.Tie as tie
@@ -11,7 +12,7 @@ returns : tie.Need-returns
 returns c = search (needs, said-laws, counts-broken)
 
 compiled-size-requires : tie.Need-compiled-size-requires
-compiled-size-requires c κs = search (needs, said-laws)
+compiled-size-requires c κs = search (needs, said-laws, counts-of)
 
 verdict-requires : tie.Need-verdict-requires
 verdict-requires c κs = search needs

@@ -6,7 +6,7 @@ use Rattle.rules1.proofs.sizes_fit.Statement.{statement}
 use Rattle.rules1.proofs.sizes_fit.Tie as tie
 
 tables-size-requires : tie.Need-tables-size-requires
-tables-size-requires c κs = search needs
+tables-size-requires c κs = search (needs, counts-of)
 
 name-count-requires : tie.Need-name-count-requires
 name-count-requires c κs = search needs
@@ -15,7 +15,7 @@ mul-result : tie.Need-mul-result
 mul-result c = let k = counts-of _ (c .before .before .before .before .pre) .names in omega (arith, c .name-count .ensures)
 
 compiled-size-requires : tie.Need-compiled-size-requires
-compiled-size-requires c κs = search needs
+compiled-size-requires c κs = search (needs, counts-of)
 
 returns : tie.Need-returns
 unfolding sizesFit

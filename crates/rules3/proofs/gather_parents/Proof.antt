@@ -33,7 +33,7 @@ cast-t9 : tie.Need-cast-t9 Inv-loop μ-loop
 cast-t9 c = search needs
 
 parent-row-requires : tie.Need-parent-row-requires Inv-loop μ-loop
-parent-row-requires c κs = let l = tree-parent _ (c .before .before .before .before .before .before .pre) (c .before .loop .i) (omega arith) (omega arith) in (record { tables = c .before .before .before .before .before .before .pre .tables; below = omega arith }, omega arith)
+parent-row-requires c κs = let l = tree-parent _ (c .before .before .before .before .before .before .pre) (c .before .loop .i) (omega arith) (omega arith) in record { row = record { tables = c .before .before .before .before .before .before .pre .tables; below = omega arith }; parent = omega arith }
 
 kind-of-requires : tie.Need-kind-of-requires Inv-loop μ-loop
 kind-of-requires c κs = search needs

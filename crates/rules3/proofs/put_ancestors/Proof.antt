@@ -38,7 +38,7 @@ parent-row-requires c κs =
     let tree = c .before .before .before .before .before .before .before .before .before .before .pre .0 in
     let n = c .before .before .before .before .before .before .before .row-count .ensures in
     let l = tree-parent _ tree (c .before .loop .i) (omega arith) (omega arith) in
-    (record { tables = tree .tables; below = omega arith }, omega arith)
+    record { row = record { tables = tree .tables; below = omega arith }; parent = omega arith }
 
 set-of-requires : tie.Need-set-of-requires Inv-loop μ-loop
 set-of-requires c κs = let m = c .before .before .before .loop .inv .3 .size in let l = c .before .parent-row .ensures .row .below in omega arith

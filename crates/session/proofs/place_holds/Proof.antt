@@ -11,7 +11,7 @@ mul-set-at : tie.Need-mul-set-at
 mul-set-at c = search needs
 
 set-at-requires : tie.Need-set-at-requires
-set-at-requires c κs = omega arith
+set-at-requires c κs = record { inside = omega arith }
 
 is-empty-requires : tie.Need-is-empty-requires
 is-empty-requires c κs = search needs

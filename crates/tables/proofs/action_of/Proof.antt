@@ -30,7 +30,7 @@ action-from-requires : tie.Need-action-from-requires
 action-from-requires c κs = search needs
 
 returns : tie.Need-returns
-returns c = c .action-from .ensures ∙ rw add-zero (actions-at _ _ _ (c .before .before .before .before .pre))
+returns c = c .action-from .ensures ∙ rw add-zero (actions-at _ _ _ (c .before .before .before .before .pre .below))
 
 pub action-of-spec : {M : Type 1} → statement M
 action-of-spec =

@@ -36,7 +36,7 @@ unfolding layout
 part-result-end c = search needs
 
 returns : tie.Need-returns
-returns c = block-listed _ _ _ _ (c .before .before .before .pre .0) (c .before .before .before .pre .1) (c .before .before .before .pre .2) (c .before .action-base .ensures)
+returns c = block-listed _ _ _ _ (c .before .before .before .pre) (c .before .action-base .ensures)
 
 pub actions-part-spec : {M : Type 1} → statement M
 actions-part-spec =

@@ -1,6 +1,6 @@
 use borrow.Author.Needs.{needs}
 use Rattle.definition.specs.Rules.{compiledSize}
-use Rattle.tables.specs.Ranges.{counts-of, layout}
+use Rattle.tables.specs.Ranges.{layout}
 use Rattle.tables.proofs.compiled_size.Statement.{statement}
 use Rattle.tables.proofs.compiled_size.Tie as tie
 
@@ -11,21 +11,21 @@ row-count-requires : tie.Need-row-count-requires
 row-count-requires c κs = search needs
 
 mul-result : tie.Need-mul-result
-mul-result c = let n = counts-of _ (c .before .before .before .pre) in search needs
+mul-result c = search needs
 
 add-result : tie.Need-add-result
 unfolding layout
-add-result c = let n = counts-of _ (c .before .before .before .pre) in search needs
+add-result c = search needs
 
 transition-count-requires : tie.Need-transition-count-requires
 transition-count-requires c κs = search needs
 
 mul-result-2 : tie.Need-mul-result-2
-mul-result-2 c = let n = counts-of _ (c .before .before .before .before .pre) in search needs
+mul-result-2 c = search needs
 
 add-result-2 : tie.Need-add-result-2
 unfolding layout
-add-result-2 c = let n = counts-of _ (c .before .before .before .before .pre) in search needs
+add-result-2 c = search needs
 
 returns : tie.Need-returns
 unfolding compiledSize

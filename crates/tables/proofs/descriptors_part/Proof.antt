@@ -30,7 +30,7 @@ unfolding layout
 part-result-end c = search needs
 
 returns : tie.Need-returns
-returns c = descriptors-listed _ _ _ _ (c .before .before .before .pre .0) (c .before .before .before .pre .1) (c .before .descriptor-base .ensures)
+returns c = descriptors-listed _ _ _ _ (c .before .before .before .pre) (c .before .descriptor-base .ensures)
 
 pub descriptors-part-spec : {M : Type 1} → statement M
 descriptors-part-spec =

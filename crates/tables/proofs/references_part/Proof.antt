@@ -30,7 +30,7 @@ unfolding layout
 part-result-end c = search needs
 
 returns : tie.Need-returns
-returns c = references-listed _ _ _ _ (c .before .before .before .pre .0) (c .before .before .before .pre .1) (c .before .reference-base .ensures)
+returns c = references-listed _ _ _ _ (c .before .before .before .pre) (c .before .reference-base .ensures)
 
 pub references-part-spec : {M : Type 1} → statement M
 references-part-spec =

@@ -9,10 +9,10 @@ shared-slice-read-t6 : tie.Need-shared-slice-read-t6
 shared-slice-read-t6 c = search needs
 
 cast-t7 : tie.Need-cast-t7
-cast-t7 c = let l = c .before .pre .0 .low _ (c .before .pre .1) in search needs
+cast-t7 c = let l = c .before .pre .rows .low _ (c .before .pre .below) in search needs
 
 returns : tie.Need-returns
-returns c = let l = c .before .pre .0 .low _ (c .before .pre .1) in search needs
+returns c = let l = c .before .pre .rows .low _ (c .before .pre .below) in search needs
 
 pub row-at-spec : {M : Type 1} → statement M
 row-at-spec = tie.close (tie.spec mul-t4 shared-slice-read-t6 cast-t7 returns)

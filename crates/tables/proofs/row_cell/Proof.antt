@@ -26,7 +26,7 @@ shared-slice-read-result c = search needs
 
 returns : tie.Need-returns
 unfolding rowCell
-returns c = rw (lt-ltb _ _ (c .before .before .pre .1))
+returns c = rw (lt-ltb _ _ (c .before .before .pre .row))
 
 pub row-cell-spec : {M : Type 1} → statement M
 row-cell-spec =

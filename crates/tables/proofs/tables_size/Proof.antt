@@ -1,21 +1,20 @@
 use borrow.Author.Needs.{needs}
 use Rattle.definition.specs.Tables.{transitionBase, referenceBase, descriptorBase, actionBase, tablesSize}
-use Rattle.tables.specs.Ranges.{counts-of}
 use Rattle.tables.proofs.tables_size.Statement.{statement}
 use Rattle.tables.proofs.tables_size.Tie as tie
 
 action-base-requires : tie.Need-action-base-requires
-action-base-requires c κs = counts-of _ (c .before .pre)
+action-base-requires c κs = search needs
 
 action-count-requires : tie.Need-action-count-requires
 action-count-requires c κs = search needs
 
 mul-result : tie.Need-mul-result
-mul-result c = let n = counts-of _ (c .before .before .before .pre) in search needs
+mul-result c = search needs
 
 add-result : tie.Need-add-result
 unfolding actionBase descriptorBase referenceBase transitionBase
-add-result c = let n = counts-of _ (c .before .before .before .pre) in search needs
+add-result c = search needs
 
 returns : tie.Need-returns
 unfolding tablesSize

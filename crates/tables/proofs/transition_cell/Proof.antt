@@ -32,7 +32,7 @@ shared-slice-read-result c = search needs
 
 returns : tie.Need-returns
 unfolding transitionCell
-returns c = rw (c .before .before .transition-base .ensures, lt-ltb _ _ (c .before .before .before .before .pre .1))
+returns c = rw (c .before .before .transition-base .ensures, lt-ltb _ _ (c .before .before .before .before .pre .transition))
 
 pub transition-cell-spec : {M : Type 1} → statement M
 transition-cell-spec =
