@@ -77,8 +77,8 @@ chosen-low k items n i h l =
     let s = chosen-length k items n h in
     rw (list-at items n i l) (h .inside .at (getD (listOf items n) i 0) (at-mem (listOf items n) i (omega arith)))
 
-pub taken-low : (k : ℕ) (ts : List ℕ) (i : ℕ) → Taken k ts → i < length ts → getD ts i 0 < k
-taken-low k ts i h l = h .inside .at (getD ts i 0) (at-mem ts i l)
+pub within-low : (k : ℕ) (ts : List ℕ) (i : ℕ) → Within k ts → i < length ts → getD ts i 0 < k
+within-low k ts i h l = h .at (getD ts i 0) (at-mem ts i l)
 
 -- ---- "A transition chosen twice counts once, at its first place." (51)
 
