@@ -61,7 +61,7 @@ module _ (c : Chart) (hist : History) where
       rw p (stand-ins-plain (insert x set) xs q)
 
   module _ (t : ℕ) (p : isPlain c t ≡ true) where
-    plain-none : any (isHistoryRow c) ((c .transition) t .targets) ≡ false
+    pub plain-none : any (isHistoryRow c) ((c .transition) t .targets) ≡ false
     unfolding isPlain
     plain-none = not-true _ (and-left (not (any (isHistoryRow c) ((c .transition) t .targets))) _ p)
 
