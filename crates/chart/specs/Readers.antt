@@ -6,15 +6,24 @@ use Prim.Native.Nat.{ℕ, zero, suc, _+_, _-_, _*_, _≤_, _<_}
 use native.Mathlib.Nat.{mul-add, mul-le-mul-left}
 use native.Mathlib.Omega.{arith}
 use lib.ListN.{length}
+use borrow.Author.Tests.{le-leb}
 use Rattle.definition.specs.Rows.{isEmpty}
 use Rattle.definition.specs.Chart.{Chart, kind, isRoot, isState, isFinal}
 use Rattle.definition.specs.Tables.{rowCount, transitionCount, tablesSize, parentAt, chartOf}
 use Rattle.definition.specs.Tree.{children, isCompound, isAtomic, isDomainKind}
-use Rattle.definition.specs.Rules.{compiledSize}
+use Rattle.definition.specs.Rules.{countsFit, compiledSize}
 use Rattle.theory.specs.Tree.{low}
+use Rattle.tables.specs.Ranges.{Counts}
 use Rattle.rowset.specs.declared.RowSet.{RowSet}
 use Rattle.rowset.specs.Member.{rowsOf}
 use Rattle.chart.specs.Ready.{RowReady, BelowRoot, TransitionReady, ParentRow, SetInside}
+
+-- ---- the counts, as the test has them
+
+pub counts-fit : (numbers : List ℕ) → Counts numbers → countsFit numbers ≡ true
+unfolding countsFit
+counts-fit numbers c =
+    rw (le-leb _ _ (c .some), le-leb _ _ (c .rows), le-leb _ _ (c .transitions), le-leb _ _ (c .names), le-leb _ _ (c .references), le-leb _ _ (c .descriptors), le-leb _ _ (c .actions))
 
 -- ---- sets
 
