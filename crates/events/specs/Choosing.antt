@@ -1,31 +1,34 @@
 -- The choice of a round, case by case: what the code finds is what the definition's round goes by.
 use mathlib.Core.Path.{_≡_, refl, sym, ap, subst, _∙_}
-use mathlib.Core.Bool.{true}
+use mathlib.Core.Bool.{Bool, true, not}
 use mathlib.Core.List.{List, [], _∷_}
 use mathlib.Core.Option.{Option, none, some}
 use Prim.Native.Nat.{ℕ, _≤_, _<_}
 use native.Mathlib.Omega.{arith}
 use lib.ListN.{length, getD, drop}
 use Rattle.definition.specs.declared.Mode.the-variants.{Running}
-use Rattle.definition.specs.Rows.{mem, all}
+use borrow.Author.Tests.{not-true}
+use Rattle.definition.specs.Rows.{mem, all, meets}
 use Rattle.definition.specs.Names.{Name, isName}
 use Rattle.definition.specs.Chart.{Chart, Names}
 use Rattle.definition.specs.Tables.{nameAt, chartOf}
-use Rattle.definition.specs.Selection.{selected}
+use Rattle.definition.specs.Selection.{History, selected}
 use Rattle.definition.specs.Microstep.{storedIn}
 use Rattle.definition.specs.Follower.{Follower, taking, selectedBy, byExternal, byInternal, byEventless, roundIn}
 use Rattle.laws.specs.Lists.{set-below}
 use Rattle.laws.specs.Maps.{all-at}
 use Rattle.theory.specs.NameFacts.{name-length}
+use Rattle.theory.specs.Accepted.{Sound}
 use Rattle.theory.specs.Tree.{Tree}
 use Rattle.rowset.specs.Member.{rowsOf}
 use Rattle.chart.specs.Ready.{CompiledWith}
 use Rattle.matching.specs.Events.{eventOf}
-use Rattle.matching.specs.Chosen.{listOf, Within, chosen-length}
+use Rattle.matching.specs.Chosen.{listOf, list-begin, Within, chosen-length}
+use Rattle.matching.specs.Eventless.{eventlessRows, nothing-eventless}
 use Rattle.selection.specs.declared.Selected.{Selected}
 use Rattle.selection.specs.History.{storedAt}
 use Rattle.selection.specs.Ready.{IsSelected, Selects}
-use Rattle.selection.specs.Kept.{selects-of}
+use Rattle.selection.specs.Kept.{selected-as, selects-of, selects-none}
 use Rattle.queue.specs.Queues.{queueBytes, first-name, queue-length}
 use Rattle.state.specs.declared.State.{State}
 use Rattle.state.specs.State.{Holds}
@@ -175,3 +178,16 @@ module _ (chart slots : List ℕ) (g : CompiledWith chart slots) (f : Follower) 
           internal = λ e. absurd (let z : _≡_ {A = ℕ} 0 1 = cc in omega arith);
           external = λ e. absurd (let z : _≡_ {A = ℕ} 0 1 = cc in omega arith);
         }
+
+-- ---- an eventless round where no active row is at or below the source of an eventless transition
+
+pub eventless-none : (c : Chart) → Sound c → (slots : Names) (conf : List ℕ) (hist : History) (items active : List ℕ) (r : Selected) (b : Bool) → Within (c .rows) conf → length items ≡ 256 →
+    active ≡ eventlessRows c → b ≡ meets conf active → not b ≡ true → r .len ≡ 0 → rowsOf (r .exits) ≡ [] → IsSelected c conf hist (selected c slots conf hist none) items r
+eventless-none c g slots conf hist items active r b w s e h n l x =
+    selected-as c conf hist (listOf items (r .len)) (selected c slots conf hist none) items r (selects-none c conf hist items r s l x)
+    (ap (listOf items) l ∙ list-begin items ∙ sym (nothing-eventless c g slots conf w (sym (h ∙ ap (meets conf) e) ∙ not-true b n) hist))
+
+pub eventless-found : (c : Chart) (slots : Names) (conf : List ℕ) (hist : History) (event items : List ℕ) (r : Selected) → event ≡ [] →
+    IsSelected c conf hist (selected c slots conf hist (eventOf event)) items r → IsSelected c conf hist (selected c slots conf hist none) items r
+unfolding eventOf
+eventless-found c slots conf hist event items r e h = selected-as c conf hist _ _ items r h (ap (λ (xs : List ℕ). selected c slots conf hist (eventOf xs)) e)

@@ -21,7 +21,7 @@ use Rattle.matching.specs.Ready.{Prepared}
 use Rattle.selection.specs.Ready.{Selects}
 use Rattle.selection.specs.Routes.{Routed}
 use Rattle.effects.specs.Kinds.{effectOf}
-use Rattle.queue.specs.Queues.{queueBytes}
+use Rattle.queue.specs.Queues.{queueBytes, Waiting}
 use Rattle.events.specs.declared.Source.{Source}
 use Rattle.events.specs.declared.Source.the-variants.{Nothing, Eventless, Internal, External}
 use Rattle.events.specs.declared.Choice.{Choice}
@@ -71,6 +71,11 @@ externalBytes Nothing bytes = bytes
 externalBytes Eventless bytes = bytes
 externalBytes Internal bytes = bytes
 externalBytes External bytes = drop 64 bytes ++ replicate 64 0
+
+-- where the event comes from a queue, names wait in it
+pub record Waits (source : Source) (internal external : List ℕ) (internalCount externalCount : ℕ) : Type 0 where
+  pub inner : source ≡ Internal → Waiting internal internalCount
+  pub outer : source ≡ External → Waiting external externalCount
 
 -- ---- the names that trace entries queue
 

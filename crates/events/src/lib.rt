@@ -15,7 +15,7 @@ ghost use Rattle.definition.specs.Selection.{selected};
 ghost use mathlib.Core.Option.{none};
 ghost use Rattle.queue.specs.Queues.{queueBytes, queueOf};
 ghost use Rattle.state.specs.State.{stateOf, Holds};
-ghost use Rattle.events.specs.Rounds.{Lookup, Chooses, internalBytes, externalBytes, effectAt, queuedNames, isKnown, EntriesIn, Joins};
+ghost use Rattle.events.specs.Rounds.{Lookup, Chooses, internalBytes, externalBytes, Waits, effectAt, queuedNames, isKnown, EntriesIn, Joins};
 use numbers::NameNumber;
 use numbers::Row;
 use rowset::RowSet;
@@ -146,16 +146,22 @@ pub fn choose(
     }
 }
 
-// "A taken event leaves the internal queue before new ones join."
-pub fn take_event(source: Source, internal: &mut [u8], external: &mut [u8])
-    requires { ⌜ (length (now internal) ≡ 2048) × (length (now external) ≡ 2048) ⌝ }
+// "A taken event leaves the internal queue before new ones join." So many names wait in each.
+pub fn take_event(
+    source: Source,
+    internal: &mut [u8],
+    external: &mut [u8],
+    internal_count: u64,
+    external_count: u64,
+)
+    requires { ⌜ Waits source (now internal) (now external) «internal_count» «external_count» ⌝ }
     ensures { λ _. ⌜ (now (internal .exit) ≡ internalBytes source (now (internal .entry))) × (now (external .exit) ≡ externalBytes source (now (external .entry))) ⌝ }
 {
     match source {
         Source::Nothing => (),
         Source::Eventless => (),
-        Source::Internal => queue::take_first(internal),
-        Source::External => queue::take_first(external),
+        Source::Internal => queue::take_oldest(internal, internal_count),
+        Source::External => queue::take_oldest(external, external_count),
     }
 }
 

@@ -29,7 +29,7 @@ fn matches_at(names: &[u8], d: NameNumber, event: &[u8]) -> bool
     ensures { λ b. ⌜ b ≡ matchesAt (nameAt (now (names .entry))) (now (event .entry)) (d .0) ⌝ }
 {
     let slot = tables::slot_of(names, d);
-    names::matches(names::name_of(slot), event)
+    names::slot_matches(slot, event)
 }
 
 // An event of no bytes is none: then a transition without descriptors is wanted.

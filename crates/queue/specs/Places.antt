@@ -75,4 +75,4 @@ oldest-left q part count h e =
     let n : ℕ = length q - count * 64 in
     let swap : 64 + n ≡ n + 64 = omega arith in
     let back : drop 64 q ≡ drop 64 front ++ drop (count * 64) q = ap (drop 64) (sym (take-append-drop (count * 64) q)) ∙ drop-append-le 64 front (drop (count * 64) q) (omega arith) in
-    rw (e, back, h .behind, append-assoc (drop 64 front) (replicate 64 0) (replicate n 0), append-assoc (drop 64 front) (replicate n 0) (replicate 64 0), replicate-append-replicate 64 n 0, replicate-append-replicate n 64 0, swap)
+    rw (e, back, h .behind, append-assoc (drop 64 front) (replicate 64 0) (replicate n 0), append-assoc (drop 64 front) (replicate n 0) (replicate 64 0), replicate-append-replicate {A = ℕ} 64 n 0, replicate-append-replicate {A = ℕ} n 64 0, swap)

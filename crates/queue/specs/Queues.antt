@@ -7,7 +7,7 @@ use native.Mathlib.Nat.{zero-add}
 use native.Mathlib.Omega.{arith}
 use lib.Dec.{eqb, leb, ltb}
 use lib.ListN.{length, getD, take, drop, replicate, length-drop}
-use lib.Seq.{length-take-le}
+use lib.Seq.{drop-at, drop-drop, length-take-le}
 use borrow.Author.Tests.{ltb-true, ltb-false, lt-ltb, le-leb, leb-true, not-true, not-false}
 use Rattle.definition.specs.Rows.{from, all, same, flat}
 use Rattle.definition.specs.Names.{Name, isName, beforeZero, zerosAfter}
@@ -101,9 +101,14 @@ queue-rest bytes name names e h = rw (e, queue-cells (name ∷ names), queue-cel
 
 -- behind the names there are zeros
 cells-behind : (n : ℕ) (names : List Name) → length names ≤ n → drop (length names * 64) (cells slotOf 64 n names) ≡ blank (n * 64 - length names * 64)
-cells-behind n [] l = cells-none slotOf 64 n
+unfolding cells
+cells-behind n [] l = let z : n * 64 - 0 ≡ n * 64 = omega arith in rw z (cells-none slotOf 64 n)
 cells-behind zero (name ∷ names) l = absurd (omega arith)
-cells-behind (suc n) (name ∷ names) l = ?
+cells-behind (suc n) (name ∷ names) l =
+    let m : ℕ = length names in
+    let a : suc m * 64 ≡ 64 + m * 64 = omega arith in
+    let b : suc n * 64 - suc m * 64 ≡ n * 64 - m * 64 = omega arith in
+    rw (b, a, ← drop-drop (m * 64) 64 (slotOf name ++ cells slotOf 64 n names), drop-at (slotOf name) (cells slotOf 64 n names) 64 (slot-length name)) (cells-behind n names (omega arith))
 
 pub queue-waits : (bytes : List ℕ) (names : List Name) (count : ℕ) → bytes ≡ queueBytes names → count ≡ length names → 0 < count → count ≤ 32 → Waiting bytes count
 queue-waits bytes names count e n some few =
@@ -111,7 +116,7 @@ queue-waits bytes names count e n some few =
     record {
       some = omega arith;
       inside = omega arith;
-      behind = rw (e, queue-cells names, n, ← queue-cells names, queue-length names) (?);
+      behind = rw (size, e, n, queue-cells names) (cells-behind 32 names (omega arith));
     }
 
 -- ---- the names of the bytes
