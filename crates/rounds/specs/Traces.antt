@@ -63,6 +63,12 @@ module _ (draft old new : List ℕ) (i : ℕ) (so-far : new ≡ take i draft ++ 
       rw (so-far, drop-cons old i 0 m, set-at (take i draft) (getD old i 0) (drop (suc i) old) (getD draft i 0) i size, add-one i, take-suc draft i 0 l)
       (sym (append-assoc (take i draft) (getD draft i 0 ∷ []) (drop (suc i) old)))
 
+  pub copy-length : i ≤ length draft → i ≤ length old → length new ≡ length old
+  copy-length l m = ap length so-far ∙ omega (arith, length-append (take i draft) (drop i old), length-take-le i draft l, length-drop i old)
+
+  pub copy-done : (n : ℕ) → i ≡ n → new ≡ take n draft ++ drop n old
+  copy-done n e = so-far ∙ ap (λ (k : ℕ). take k draft ++ drop k old) e
+
 pub drafted-counted : (draft : List ℕ) (t : Tally) (es : List Effect) → Drafted draft t es → (t .entries ≡ length es) × (t .names ≡ allQueues es)
 drafted-counted draft t es h = (h .wrote .entries ∙ zero-add (length es), h .wrote .names ∙ zero-add (allQueues es))
 

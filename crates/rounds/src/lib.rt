@@ -177,7 +177,7 @@ fn show_plan(
     ensures { λ t. ⌜ Wrote (now (trace .entry)) (now (trace .exit)) nothing t (planEffects (chartOf (now (chart .entry))) plan (now (chosen .entry))) ⌝ }
 {
     let n = tally.entries;
-    if draft.len() as u64 < n {
+    if (draft.len() as u64) < n {
         return microstep::plan_effects(chart, plan, chosen, trace, NOTHING);
     }
     copy_entries(draft, n as usize, trace);
