@@ -1,14 +1,15 @@
 -- What the readers' contracts rest on: a set lies inside the chart, and the tests of a row follow from its kind and its children.
-use mathlib.Core.Path.{_≡_}
+use mathlib.Core.Path.{_≡_, sym, ap, _∙_}
 use mathlib.Core.Bool.{Bool, true, false, not}
 use mathlib.Core.List.{List, []}
-use Prim.Native.Nat.{ℕ, zero, suc, _+_, _*_, _≤_, _<_}
-use native.Mathlib.Nat.{mul-le-mul-left}
+use Prim.Native.Nat.{ℕ, zero, suc, _+_, _-_, _*_, _≤_, _<_}
+use native.Mathlib.Nat.{mul-add, mul-le-mul-left}
 use native.Mathlib.Omega.{arith}
+use lib.ListN.{length}
 use borrow.Author.Tests.{le-leb}
 use Rattle.definition.specs.Rows.{isEmpty}
 use Rattle.definition.specs.Chart.{Chart, kind, isRoot, isState, isFinal}
-use Rattle.definition.specs.Tables.{rowCount, tablesSize, parentAt, chartOf}
+use Rattle.definition.specs.Tables.{rowCount, transitionCount, tablesSize, parentAt, chartOf}
 use Rattle.definition.specs.Tree.{children, isCompound, isAtomic, isDomainKind}
 use Rattle.definition.specs.Rules.{countsFit, compiledSize}
 use Rattle.theory.specs.Tree.{low}
@@ -32,19 +33,31 @@ row-set chart w i l h =
     let s = h .ready .size in
     let m : rowCount chart * w ≤ rowCount chart * 12 = mul-le-mul-left (rowCount chart) l in
     let k = h .inside in
-    record { counts = h .ready .tables .sized .counts; inside = omega arith }
+    record { size = s; column = omega arith; inside = omega arith }
 
 pub transition-set : (chart : List ℕ) (t : ℕ) → TransitionReady chart t → SetInside chart 16 t
 unfolding compiledSize
 transition-set chart t h =
     let s = h .ready .size in
     let k = h .inside in
-    record { counts = h .ready .tables .sized .counts; inside = omega arith }
+    record { size = s; column = omega arith; inside = omega arith }
 
--- where a set stands, by the numbers that were read
-pub set-place : (chart : List ℕ) (column i rows size : ℕ) → rows ≡ rowCount chart → size ≡ tablesSize chart →
-    size + rows * column + i * 4 ≡ tablesSize chart + rowCount chart * column + i * 4
-set-place chart column i rows size e f = rw (e, f)
+-- what stands from a column on: the sets of the rows in it and in those behind it, and of the transitions
+module _ (chart : List ℕ) (column i rows transitions : ℕ) (h : SetInside chart column i) (e : rows ≡ rowCount chart) (f : transitions ≡ transitionCount chart) where
+  behind : tablesSize chart + rowCount chart * column + (transitions * 4 + rows * (16 - column)) ≡ length chart
+  unfolding compiledSize
+  behind =
+      let s = h .size in
+      let l = h .column in
+      let c : column + (16 - column) ≡ 16 = omega arith in
+      let m : rowCount chart * column + rowCount chart * (16 - column) ≡ rowCount chart * 16 = sym (mul-add (rowCount chart) column (16 - column)) ∙ ap (λ (w : ℕ). rowCount chart * w) c in
+      rw (e, f) (omega arith)
+
+  pub set-place : length chart - (transitions * 4 + rows * (16 - column)) + i * 4 ≡ tablesSize chart + rowCount chart * column + i * 4
+  set-place = let b = behind in omega arith
+
+  pub behind-fits : transitions * 4 + rows * (16 - column) ≤ length chart
+  behind-fits = let b = behind in omega arith
 
 -- the first column stands where the tables end
 pub first-column : (chart : List ℕ) (i : ℕ) → tablesSize chart + rowCount chart * 0 + i * 4 ≡ tablesSize chart + i * 4

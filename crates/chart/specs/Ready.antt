@@ -9,7 +9,7 @@ use Rattle.definition.specs.Tables.{slotSize, rowCount, transitionCount, nameCo
 use Rattle.definition.specs.Tree.{ancestors, descendants, children, defaultTargets, anchors}
 use Rattle.definition.specs.Rules.{compiledSize, rule2}
 use Rattle.definition.specs.Compiled.{ownNumbers}
-use Rattle.tables.specs.Ranges.{Counts, InTables}
+use Rattle.tables.specs.Ranges.{InTables}
 unfoldable pub use Rattle.tables.specs.Parts.{setAt}
 use Rattle.theory.specs.Accepted.{Sound}
 use Rattle.rowset.specs.Member.{rowsOf}
@@ -65,7 +65,8 @@ pub record ParentRow (chart : List ℕ) (i p : ℕ) : Type 0 where
 
 -- a set inside the chart, behind so many words of each row
 pub record SetInside (chart : List ℕ) (words i : ℕ) : Type 0 where
-  pub counts : Counts chart
+  pub size : compiledSize chart ≡ length chart
+  pub column : words ≤ 16
   pub inside : tablesSize chart + rowCount chart * words + i * 4 + 4 ≤ length chart
 
 -- and the names are well formed

@@ -21,16 +21,16 @@ pub use tables::set_at;
 
 // ---- the sets
 
-// The set of row or transition i in a column.
+// The set of row or transition i in a column. The columns end where the chart does, so the size of the tables need not be summed up.
 fn set_in(chart: &[u64], column: usize, i: usize) -> RowSet
     requires { ⌜ SetInside (now chart) column i ⌝ }
     ensures { λ s. ⌜ s ≡ setAt (now (chart .entry)) (tablesSize (now (chart .entry)) + rowCount (now (chart .entry)) * column + i * 4) ⌝ }
 {
-    let rows = tables::row_count(chart) as usize;
-    set_at(
-        chart,
-        tables::tables_size(chart) + rows * column + i * columns::SET_WIDTH,
-    )
+    let rows = chart[columns::ROWS] as usize;
+    let transitions = chart[columns::TRANSITIONS] as usize;
+    let after = transitions * columns::TRANSITION_SET_WORDS
+        + rows * (columns::ROW_SET_WORDS - column);
+    set_at(chart, chart.len() - after + i * columns::SET_WIDTH)
 }
 
 // The proper ancestors of a row.

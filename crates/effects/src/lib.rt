@@ -15,14 +15,13 @@ ghost use Rattle.chart.specs.Ready.{Ready, RowReady};
 ghost use Rattle.effects.specs.Trace.{Wrote, Room};
 ghost use Rattle.effects.specs.Kinds.{effectOf, InEntry, ActionFits};
 ghost use Rattle.effects.specs.Blocks.{ActionsFit};
-ghost use Rattle.matching.specs.Chosen.{Within, ChosenIn, chosenOf};
+ghost use Rattle.matching.specs.Chosen.{Within, Taken};
 ghost use Rattle.effects.specs.Entering.{defaultEffects, activeAt, isFinalRow, finalBelow, entryIs, HistoryRow, HistoryRows};
 use chart::children_of;
 use chart::descendants_of;
 use chart::is_compound;
 use chart::parent_row;
 use definition::Action;
-use matching::Chosen;
 use numbers::Row;
 use numbers::Transition;
 use numbers::same_row;
@@ -154,15 +153,14 @@ fn take_transition(chart: &[u64], t: Transition, trace: &mut [u32], tally: Tally
 }
 
 // In selection order.
-pub fn transition_effects(chart: &[u64], chosen: Chosen, trace: &mut [u32], tally: Tally) -> Tally
-    requires { ⌜ InTables (now chart) × ChosenIn (transitionCount (now chart)) chosen × Room tally (flat (transitionEffects (chartOf (now chart))) (chosenOf chosen)) ⌝ }
-    ensures { λ s. ⌜ Wrote (now (trace .entry)) (now (trace .exit)) tally s (flat (transitionEffects (chartOf (now (chart .entry)))) (chosenOf chosen)) ⌝ }
+pub fn transition_effects(chart: &[u64], chosen: &[u16], trace: &mut [u32], tally: Tally) -> Tally
+    requires { ⌜ InTables (now chart) × Taken (transitionCount (now chart)) (now chosen) × Room tally (flat (transitionEffects (chartOf (now chart))) (now chosen)) ⌝ }
+    ensures { λ s. ⌜ Wrote (now (trace .entry)) (now (trace .exit)) tally s (flat (transitionEffects (chartOf (now (chart .entry)))) (now (chosen .entry))) ⌝ }
 {
-    let n = chosen.len;
     let mut sum = tally;
     let mut i = 0;
-    while i < n {
-        sum = take_transition(chart, Transition(chosen.items[i]), trace, sum);
+    while i < chosen.len() {
+        sum = take_transition(chart, Transition(chosen[i]), trace, sum);
         i += 1;
     }
     sum

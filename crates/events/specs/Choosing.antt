@@ -1,31 +1,34 @@
 -- The choice of a round, case by case: what the code finds is what the definition's round goes by.
 use mathlib.Core.Path.{_≡_, refl, sym, ap, subst, _∙_}
-use mathlib.Core.Bool.{true}
+use mathlib.Core.Bool.{Bool, true, not}
 use mathlib.Core.List.{List, [], _∷_}
 use mathlib.Core.Option.{Option, none, some}
 use Prim.Native.Nat.{ℕ, _≤_, _<_}
 use native.Mathlib.Omega.{arith}
 use lib.ListN.{length, getD, drop}
 use Rattle.definition.specs.declared.Mode.the-variants.{Running}
-use Rattle.definition.specs.Rows.{mem, all}
+use borrow.Author.Tests.{not-true}
+use Rattle.definition.specs.Rows.{mem, all, meets}
 use Rattle.definition.specs.Names.{Name, isName}
 use Rattle.definition.specs.Chart.{Chart, Names}
 use Rattle.definition.specs.Tables.{nameAt, chartOf}
-use Rattle.definition.specs.Selection.{selected}
+use Rattle.definition.specs.Selection.{History, selected}
 use Rattle.definition.specs.Microstep.{storedIn}
 use Rattle.definition.specs.Follower.{Follower, taking, selectedBy, byExternal, byInternal, byEventless, roundIn}
 use Rattle.laws.specs.Lists.{set-below}
 use Rattle.laws.specs.Maps.{all-at}
 use Rattle.theory.specs.NameFacts.{name-length}
+use Rattle.theory.specs.Accepted.{Sound}
 use Rattle.theory.specs.Tree.{Tree}
 use Rattle.rowset.specs.Member.{rowsOf}
 use Rattle.chart.specs.Ready.{CompiledWith}
 use Rattle.matching.specs.Events.{eventOf}
-use Rattle.matching.specs.Chosen.{Within, chosenOf, chosen-length}
+use Rattle.matching.specs.Chosen.{listOf, list-begin, Within, chosen-length}
+use Rattle.matching.specs.Eventless.{eventlessRows, nothing-eventless}
 use Rattle.selection.specs.declared.Selected.{Selected}
 use Rattle.selection.specs.History.{storedAt}
 use Rattle.selection.specs.Ready.{IsSelected, Selects}
-use Rattle.selection.specs.Kept.{selects-of}
+use Rattle.selection.specs.Kept.{selected-as, selects-of, selects-none}
 use Rattle.queue.specs.Queues.{queueBytes, first-name, queue-length}
 use Rattle.state.specs.declared.State.{State}
 use Rattle.state.specs.State.{Holds}
@@ -101,46 +104,46 @@ module _ (chart slots : List ℕ) (g : CompiledWith chart slots) (f : Follower) 
   history-read = ap storedAt (h .spells .historyIs) ∙ history-is c t (let few = g .ready .tables .sized .counts .rows in omega arith) f (h .formed)
 
   -- what was selected for the event
-  abbrev Found : List ℕ → Selected → Type 0
-  Found event r = IsSelected c (rowsOf (s .configuration)) (storedAt history) (selected c names (rowsOf (s .configuration)) (storedAt history) (eventOf event)) r
+  abbrev Found : Option Name → List ℕ → Selected → Type 0
+  Found event items r = IsSelected c (rowsOf (s .configuration)) (storedAt history) (selected c names (rowsOf (s .configuration)) (storedAt history) event) items r
 
-  found-is : (event : List ℕ) (r : Selected) (o : Option Name) → Found event r → eventOf event ≡ o → chosenOf (r .chosen) ≡ selectedBy c names f o
+  found-is : (event : Option Name) (items : List ℕ) (r : Selected) (o : Option Name) → Found event items r → event ≡ o → listOf items (r .len) ≡ selectedBy c names f o
   unfolding selectedBy
-  found-is event r o k e = k .is ∙ rw (h .spells .configuration, history-read, e)
+  found-is event items r o k e = k .is ∙ rw (h .spells .configuration, history-read, e)
 
-  found-selects : (event : List ℕ) (r : Selected) → Found event r → Selects c (f .configuration) (storedAt history) r
-  found-selects event r k = subst (λ (conf : List ℕ). Selects c conf (storedAt history) r) (h .spells .configuration) (selects-of c _ (storedAt history) _ r k)
+  found-selects : (event : Option Name) (items : List ℕ) (r : Selected) → Found event items r → Selects c (f .configuration) (storedAt history) items r
+  found-selects event items r k = subst (λ (conf : List ℕ). Selects c conf (storedAt history) items r) (h .spells .configuration) (selects-of c _ (storedAt history) _ items r k)
 
-  module _ (first : Selected) (k : Found [] first) where
-    eventless-is : chosenOf (first .chosen) ≡ selectedBy c names f none
-    eventless-is = found-is [] first none k (unfold eventOf in refl)
+  module _ (items : List ℕ) (first : Selected) (k : Found none items first) where
+    eventless-is : listOf items (first .len) ≡ selectedBy c names f none
+    eventless-is = found-is none items first none k refl
 
-    first-length : length (chosenOf (first .chosen)) ≡ first .chosen .len
-    first-length = chosen-length (c .transitions) (first .chosen) (k .fits)
+    first-length : length (listOf items (first .len)) ≡ first .len
+    first-length = chosen-length (c .transitions) items (first .len) (k .fits)
 
-    pub choose-eventless : 0 < first .chosen .len → Chooses c names f (storedAt history) (record { source = Eventless; selected = first })
+    pub choose-eventless : 0 < first .len → Chooses c names f (storedAt history) items (record { source = Eventless; selected = first })
     unfolding roundIn
     choose-eventless l = record {
-      is = ap (byEventless c names f) (sym eventless-is) ∙ round-eventless c names f (chosenOf (first .chosen)) (let e = first-length in omega arith);
-      selected = found-selects [] first k;
+      is = ap (byEventless c names f) (sym eventless-is) ∙ round-eventless c names f (listOf items (first .len)) (let e = first-length in omega arith);
+      selected = found-selects none items first k;
       internal = λ e. absurd (let z : _≡_ {A = ℕ} 0 1 = cc in omega arith);
       external = λ e. absurd (let z : _≡_ {A = ℕ} 0 1 = cc in omega arith);
     }
 
-    module _ (idle : first .chosen .len ≤ 0) where
+    module _ (idle : first .len ≤ 0) where
       not-eventless : roundIn Running c names f ≡ byInternal c names f (f .internal)
       unfolding roundIn byEventless
-      not-eventless = ap (byEventless c names f) (sym eventless-is ∙ no-names (chosenOf (first .chosen)) (let e = first-length in omega arith))
+      not-eventless = ap (byEventless c names f) (sym eventless-is ∙ no-names (listOf items (first .len)) (let e = first-length in omega arith))
 
-      pub choose-internal : 0 < s .internal → (event : List ℕ) (r : Selected) → event ≡ nameAt internal 0 → Found event r → Chooses c names f (storedAt history) (record { source = Internal; selected = r })
+      pub choose-internal : 0 < s .internal → (event more : List ℕ) (r : Selected) → event ≡ nameAt internal 0 → Found (eventOf event) more r → Chooses c names f (storedAt history) more (record { source = Internal; selected = r })
       unfolding roundBy internalAfter externalAfter
-      choose-internal l event r q m =
+      choose-internal l event more r q m =
           let n = h .spells .internalCount in
           let some-name : 0 < length (f .internal) = omega arith in
           let e = oldest-event (f .internal) internal event (h .spells .internalIs) some-name (h .formed .internalNames) q in
           record {
-            is = not-eventless ∙ round-internal c names f (f .internal) some-name ∙ ap (taking c names f (drop 1 (f .internal)) (f .external)) (sym (found-is event r _ m e));
-            selected = found-selects event r m;
+            is = not-eventless ∙ round-internal c names f (f .internal) some-name ∙ ap (taking c names f (drop 1 (f .internal)) (f .external)) (sym (found-is (eventOf event) more r _ m e));
+            selected = found-selects (eventOf event) more r m;
             internal = λ z y. let w = ap {B = ℕ} length y in absurd (omega arith);
             external = λ z. absurd (let w : _≡_ {A = ℕ} 0 1 = cc in omega arith);
           }
@@ -153,25 +156,38 @@ module _ (chart slots : List ℕ) (g : CompiledWith chart slots) (f : Follower) 
         unfolding byInternal
         not-internal = not-eventless ∙ ap (byInternal c names f) internal-none
 
-        pub choose-external : 0 < s .external → (event : List ℕ) (r : Selected) → event ≡ nameAt external 0 → Found event r → Chooses c names f (storedAt history) (record { source = External; selected = r })
+        pub choose-external : 0 < s .external → (event more : List ℕ) (r : Selected) → event ≡ nameAt external 0 → Found (eventOf event) more r → Chooses c names f (storedAt history) more (record { source = External; selected = r })
         unfolding roundBy internalAfter externalAfter
-        choose-external l event r q m =
+        choose-external l event more r q m =
             let n = h .spells .externalCount in
             let some-name : 0 < length (f .external) = omega arith in
             let e = oldest-event (f .external) external event (h .spells .externalIs) some-name (h .formed .externalNames) q in
             record {
-              is = not-internal ∙ round-external c names f (f .external) some-name ∙ ap (taking c names f [] (drop 1 (f .external))) (sym (found-is event r _ m e)) ∙
-                  ap (λ (queue : List Name). taking c names f queue (drop 1 (f .external)) (chosenOf (r .chosen))) (sym internal-none);
-              selected = found-selects event r m;
+              is = not-internal ∙ round-external c names f (f .external) some-name ∙ ap (taking c names f [] (drop 1 (f .external))) (sym (found-is (eventOf event) more r _ m e)) ∙
+                  ap (λ (queue : List Name). taking c names f queue (drop 1 (f .external)) (listOf more (r .len))) (sym internal-none);
+              selected = found-selects (eventOf event) more r m;
               internal = λ z. absurd (let w : _≡_ {A = ℕ} 0 1 = cc in omega arith);
               external = λ z y. let w = ap {B = ℕ} length y in absurd (omega arith);
             }
 
-        pub choose-nothing : s .external ≤ 0 → Chooses c names f (storedAt history) (record { source = Nothing; selected = first })
+        pub choose-nothing : s .external ≤ 0 → Chooses c names f (storedAt history) items (record { source = Nothing; selected = first })
         unfolding roundBy byExternal
         choose-nothing l = record {
           is = not-internal ∙ ap (byExternal c names f) (let n = h .spells .externalCount in no-names (f .external) (omega arith));
-          selected = found-selects [] first k;
+          selected = found-selects none items first k;
           internal = λ e. absurd (let z : _≡_ {A = ℕ} 0 1 = cc in omega arith);
           external = λ e. absurd (let z : _≡_ {A = ℕ} 0 1 = cc in omega arith);
         }
+
+-- ---- an eventless round where no active row is at or below the source of an eventless transition
+
+pub eventless-none : (c : Chart) → Sound c → (slots : Names) (conf : List ℕ) (hist : History) (items active : List ℕ) (r : Selected) (b : Bool) → Within (c .rows) conf → length items ≡ 256 →
+    active ≡ eventlessRows c → b ≡ meets conf active → not b ≡ true → r .len ≡ 0 → rowsOf (r .exits) ≡ [] → IsSelected c conf hist (selected c slots conf hist none) items r
+eventless-none c g slots conf hist items active r b w s e h n l x =
+    selected-as c conf hist (listOf items (r .len)) (selected c slots conf hist none) items r (selects-none c conf hist items r s l x)
+    (ap (listOf items) l ∙ list-begin items ∙ sym (nothing-eventless c g slots conf w (sym (h ∙ ap (meets conf) e) ∙ not-true b n) hist))
+
+pub eventless-found : (c : Chart) (slots : Names) (conf : List ℕ) (hist : History) (event items : List ℕ) (r : Selected) → event ≡ [] →
+    IsSelected c conf hist (selected c slots conf hist (eventOf event)) items r → IsSelected c conf hist (selected c slots conf hist none) items r
+unfolding eventOf
+eventless-found c slots conf hist event items r e h = selected-as c conf hist _ _ items r h (ap (λ (xs : List ℕ). selected c slots conf hist (eventOf xs)) e)

@@ -9,14 +9,19 @@ use Rattle.definition.specs.declared.Mode.the-variants.{Running}
 use Rattle.definition.specs.Rows.{all, flat}
 use Rattle.definition.specs.Names.{Name}
 use Rattle.definition.specs.Chart.{Chart, Names}
-use Rattle.definition.specs.Tables.{rowCount, nameCount, idAt}
+use Rattle.definition.specs.Tables.{rowCount, nameCount, idAt, chartOf}
 use Rattle.definition.specs.Selection.{History}
 use Rattle.definition.specs.Microstep.{Effect, exited, taken, entered, acted, raised, done, queued}
 use Rattle.definition.specs.Follower.{Follower, Round, idle, taking, roundIn}
-use Rattle.matching.specs.Chosen.{chosenOf}
+use Rattle.rowset.specs.declared.RowSet.{RowSet}
+use Rattle.rowset.specs.Member.{rowsOf}
+use Rattle.matching.specs.Chosen.{listOf}
+use Rattle.matching.specs.Eventless.{eventlessRows}
+use Rattle.matching.specs.Ready.{Prepared}
 use Rattle.selection.specs.Ready.{Selects}
+use Rattle.selection.specs.Routes.{Routed}
 use Rattle.effects.specs.Kinds.{effectOf}
-use Rattle.queue.specs.Queues.{queueBytes}
+use Rattle.queue.specs.Queues.{queueBytes, Waiting}
 use Rattle.events.specs.declared.Source.{Source}
 use Rattle.events.specs.declared.Source.the-variants.{Nothing, Eventless, Internal, External}
 use Rattle.events.specs.declared.Choice.{Choice}
@@ -40,10 +45,16 @@ roundBy Eventless c names f ts = taking c names f (internalAfter Eventless f) (e
 roundBy Internal c names f ts = taking c names f (internalAfter Internal f) (externalAfter Internal f) ts
 roundBy External c names f ts = taking c names f (internalAfter External f) (externalAfter External f) ts
 
+-- what is worked out of a chart once, for all rounds of a call
+pub record Lookup (chart names starts domains : List ℕ) (atoms eventless : RowSet) : Type 0 where
+  pub prepared : Prepared chart names starts atoms
+  pub routed : Routed (chartOf chart) domains
+  pub sources : rowsOf eventless ≡ eventlessRows (chartOf chart)
+
 -- the choice of a running session's next round: hist reads the stored history of f
-pub record Chooses (c : Chart) (names : Names) (f : Follower) (hist : History) (r : Choice) : Type 0 where
-  pub is : roundIn Running c names f ≡ roundBy (r .source) c names f (chosenOf (r .selected .chosen))
-  pub selected : Selects c (f .configuration) hist (r .selected)
+pub record Chooses (c : Chart) (names : Names) (f : Follower) (hist : History) (items : List ℕ) (r : Choice) : Type 0 where
+  pub is : roundIn Running c names f ≡ roundBy (r .source) c names f (listOf items (r .selected .len))
+  pub selected : Selects c (f .configuration) hist items (r .selected)
   pub internal : r .source ≡ Internal → f .internal ≡ [] → ⊥
   pub external : r .source ≡ External → f .external ≡ [] → ⊥
 
@@ -60,6 +71,11 @@ externalBytes Nothing bytes = bytes
 externalBytes Eventless bytes = bytes
 externalBytes Internal bytes = bytes
 externalBytes External bytes = drop 64 bytes ++ replicate 64 0
+
+-- where the event comes from a queue, names wait in it
+pub record Waits (source : Source) (internal external : List ℕ) (internalCount externalCount : ℕ) : Type 0 where
+  pub inner : source ≡ Internal → Waiting internal internalCount
+  pub outer : source ≡ External → Waiting external externalCount
 
 -- ---- the names that trace entries queue
 

@@ -7,11 +7,15 @@ ghost use lib.ListN.{length};
 ghost use Rattle.definition.specs.Tables.{rowCount, nameAt, chartOf};
 ghost use Rattle.definition.specs.Microstep.{queued};
 ghost use Rattle.chart.specs.Ready.{CompiledWith};
-ghost use Rattle.matching.specs.Ready.{Prepared};
+ghost use Rattle.matching.specs.Eventless.{eventlessRows};
+ghost use Rattle.rowset.specs.Member.{rowsOf};
 ghost use Rattle.selection.specs.History.{storedAt};
+ghost use Rattle.selection.specs.Ready.{SelectReady, IsSelected};
+ghost use Rattle.definition.specs.Selection.{selected};
+ghost use mathlib.Core.Option.{none};
 ghost use Rattle.queue.specs.Queues.{queueBytes, queueOf};
 ghost use Rattle.state.specs.State.{stateOf, Holds};
-ghost use Rattle.events.specs.Rounds.{Chooses, internalBytes, externalBytes, effectAt, queuedNames, isKnown, EntriesIn, Joins};
+ghost use Rattle.events.specs.Rounds.{Lookup, Chooses, internalBytes, externalBytes, Waits, effectAt, queuedNames, isKnown, EntriesIn, Joins};
 use numbers::NameNumber;
 use numbers::Row;
 use rowset::RowSet;
@@ -32,60 +36,132 @@ pub struct Choice {
     pub selected: Selected,
 }
 
+// What an eventless round selects: nothing, where no active row is at or below the source of an eventless transition.
+fn select_eventless(
+    chart: &[u64],
+    names: &[u8],
+    starts: &[u16],
+    domains: &[u16],
+    atoms: RowSet,
+    eventless: RowSet,
+    conf: RowSet,
+    history: &[u64],
+    items: &mut [u16],
+) -> Selected
+    requires { ⌜ SelectReady (now chart) (now names) (now starts) (now domains) atoms conf (now history) (now items) × (rowsOf eventless ≡ eventlessRows (chartOf (now chart))) ⌝ }
+    ensures { λ r. ⌜ IsSelected (chartOf (now (chart .entry))) (rowsOf conf) (storedAt (now (history .entry))) (selected (chartOf (now (chart .entry))) (nameAt (now (names .entry))) (rowsOf conf) (storedAt (now (history .entry))) none) (now (items .exit)) r ⌝ }
+{
+    if !conf.meets(eventless) {
+        return Selected {
+            len: 0,
+            exits: RowSet::empty(),
+        };
+    }
+    selection::select(
+        chart,
+        names,
+        starts,
+        domains,
+        atoms,
+        conf,
+        history,
+        b"",
+        items,
+    )
+}
+
 // "eventless transitions first. If none is selected, the oldest internal event; if there is none, the oldest external event; if there
 // is none, the session is idle."
 pub fn choose(
     chart: &[u64],
     names: &[u8],
     starts: &[u16],
+    domains: &[u16],
     atoms: RowSet,
+    eventless: RowSet,
     state: State,
     history: &[u64],
     internal: &[u8],
     external: &[u8],
+    items: &mut [u16],
 ) -> Choice
-    requires { ⌜ Prepared (now chart) (now names) (now starts) atoms × Holds (chartOf (now chart)) (stateOf (rowCount (now chart)) state (now history) (now internal) (now external)) state (now history) (now internal) (now external) ⌝ }
-    ensures { λ r. ⌜ Chooses (chartOf (now (chart .entry))) (nameAt (now (names .entry))) (stateOf (rowCount (now (chart .entry))) state (now (history .entry)) (now (internal .entry)) (now (external .entry))) (storedAt (now (history .entry))) r ⌝ }
+    requires { ⌜ Lookup (now chart) (now names) (now starts) (now domains) atoms eventless × Holds (chartOf (now chart)) (stateOf (rowCount (now chart)) state (now history) (now internal) (now external)) state (now history) (now internal) (now external) × (length (now items) ≡ 256) ⌝ }
+    ensures { λ r. ⌜ Chooses (chartOf (now (chart .entry))) (nameAt (now (names .entry))) (stateOf (rowCount (now (chart .entry))) state (now (history .entry)) (now (internal .entry)) (now (external .entry))) (storedAt (now (history .entry))) (now (items .exit)) r ⌝ }
 {
     let conf = state.configuration;
-    let eventless = selection::select(chart, names, starts, atoms, conf, history, b"");
-    let chosen = eventless.chosen;
-    if 0 < chosen.len {
+    let first = select_eventless(
+        chart,
+        names,
+        starts,
+        domains,
+        atoms,
+        eventless,
+        conf,
+        history,
+        items,
+    );
+    if 0 < first.len {
         return Choice {
             source: Source::Eventless,
-            selected: eventless,
+            selected: first,
         };
     }
     if 0 < state.internal {
         let event = queue::first_name(internal);
         return Choice {
             source: Source::Internal,
-            selected: selection::select(chart, names, starts, atoms, conf, history, event),
+            selected: selection::select(
+                chart,
+                names,
+                starts,
+                domains,
+                atoms,
+                conf,
+                history,
+                event,
+                items,
+            ),
         };
     }
     if 0 < state.external {
         let event = queue::first_name(external);
         return Choice {
             source: Source::External,
-            selected: selection::select(chart, names, starts, atoms, conf, history, event),
+            selected: selection::select(
+                chart,
+                names,
+                starts,
+                domains,
+                atoms,
+                conf,
+                history,
+                event,
+                items,
+            ),
         };
     }
     Choice {
         source: Source::Nothing,
-        selected: eventless,
+        selected: first,
     }
 }
 
-// "A taken event leaves the internal queue before new ones join."
-pub fn take_event(source: Source, internal: &mut [u8], external: &mut [u8])
-    requires { ⌜ (length (now internal) ≡ 2048) × (length (now external) ≡ 2048) ⌝ }
+// "A taken event leaves the internal queue before new ones join." So many names wait in each.
+pub fn take_event(
+    source: Source,
+    internal: &mut [u8],
+    external: &mut [u8],
+    internal_count: u64,
+    external_count: u64,
+)
+    requires { ⌜ Waits source (now internal) (now external) «internal_count» «external_count» ⌝ }
     ensures { λ _. ⌜ (now (internal .exit) ≡ internalBytes source (now (internal .entry))) × (now (external .exit) ≡ externalBytes source (now (external .entry))) ⌝ }
 {
     match source {
         Source::Nothing => (),
         Source::Eventless => (),
-        Source::Internal => queue::take_first(internal),
-        Source::External => queue::take_first(external),
+        Source::Internal => queue::take_oldest(internal, internal_count),
+        Source::External => queue::take_oldest(external, external_count),
     }
 }
 

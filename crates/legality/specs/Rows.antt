@@ -8,16 +8,16 @@ use lib.Dec.{leb}
 use borrow.Author.Tests.{not-true, not-false, ltb-true}
 use Rattle.definition.specs.declared.Kind.{Kind}
 use Rattle.definition.specs.declared.Kind.the-variants.{Root, State, Parallel, Final, Shallow, Deep}
-use Rattle.definition.specs.Rows.{from, mem, all, isSet, isSingle, intersection, subset}
+use Rattle.definition.specs.Rows.{from, mem, any, all, isSet, isSingle, intersection, subset}
 use Rattle.definition.specs.Chart.{Chart, kind, parent, isRoot, isParallel, isFinal, isHistory}
 use Rattle.definition.specs.Tables.{rowCount, kindAt, chartOf}
 use Rattle.definition.specs.Tree.{children, isDomainKind}
 use Rattle.definition.specs.Follower.{isFinalUnderRoot}
 use Rattle.definition.specs.Legal.{childrenFit, rowFits, isLegal}
-use Rattle.laws.specs.Bools.{no, both-ways, clash, and-right}
-use Rattle.laws.specs.Sets.{Ascends, mem-below, mem-from}
-use Rattle.laws.specs.Lists.{subset-mem, mem-subset, ascends-set, set-below}
-use Rattle.theory.specs.Tree.{root-kind}
+use Rattle.laws.specs.Bools.{no, both-ways, clash, and-true, and-left, and-right}
+use Rattle.laws.specs.Sets.{Ascends, mem-below, mem-from, mem-intersection}
+use Rattle.laws.specs.Lists.{any-true, any-mem, subset-mem, mem-subset, ascends-set, set-below}
+use Rattle.theory.specs.Tree.{Tree, root-kind, root-zero, child-of, children-mem}
 use Rattle.chart.specs.Ready.{Ready, RowReady}
 use Rattle.rowset.specs.declared.RowSet.{RowSet}
 use Rattle.rowset.specs.Member.{rowsOf}
@@ -94,13 +94,13 @@ pub not-first : (chart : List ℕ) (i : ℕ) → Ready chart → isRoot (kind (c
 not-first chart zero h n = absurd (clash _ (root-kind (chartOf chart) (h .sound .tree)) n)
 not-first chart (suc i) h n = omega arith
 
-final-no-root : (k : Kind) → isFinal k ≡ true → isRoot k ≡ false
-final-no-root Root h = absurd (no h)
-final-no-root State h = refl
-final-no-root Parallel h = refl
-final-no-root Final h = refl
-final-no-root Shallow h = refl
-final-no-root Deep h = refl
+final-kind : (k : Kind) → isFinal k ≡ true → k ≡ Final
+final-kind Root h = absurd (no h)
+final-kind State h = absurd (no h)
+final-kind Parallel h = absurd (no h)
+final-kind Final h = refl
+final-kind Shallow h = absurd (no h)
+final-kind Deep h = absurd (no h)
 
 history-no-root : (k : Kind) → isHistory k ≡ true → isRoot k ≡ false
 history-no-root Root h = absurd (no h)
@@ -111,12 +111,41 @@ history-no-root Shallow h = refl
 history-no-root Deep h = refl
 
 pub final-after : (chart : List ℕ) (i : ℕ) → Ready chart → isFinal (kind (chartOf chart) i) ≡ true → 0 < i
-final-after chart i h f = not-first chart i h (final-no-root (kind (chartOf chart) i) f)
+final-after chart i h f = not-first chart i h (ap isRoot (final-kind (kind (chartOf chart) i) f))
 
 pub history-after : (chart : List ℕ) (i : ℕ) → Ready chart → isHistory (kind (chartOf chart) i) ≡ true → 0 < i
 history-after chart i h f = not-first chart i h (history-no-root (kind (chartOf chart) i) f)
 
 -- ---- a set of rows
+
+-- a test that passes only in ys may be tried on what xs has of them
+any-within : (p : ℕ → Bool) (xs ys : List ℕ) → ((x : ℕ) → mem x xs ≡ true → p x ≡ true → mem x ys ≡ true) → any p (intersection xs ys) ≡ any p xs
+any-within p xs ys f =
+    both-ways (any p (intersection xs ys)) (any p xs)
+    (λ h. let r = any-true p (intersection xs ys) h in any-mem p xs (r .0) (and-left _ (mem (r .0) ys) (sym (mem-intersection (r .0) xs ys) ∙ r .1)) (r .2))
+    (λ h. let r = any-true p xs h in any-mem p (intersection xs ys) (r .0) (mem-intersection (r .0) xs ys ∙ and-true _ _ (r .1) (f (r .0) (r .1) (r .2))) (r .2))
+
+-- a final under the root is a child of row 0
+final-child : (c : Chart) (t : Tree c) (i : ℕ) → i < c .rows → isFinalUnderRoot c i ≡ true → mem i (children c 0) ≡ true
+unfolding isFinalUnderRoot
+final-child c t zero l h = absurd (clash _ (root-kind c t) (ap isRoot (final-kind (kind c 0) (and-left _ _ h))))
+final-child c t (suc i) l h =
+    let f = final-kind (kind c (suc i)) (and-left _ _ h) in
+    let e : parent c (suc i) ≡ 0 = root-zero c t (parent c (suc i)) (and-right (isFinal (kind c (suc i))) _ h) in
+    children-mem c t 0 (suc i) l (rw e at (child-of c t i (ap isHistory f)))
+
+pub final-children : (chart conf kids top : List ℕ) (b : Bool) → RowsReady chart conf → kids ≡ children (chartOf chart) 0 → top ≡ intersection conf kids →
+    b ≡ any (isFinalUnderRoot (chartOf chart)) top → b ≡ any (isFinalUnderRoot (chartOf chart)) conf
+final-children chart conf kids top b h k t e =
+    e ∙ ap (any (isFinalUnderRoot (chartOf chart))) (t ∙ ap (intersection conf) k) ∙
+    any-within (isFinalUnderRoot (chartOf chart)) conf (children (chartOf chart) 0) (λ i m f. final-child (chartOf chart) (h .ready .sound .tree) i (h .inside i m) f)
+
+-- a part of a set of the chart's rows is one
+pub part-ready : (chart conf kids top : List ℕ) → RowsReady chart conf → top ≡ intersection conf kids → RowsReady chart top
+part-ready chart conf kids top h t = record {
+  ready = h .ready;
+  inside = λ i m. h .inside i (and-left (mem i conf) (mem i kids) (sym (mem-intersection i conf kids) ∙ ap (mem i) (sym t) ∙ m));
+}
 
 -- the rows below n are a set of them
 below-set : (n : ℕ) (xs : List ℕ) → Ascends 0 xs → subset xs (from n 0) ≡ isSet n xs

@@ -99,9 +99,10 @@ pub fn has_final(chart: &[u64], conf: RowSet) -> bool
     requires { ⌜ RowsReady (now chart) (rowsOf conf) ⌝ }
     ensures { λ b. ⌜ b ≡ any (isFinalUnderRoot (chartOf (now (chart .entry)))) (rowsOf conf) ⌝ }
 {
+    let top = conf.intersection(chart::children_of(chart, Row(0)));
     let mut k = 0;
     loop {
-        let Found::At(r) = conf.next_from(k) else {
+        let Found::At(r) = top.next_from(k) else {
             return false;
         };
         if is_final_under_root(chart, r) {

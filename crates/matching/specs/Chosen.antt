@@ -20,29 +20,30 @@ use Rattle.laws.specs.Sets.{mem-those, mem-head, mem-one, mem-intersection}
 use Rattle.laws.specs.Lists.{keep-cong, mem-app, mem-cases, mem-tail}
 use Rattle.theory.specs.Accepted.{Sound}
 use Rattle.theory.specs.Disjoint.{candidate-of}
-use Rattle.matching.specs.declared.Chosen.{Chosen}
 
 -- the first n items
 unfoldable pub listOf : List ℕ → ℕ → List ℕ
 listOf items n = take n items
-
-unfoldable pub chosenOf : Chosen → List ℕ
-chosenOf r = listOf (r .items) (r .len)
 
 -- every number of the list is below n
 pub record Within (n : ℕ) (xs : List ℕ) : Type 0 where
   pub at : (i : ℕ) → mem i xs ≡ true → i < n
 
 -- at most 256, each the number of one of so many transitions
-pub record ChosenIn (transitions : ℕ) (r : Chosen) : Type 0 where
-  pub room : length (r .items) ≡ 256
-  pub most : r .len ≤ 256
-  pub inside : Within transitions (chosenOf r)
+pub record Taken (transitions : ℕ) (ts : List ℕ) : Type 0 where
+  pub most : length ts ≤ 256
+  pub inside : Within transitions ts
 
--- these transitions
-pub record IsChosen (transitions : ℕ) (ts : List ℕ) (r : Chosen) : Type 0 where
-  pub is : chosenOf r ≡ ts
-  pub fits : ChosenIn transitions r
+-- the first n of 256 items are such
+pub record ChosenIn (transitions : ℕ) (items : List ℕ) (n : ℕ) : Type 0 where
+  pub room : length items ≡ 256
+  pub most : n ≤ 256
+  pub inside : Within transitions (listOf items n)
+
+-- and are these
+pub record AreChosen (transitions : ℕ) (ts : List ℕ) (items : List ℕ) (n : ℕ) : Type 0 where
+  pub is : listOf items n ≡ ts
+  pub fits : ChosenIn transitions items n
 
 -- ---- items of the array
 
@@ -68,18 +69,16 @@ at-mem [] i l = absurd (omega arith)
 at-mem (x ∷ xs) zero l = mem-head x xs
 at-mem (x ∷ xs) (suc i) l = mem-tail x (getD xs i 0) xs (at-mem xs i (omega arith))
 
-pub chosen-length : (n : ℕ) (r : Chosen) → ChosenIn n r → length (chosenOf r) ≡ r .len
-unfolding chosenOf
-chosen-length n r h = let s = h .room in let m = h .most in list-length (r .items) (r .len) (omega arith)
+pub chosen-length : (k : ℕ) (items : List ℕ) (n : ℕ) → ChosenIn k items n → length (listOf items n) ≡ n
+chosen-length k items n h = let s = h .room in let m = h .most in list-length items n (omega arith)
 
-pub chosen-at : (r : Chosen) (i : ℕ) → i < r .len → getD (r .items) i 0 ≡ getD (chosenOf r) i 0
-unfolding chosenOf
-chosen-at r i l = list-at (r .items) (r .len) i l
+pub chosen-low : (k : ℕ) (items : List ℕ) (n i : ℕ) → ChosenIn k items n → i < n → getD items i 0 < k
+chosen-low k items n i h l =
+    let s = chosen-length k items n h in
+    rw (list-at items n i l) (h .inside .at (getD (listOf items n) i 0) (at-mem (listOf items n) i (omega arith)))
 
-pub chosen-low : (n : ℕ) (r : Chosen) (i : ℕ) → ChosenIn n r → i < r .len → getD (r .items) i 0 < n
-chosen-low n r i h l =
-    let s = chosen-length n r h in
-    rw (chosen-at r i l) (h .inside .at (getD (chosenOf r) i 0) (at-mem (chosenOf r) i (omega arith)))
+pub within-low : (k : ℕ) (ts : List ℕ) (i : ℕ) → Within k ts → i < length ts → getD ts i 0 < k
+within-low k ts i h l = h .at (getD ts i 0) (at-mem ts i l)
 
 -- ---- "A transition chosen twice counts once, at its first place." (51)
 
@@ -122,15 +121,15 @@ candidates-inside : (c : Chart) → Sound c → (names : Names) (conf : List ℕ
 candidates-inside c g names conf event t m = candidate-of c names conf event (g .tree) t m .0
 
 -- what the pass over the active atomic states made
-pub candidates-done : (c : Chart) → Sound c → (names : Names) (conf : List ℕ) (event : Option Name) (atoms active : List ℕ) (r : Chosen) → Within (c .rows) conf →
-    atoms ≡ atomicRows c → active ≡ intersection conf atoms → chosenOf r ≡ fold (choose c names conf event) [] active → length (r .items) ≡ 256 → r .len ≤ 256 →
-    IsChosen (c .transitions) (candidates c names conf event) r
-candidates-done c g names conf event atoms active r w e f h l m = record {
+pub candidates-done : (c : Chart) → Sound c → (names : Names) (conf : List ℕ) (event : Option Name) (atoms active items : List ℕ) (n : ℕ) → Within (c .rows) conf →
+    atoms ≡ atomicRows c → active ≡ intersection conf atoms → listOf items n ≡ fold (choose c names conf event) [] active → length items ≡ 256 → n ≤ 256 →
+    AreChosen (c .transitions) (candidates c names conf event) items n
+candidates-done c g names conf event atoms active items n w e f h l m = record {
   is = is;
   fits = record { room = l; most = m; inside = record { at = λ t k. candidates-inside c g names conf event t (sym (ap (mem t) is) ∙ k) } };
 }
   where
-    is : chosenOf r ≡ candidates c names conf event
+    is : listOf items n ≡ candidates c names conf event
     is =
         unfold candidates in
         h ∙ ap (fold (choose c names conf event) []) (f ∙ ap (intersection conf) e ∙ atomic-states c conf w)

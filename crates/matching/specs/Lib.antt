@@ -2,4 +2,5 @@ pub mod Events
 pub mod Sources
 pub mod Climb
 pub mod Chosen
+pub mod Eventless
 pub mod Ready

@@ -11,7 +11,8 @@ ghost use Rattle.chart.specs.Ready.{Ready, TransitionReady};
 ghost use Rattle.matching.specs.Events.{eventOf};
 ghost use Rattle.matching.specs.Sources.{startsBefore, Indexed};
 ghost use Rattle.matching.specs.Climb.{choiceOf};
-ghost use Rattle.matching.specs.Chosen.{Within, IsChosen, atomicRows};
+ghost use Rattle.matching.specs.Chosen.{Within, AreChosen, atomicRows};
+ghost use Rattle.matching.specs.Eventless.{addEventless, eventlessRows};
 ghost use Rattle.matching.specs.Ready.{TransitionWith, ClimbReady, Prepared, AddedOnce};
 use numbers::NameNumber;
 use numbers::Row;
@@ -28,7 +29,7 @@ fn matches_at(names: &[u8], d: NameNumber, event: &[u8]) -> bool
     ensures { λ b. ⌜ b ≡ matchesAt (nameAt (now (names .entry))) (now (event .entry)) (d .0) ⌝ }
 {
     let slot = tables::slot_of(names, d);
-    names::matches(names::name_of(slot), event)
+    names::slot_matches(slot, event)
 }
 
 // An event of no bytes is none: then a transition without descriptors is wanted.
@@ -168,12 +169,6 @@ pub fn atomic_rows(chart: &[u64]) -> RowSet
     set
 }
 
-// Transitions in selection order: the first len of the items.
-pub struct Chosen {
-    pub items: [u16; 256],
-    pub len: usize,
-}
-
 // The first len items with the choice, unless it is there: how many they are then.
 fn add_once(items: &mut [u16], len: usize, choice: Choice) -> usize
     requires { ⌜ len < length (now items) ⌝ }
@@ -193,7 +188,7 @@ fn add_once(items: &mut [u16], len: usize, choice: Choice) -> usize
     len + 1
 }
 
-// What each active atomic state chooses, in document order, each transition once.
+// What each active atomic state chooses, in document order, each transition once, into the first of the lent items: how many they are.
 pub fn candidates(
     chart: &[u64],
     names: &[u8],
@@ -201,23 +196,49 @@ pub fn candidates(
     atoms: RowSet,
     conf: RowSet,
     event: &[u8],
-) -> Chosen
-    requires { ⌜ Prepared (now chart) (now names) (now starts) atoms × Within (rowCount (now chart)) (rowsOf conf) ⌝ }
-    ensures { λ r. ⌜ IsChosen (transitionCount (now (chart .entry))) (candidates (chartOf (now (chart .entry))) (nameAt (now (names .entry))) (rowsOf conf) (eventOf (now (event .entry)))) r ⌝ }
+    items: &mut [u16],
+) -> usize
+    requires { ⌜ Prepared (now chart) (now names) (now starts) atoms × Within (rowCount (now chart)) (rowsOf conf) × (length (now items) ≡ 256) ⌝ }
+    ensures { λ n. ⌜ AreChosen (transitionCount (now (chart .entry))) (candidates (chartOf (now (chart .entry))) (nameAt (now (names .entry))) (rowsOf conf) (eventOf (now (event .entry)))) (now (items .exit)) n ⌝ }
 {
     let active = conf.intersection(atoms);
-    let mut items = [0u16; 256];
     let mut len: usize = 0;
     let mut k: u16 = 0;
     loop {
         let Found::At(i) = active.next_from(k) else {
-            return Chosen {
-                items: items,
-                len: len,
-            };
+            return len;
         };
         let choice = choice_of(chart, names, starts, conf, event, i);
-        len = add_once(&mut items, len, choice);
+        len = add_once(items, len, choice);
         k = i.0 as u16 + 1;
     }
+}
+
+// ---- where an eventless transition can be chosen
+
+// The set with the rows at and below the source of transition t, if t is eventless.
+fn add_eventless(chart: &[u64], set: RowSet, t: Transition) -> RowSet
+    requires { ⌜ TransitionReady (now chart) (t .0) ⌝ }
+    ensures { λ s. ⌜ rowsOf s ≡ addEventless (chartOf (now (chart .entry))) (rowsOf set) (t .0) ⌝ }
+{
+    if 0 < tables::descriptors_of(chart, t).len() {
+        return set;
+    }
+    let source = tables::source_of(chart, t);
+    set.with(source).union(chart::descendants_of(chart, source))
+}
+
+// The rows at and below the sources of all eventless transitions. Where none of them is active, an eventless round selects nothing.
+pub fn eventless_rows(chart: &[u64]) -> RowSet
+    requires { ⌜ Ready (now chart) ⌝ }
+    ensures { λ s. ⌜ rowsOf s ≡ eventlessRows (chartOf (now (chart .entry))) ⌝ }
+{
+    let n = tables::transition_count(chart) as u16;
+    let mut set = RowSet::empty();
+    let mut t: u16 = 0;
+    while t < n {
+        set = add_eventless(chart, set, Transition(t));
+        t += 1;
+    }
+    set
 }

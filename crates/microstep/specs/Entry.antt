@@ -1,13 +1,18 @@
 -- The entry set, from member to member; the paths that lead to it.
-use mathlib.Core.Path.{_≡_, ap, sym, _∙_, subst}
-use mathlib.Core.Bool.{true, false}
+use mathlib.Core.Path.{_≡_, refl, ap, sym, _∙_, subst}
+use mathlib.Core.Bool.{Bool, true, false, not, _&&_}
 use mathlib.Core.List.{List, []}
 use Prim.Native.Nat.{ℕ, _+_, _<_}
-use Rattle.definition.specs.Rows.{mem, insert, union, meets}
-use Rattle.definition.specs.Chart.{Chart, kind, isParallel}
-use Rattle.definition.specs.Tree.{children, isCompound, defaultTargets}
+use native.Mathlib.Omega.{arith}
+use lib.Dec.{eqb, ltb}
+use borrow.Author.Tests.{eqb-true, not-true}
+use Rattle.definition.specs.declared.Kind.{Kind}
+use Rattle.definition.specs.Rows.{mem, isEmpty, insert, union, meets}
+use Rattle.definition.specs.Chart.{Chart, kindNo, kind, isState, isParallel, isFinal}
+use Rattle.definition.specs.Tree.{children, isCompound, isAtomic, defaultTargets}
 use Rattle.definition.specs.Microstep.{pathsBelow, Entry, hasNoChildIn, complete, entrySet}
-use Rattle.laws.specs.Bools.{or-elim}
+use Rattle.laws.specs.Bools.{no, clash, not-so, and-left, and-right, or-elim}
+use Rattle.laws.specs.Sets.{mem-those}
 use Rattle.laws.specs.Passes.{Counted, count-begin}
 use Rattle.theory.specs.Entry.{asksFor, mem-complete, asked-inside, aimedAt}
 use Rattle.numbers.specs.declared.Row.{Row}
@@ -15,7 +20,7 @@ use Rattle.rowset.specs.declared.Found.{Found}
 use Rattle.rowset.specs.declared.Found.the-variants.{At, Nothing}
 use Rattle.rowset.specs.Member.{rowsOf, nextIn}
 use Rattle.rowset.specs.Visits.{found-next, skip-turn, skip-end}
-use Rattle.matching.specs.Chosen.{Within}
+use Rattle.matching.specs.Chosen.{Within, atomicRows}
 use Rattle.effects.specs.Entering.{entryIs}
 use Rattle.microstep.specs.declared.Entered.{Entered}
 
@@ -48,6 +53,46 @@ module _ (c : Chart) (targets : ℕ → List ℕ) (set byDefault : List ℕ) (i 
         record { set = all; byDefault = more } ≡ complete c targets (record { set = set; byDefault = byDefault }) i
     unfolding complete hasNoChildIn
     complete-bare paths all more p q r f g h = rw (m, p, q, rw e at r, f, g, h)
+
+-- ---- an atomic row adds nothing
+
+-- rows that are all atomic
+pub record AllAtomic (c : Chart) (xs : List ℕ) : Type 0 where
+  pub at : (i : ℕ) → mem i xs ≡ true → isAtomic c i ≡ true
+
+pub none-atomic : (c : Chart) (xs : List ℕ) → xs ≡ [] → AllAtomic c xs
+unfolding mem
+none-atomic c xs e = record { at = λ i m. absurd (no (sym (ap (mem i) e) ∙ m)) }
+
+pub all-atomic : (c : Chart) (xs : List ℕ) → xs ≡ atomicRows c → AllAtomic c xs
+unfolding atomicRows
+all-atomic c xs e = record {
+  at = λ i m. and-right (ltb i (c .rows)) (isAtomic c i) (sym (ap (mem i) e ∙ mem-those (c .rows) (isAtomic c) i) ∙ m);
+}
+
+-- its kind is neither parallel nor that of a compound
+two-kinds : (k : Kind) (n m : ℕ) → (n ≡ m → ⊥) → eqb (kindNo k) m ≡ true → eqb (kindNo k) n ≡ false
+two-kinds k n m d f = not-so (eqb (kindNo k) n) (λ e. d (sym (eqb-true _ _ e) ∙ eqb-true _ _ f))
+
+module _ (c : Chart) (i : ℕ) (h : isAtomic c i ≡ true) where
+  atomic-apart : isParallel (kind c i) ≡ false
+  unfolding isAtomic
+  atomic-apart =
+      or-elim (isFinal (kind c i)) (isState (kind c i) && isEmpty (children c i)) (λ f. two-kinds (kind c i) 2 3 (λ e. omega arith) f)
+      (λ f. two-kinds (kind c i) 2 1 (λ e. omega arith) (and-left (isState (kind c i)) (isEmpty (children c i)) f)) h
+
+  atomic-simple : isCompound c i ≡ false
+  unfolding isAtomic isCompound
+  atomic-simple =
+      not-so (isState (kind c i) && not (isEmpty (children c i)))
+      (λ e. or-elim (isFinal (kind c i)) (isState (kind c i) && isEmpty (children c i))
+      (λ f. no (sym (two-kinds (kind c i) 1 3 (λ q. omega arith) f) ∙ and-left (isState (kind c i)) (not (isEmpty (children c i))) e))
+      (λ f. clash (isEmpty (children c i)) (and-right (isState (kind c i)) (isEmpty (children c i)) f) (not-true _ (and-right (isState (kind c i)) (not (isEmpty (children c i))) e))) h)
+
+pub complete-leaf : (c : Chart) (targets : ℕ → List ℕ) (set byDefault atoms : List ℕ) (i : ℕ) → AllAtomic c atoms → mem i atoms ≡ true → mem i set ≡ true →
+    record { set = set; byDefault = byDefault } ≡ complete c targets (record { set = set; byDefault = byDefault }) i
+complete-leaf c targets set byDefault atoms i h a m =
+    complete-atomic c targets set byDefault i (children c i) refl m (atomic-apart c i (h .at i a)) (atomic-simple c i (h .at i a))
 
 -- ---- the pass
 

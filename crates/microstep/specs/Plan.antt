@@ -19,8 +19,7 @@ use Rattle.theory.specs.Accepted.{Sound}
 use Rattle.theory.specs.Entry.{path-inside, entry-inside}
 use Rattle.rowset.specs.Member.{rowsOf}
 use Rattle.chart.specs.Ready.{Ready}
-use Rattle.matching.specs.declared.Chosen.{Chosen}
-use Rattle.matching.specs.Chosen.{Within, ChosenIn, chosenOf, chosen-length, within-none}
+use Rattle.matching.specs.Chosen.{Within, Taken, within-none}
 use Rattle.effects.specs.declared.Tally.{Tally}
 use Rattle.effects.specs.Trace.{Wrote, Room, wrote-both, room-first, room-next}
 use Rattle.effects.specs.Entering.{entryIs, HistoryRows}
@@ -127,34 +126,32 @@ unfolding configurationAfter
 plan-next c conf hist ts p h = rw (h .stay) (ap (λ (e : Entry). union (staying c conf hist ts) (e .set)) (h .entry))
 
 -- the pieces have room, one after the other, and together are the plan's effects
-module _ (chart : List ℕ) (p : Plan) (chosen : Chosen) (old : List ℕ) (t : Tally) (h : PlanReady chart p) (w : ChosenIn (transitionCount chart) chosen) (s : Small t) where
-  whole : Room t (exiting (chartOf chart) (rowsOf (p .out)) ++ flat (transitionEffects (chartOf chart)) (chosenOf chosen) ++ entering (chartOf chart) (rowsOf (p .stay)) (entryIs (p .set) (p .«by_default»)) (rowsOf (p .fallen)))
+module _ (chart : List ℕ) (p : Plan) (chosen : List ℕ) (old : List ℕ) (t : Tally) (h : PlanReady chart p) (w : Taken (transitionCount chart) chosen) (s : Small t) where
+  whole : Room t (exiting (chartOf chart) (rowsOf (p .out)) ++ flat (transitionEffects (chartOf chart)) chosen ++ entering (chartOf chart) (rowsOf (p .stay)) (entryIs (p .set) (p .«by_default»)) (rowsOf (p .fallen)))
   whole =
-      let e = chosen-length (transitionCount chart) chosen w in
-      let m = w .most in
-      round-room chart (h .ready .tables) t (p .out) (chosenOf chosen) (rowsOf (p .stay)) (p .set) (p .«by_default») (p .fallen) (s .entries) (s .names) (h .out) (omega arith) (w .inside) (h .set) (h .fallen)
+      round-room chart (h .ready .tables) t (p .out) chosen (rowsOf (p .stay)) (p .set) (p .«by_default») (p .fallen) (s .entries) (s .names) (h .out) (w .most) (w .inside) (h .set) (h .fallen)
 
-  before-entries : Room t (exiting (chartOf chart) (rowsOf (p .out)) ++ flat (transitionEffects (chartOf chart)) (chosenOf chosen))
-  before-entries = room-first t (exiting (chartOf chart) (rowsOf (p .out)) ++ flat (transitionEffects (chartOf chart)) (chosenOf chosen)) _ whole
+  before-entries : Room t (exiting (chartOf chart) (rowsOf (p .out)) ++ flat (transitionEffects (chartOf chart)) chosen)
+  before-entries = room-first t (exiting (chartOf chart) (rowsOf (p .out)) ++ flat (transitionEffects (chartOf chart)) chosen) _ whole
 
   pub exits-room : Room t (exiting (chartOf chart) (rowsOf (p .out)))
-  exits-room = room-first t (exiting (chartOf chart) (rowsOf (p .out))) (flat (transitionEffects (chartOf chart)) (chosenOf chosen)) before-entries
+  exits-room = room-first t (exiting (chartOf chart) (rowsOf (p .out))) (flat (transitionEffects (chartOf chart)) chosen) before-entries
 
   module _ (old1 : List ℕ) (t1 : Tally) (w1 : Wrote old old1 t t1 (exiting (chartOf chart) (rowsOf (p .out)))) where
-    pub taken-room : Room t1 (flat (transitionEffects (chartOf chart)) (chosenOf chosen))
-    taken-room = room-next old old1 t t1 (exiting (chartOf chart) (rowsOf (p .out))) (flat (transitionEffects (chartOf chart)) (chosenOf chosen)) before-entries w1
+    pub taken-room : Room t1 (flat (transitionEffects (chartOf chart)) chosen)
+    taken-room = room-next old old1 t t1 (exiting (chartOf chart) (rowsOf (p .out))) (flat (transitionEffects (chartOf chart)) chosen) before-entries w1
 
-    module _ (old2 : List ℕ) (t2 : Tally) (w2 : Wrote old1 old2 t1 t2 (flat (transitionEffects (chartOf chart)) (chosenOf chosen))) where
-      both : Wrote old old2 t t2 (exiting (chartOf chart) (rowsOf (p .out)) ++ flat (transitionEffects (chartOf chart)) (chosenOf chosen))
-      both = wrote-both old old1 old2 t t1 t2 (exiting (chartOf chart) (rowsOf (p .out))) (flat (transitionEffects (chartOf chart)) (chosenOf chosen)) w1 w2
+    module _ (old2 : List ℕ) (t2 : Tally) (w2 : Wrote old1 old2 t1 t2 (flat (transitionEffects (chartOf chart)) chosen)) where
+      both : Wrote old old2 t t2 (exiting (chartOf chart) (rowsOf (p .out)) ++ flat (transitionEffects (chartOf chart)) chosen)
+      both = wrote-both old old1 old2 t t1 t2 (exiting (chartOf chart) (rowsOf (p .out))) (flat (transitionEffects (chartOf chart)) chosen) w1 w2
 
       pub entries-room : Room t2 (entering (chartOf chart) (rowsOf (p .stay)) (entryIs (p .set) (p .«by_default»)) (rowsOf (p .fallen)))
-      entries-room = room-next old old2 t t2 (exiting (chartOf chart) (rowsOf (p .out)) ++ flat (transitionEffects (chartOf chart)) (chosenOf chosen)) _ whole both
+      entries-room = room-next old old2 t t2 (exiting (chartOf chart) (rowsOf (p .out)) ++ flat (transitionEffects (chartOf chart)) chosen) _ whole both
 
       pub plan-wrote : (old3 : List ℕ) (t3 : Tally) → Wrote old2 old3 t2 t3 (entering (chartOf chart) (rowsOf (p .stay)) (entryIs (p .set) (p .«by_default»)) (rowsOf (p .fallen))) →
-          Wrote old old3 t t3 (planEffects (chartOf chart) p (chosenOf chosen))
+          Wrote old old3 t t3 (planEffects (chartOf chart) p chosen)
       unfolding planEffects
-      plan-wrote old3 t3 w3 = wrote-both old old2 old3 t t2 t3 (exiting (chartOf chart) (rowsOf (p .out)) ++ flat (transitionEffects (chartOf chart)) (chosenOf chosen)) _ both w3
+      plan-wrote old3 t3 w3 = wrote-both old old2 old3 t t2 t3 (exiting (chartOf chart) (rowsOf (p .out)) ++ flat (transitionEffects (chartOf chart)) chosen) _ both w3
 
 -- ---- the first entry
 

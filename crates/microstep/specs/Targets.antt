@@ -3,11 +3,12 @@ use mathlib.Core.Path.{_≡_, refl, ap, sym, _∙_}
 use mathlib.Core.Bool.{Bool, true, false, _&&_, cond}
 use mathlib.Core.List.{List, [], _∷_}
 use Prim.Native.Nat.{ℕ, _<_}
-use Rattle.definition.specs.Rows.{fold, keep, mem, isEmpty, insert, union}
+use Rattle.definition.specs.Rows.{fold, keep, any, mem, isEmpty, insert, union}
 use Rattle.definition.specs.Chart.{Chart, Transition, kind, isHistory}
-use Rattle.definition.specs.Tree.{ancestors, descendants, listed, defaultTargets}
+use Rattle.definition.specs.Tree.{ancestors, descendants, listed, defaultTargets, anchors}
 use Rattle.definition.specs.Selection.{History, orDefault, standIns, addStandIns, effectiveTargets, domain}
 use Rattle.definition.specs.Microstep.{addPath, pathsBelow, addTargets, targeted, fellToDefault, addFallen, fallen}
+use Rattle.laws.specs.Bools.{no, not-so, or-left, or-right}
 use Rattle.laws.specs.Sets.{Ascends, ascends-ext, ascends-insert, mem-union, mem-one, union-set}
 use Rattle.laws.specs.Lists.{keep-cong}
 use Rattle.laws.specs.Folds.{fold-same, fold-kept, any-same}
@@ -16,6 +17,7 @@ use Rattle.theory.specs.Domain.{effective-of}
 use Rattle.theory.specs.Entry.{isOnPath, mem-paths, ascends-paths}
 use Rattle.chart.specs.Inside.{default-inside}
 use Rattle.matching.specs.Chosen.{Within}
+use Rattle.selection.specs.Routes.{isHistoryRow, Route, plain-none, plain-targets, route-plain, route-domain}
 
 -- the order of the list does not matter
 pub paths-same : (c : Chart) (d : ℕ) (xs ys : List ℕ) → ((a : ℕ) → mem a xs ≡ mem a ys) → pathsBelow c d xs ≡ pathsBelow c d ys
@@ -76,6 +78,28 @@ module _ (c : Chart) (after : History) (set : List ℕ) (x : ℕ) where
   pub fell-plain : isHistory (kind c x) ≡ false → set ≡ addFell c after set x
   unfolding addFell fellToDefault
   fell-plain h = rw h
+
+-- ---- a transition with a route has no history among its targets
+
+none-fell : (c : Chart) (after : History) (xs : List ℕ) → any (isHistoryRow c) xs ≡ false → keep (fellToDefault c after) xs ≡ []
+unfolding any isHistoryRow fellToDefault
+none-fell c after [] h = refl
+none-fell c after (x ∷ xs) h =
+    let p : isHistory (kind c x) ≡ false = not-so (isHistory (kind c x)) (λ e. no (sym h ∙ or-left (isHistory (kind c x)) (any (isHistoryRow c) xs) e)) in
+    let q : any (isHistoryRow c) xs ≡ false = not-so (any (isHistoryRow c) xs) (λ e. no (sym h ∙ or-right (isHistory (kind c x)) (any (isHistoryRow c) xs) e)) in
+    rw p (none-fell c after xs q)
+
+module _ (c : Chart) (before after : History) (set : List ℕ) (t d : ℕ) (r : Route c t d) (known : d < 256) where
+  pub routed-fallen : set ≡ addFallen c after set t
+  unfolding addFallen union fold
+  routed-fallen = rw (none-fell c after ((c .transition) t .targets) (plain-none c after t (route-plain c after t d r known)))
+
+  pub routed-anchors : (to : List ℕ) → to ≡ anchors c t → to ≡ effectiveTargets c after ((c .transition) t)
+  routed-anchors to e = e ∙ sym (plain-targets c after t (route-plain c after t d r known))
+
+  pub routed-targets : (to paths all : List ℕ) → to ≡ anchors c t → paths ≡ pathsBelow c d to → all ≡ union set paths → all ≡ addTargets c before after set t
+  unfolding addTargets
+  routed-targets to paths all e f h = h ∙ ap (union set) (f ∙ ap (pathsBelow c d) (routed-anchors to e) ∙ ap (λ (a : ℕ). pathsBelow c a (effectiveTargets c after ((c .transition) t))) (route-domain c before t d r known))
 
 -- ---- what is aimed at lies inside the chart
 

@@ -12,16 +12,18 @@ ghost use Rattle.definition.specs.Microstep.{exits, exiting, wouldStore, stored
 ghost use Rattle.definition.specs.Follower.{firstEntry};
 ghost use Rattle.rowset.specs.Member.{rowsOf};
 ghost use Rattle.chart.specs.Ready.{Ready, RowReady};
-ghost use Rattle.matching.specs.Chosen.{Within, ChosenIn, chosenOf};
+ghost use Rattle.matching.specs.Chosen.{Within, Taken};
 ghost use Rattle.selection.specs.History.{storedAt};
+ghost use Rattle.selection.specs.Routes.{Routed};
 ghost use Rattle.effects.specs.Trace.{Wrote};
 ghost use Rattle.effects.specs.Entering.{HistoryRow};
 ghost use Rattle.microstep.specs.Stored.{StoreReady, RoundReady, TakenReady, StoredIs};
 ghost use Rattle.microstep.specs.Targets.{addFell};
-ghost use Rattle.microstep.specs.Entry.{enteredAs};
+ghost use Rattle.microstep.specs.Entry.{enteredAs, AllAtomic};
 ghost use Rattle.microstep.specs.Plan.{Planned, PlanReady, Small, planEffects};
 ghost use Rattle.microstep.specs.Words.{historyRows, Put, RowStored, HistoryStored};
 use chart::ancestors_of;
+use chart::anchors_of;
 use chart::children_of;
 use chart::default_targets_of;
 use chart::descendants_of;
@@ -32,12 +34,12 @@ use effects::entry_effects;
 use effects::exit_effects;
 use effects::row_after;
 use effects::transition_effects;
-use matching::Chosen;
 use numbers::Row;
 use numbers::Transition;
 use numbers::row_index;
 use rowset::Found;
 use rowset::RowSet;
+use selection::NO_ROUTE;
 use selection::Stored;
 use selection::add_stand_ins;
 use selection::as_stored;
@@ -157,30 +159,52 @@ fn add_fallen(
     set
 }
 
-// The histories among the targets that fall to their default lists.
-fn fallen_of(
+// The same; a transition with a route has no history among its targets.
+fn add_fallen_by(
     chart: &[u64],
+    domains: &[u16],
     atoms: RowSet,
     conf: RowSet,
     history: &[u64],
     out: RowSet,
-    chosen: Chosen,
+    set: RowSet,
+    t: Transition,
 ) -> RowSet
-    requires { ⌜ RoundReady (now chart) (now history) atoms conf × ChosenIn (transitionCount (now chart)) chosen ⌝ }
-    ensures { λ s. ⌜ rowsOf s ≡ fallen (chartOf (now (chart .entry))) (stored (chartOf (now (chart .entry))) (rowsOf conf) (storedAt (now (history .entry))) (rowsOf out)) (chosenOf chosen) ⌝ }
+    requires { ⌜ Routed (chartOf (now chart)) (now domains) × TakenReady (now chart) (now history) atoms conf (t .0) ⌝ }
+    ensures { λ s. ⌜ rowsOf s ≡ addFallen (chartOf (now (chart .entry))) (stored (chartOf (now (chart .entry))) (rowsOf conf) (storedAt (now (history .entry))) (rowsOf out)) (rowsOf set) (t .0) ⌝ }
 {
-    let n = chosen.len;
+    let at = t.0 as usize;
+    if domains[at] < NO_ROUTE {
+        return set;
+    }
+    add_fallen(chart, atoms, conf, history, out, set, t)
+}
+
+// The histories among the targets that fall to their default lists.
+fn fallen_of(
+    chart: &[u64],
+    domains: &[u16],
+    atoms: RowSet,
+    conf: RowSet,
+    history: &[u64],
+    out: RowSet,
+    chosen: &[u16],
+) -> RowSet
+    requires { ⌜ Routed (chartOf (now chart)) (now domains) × RoundReady (now chart) (now history) atoms conf × Taken (transitionCount (now chart)) (now chosen) ⌝ }
+    ensures { λ s. ⌜ rowsOf s ≡ fallen (chartOf (now (chart .entry))) (stored (chartOf (now (chart .entry))) (rowsOf conf) (storedAt (now (history .entry))) (rowsOf out)) (now (chosen .entry)) ⌝ }
+{
     let mut set = RowSet::empty();
     let mut i = 0;
-    while i < n {
-        set = add_fallen(
+    while i < chosen.len() {
+        set = add_fallen_by(
             chart,
+            domains,
             atoms,
             conf,
             history,
             out,
             set,
-            Transition(chosen.items[i]),
+            Transition(chosen[i]),
         );
         i += 1;
     }
@@ -224,6 +248,7 @@ fn default_paths(chart: &[u64], r: Row) -> RowSet
     paths_below(chart, r, default_targets_of(chart, r))
 }
 
+// What transition t aims at, by the history before the round and the one after its exits.
 fn add_targets(
     chart: &[u64],
     atoms: RowSet,
@@ -241,30 +266,53 @@ fn add_targets(
     set.union(paths_below(chart, d, to))
 }
 
-// What the transitions aim at: the domain by the history before the round, the targets by the one after its exits.
-fn targeted(
+// The same; a transition with a route aims at its anchors whatever is stored.
+fn add_targets_by(
     chart: &[u64],
+    domains: &[u16],
     atoms: RowSet,
     conf: RowSet,
     history: &[u64],
     out: RowSet,
-    chosen: Chosen,
+    set: RowSet,
+    t: Transition,
 ) -> RowSet
-    requires { ⌜ RoundReady (now chart) (now history) atoms conf × ChosenIn (transitionCount (now chart)) chosen ⌝ }
-    ensures { λ s. ⌜ rowsOf s ≡ targeted (chartOf (now (chart .entry))) (storedAt (now (history .entry))) (stored (chartOf (now (chart .entry))) (rowsOf conf) (storedAt (now (history .entry))) (rowsOf out)) (chosenOf chosen) ⌝ }
+    requires { ⌜ Routed (chartOf (now chart)) (now domains) × TakenReady (now chart) (now history) atoms conf (t .0) ⌝ }
+    ensures { λ s. ⌜ rowsOf s ≡ addTargets (chartOf (now (chart .entry))) (storedAt (now (history .entry))) (stored (chartOf (now (chart .entry))) (rowsOf conf) (storedAt (now (history .entry))) (rowsOf out)) (rowsOf set) (t .0) ⌝ }
 {
-    let n = chosen.len;
+    let at = t.0 as usize;
+    let route = domains[at];
+    if route < NO_ROUTE {
+        return set.union(paths_below(chart, Row(route as u8), anchors_of(chart, t)));
+    }
+    add_targets(chart, atoms, conf, history, out, set, t)
+}
+
+// What the transitions aim at: the domain by the history before the round, the targets by the one after its exits.
+fn targeted(
+    chart: &[u64],
+    domains: &[u16],
+    atoms: RowSet,
+    conf: RowSet,
+    history: &[u64],
+    out: RowSet,
+    chosen: &[u16],
+) -> RowSet
+    requires { ⌜ Routed (chartOf (now chart)) (now domains) × RoundReady (now chart) (now history) atoms conf × Taken (transitionCount (now chart)) (now chosen) ⌝ }
+    ensures { λ s. ⌜ rowsOf s ≡ targeted (chartOf (now (chart .entry))) (storedAt (now (history .entry))) (stored (chartOf (now (chart .entry))) (rowsOf conf) (storedAt (now (history .entry))) (rowsOf out)) (now (chosen .entry)) ⌝ }
+{
     let mut set = RowSet::empty();
     let mut i = 0;
-    while i < n {
-        set = add_targets(
+    while i < chosen.len() {
+        set = add_targets_by(
             chart,
+            domains,
             atoms,
             conf,
             history,
             out,
             set,
-            Transition(chosen.items[i]),
+            Transition(chosen[i]),
         );
         i += 1;
     }
@@ -278,10 +326,13 @@ pub struct Entered {
 }
 
 // What row r of the set asks for is added.
-fn complete_row(chart: &[u64], e: Entered, r: Row) -> Entered
-    requires { ⌜ RowReady (now chart) (r .0) × (mem (r .0) (rowsOf (e .set)) ≡ true) ⌝ }
+fn complete_row(chart: &[u64], atoms: RowSet, e: Entered, r: Row) -> Entered
+    requires { ⌜ AllAtomic (chartOf (now chart)) (rowsOf atoms) × RowReady (now chart) (r .0) × (mem (r .0) (rowsOf (e .set)) ≡ true) ⌝ }
     ensures { λ f. ⌜ enteredAs f ≡ complete (chartOf (now (chart .entry))) (defaultTargets (chartOf (now (chart .entry)))) (enteredAs e) (r .0) ⌝ }
 {
+    if atoms.has(r) {
+        return e;
+    }
     let set = e.set;
     let by_default = e.by_default;
     let kids = children_of(chart, r);
@@ -304,8 +355,8 @@ fn complete_row(chart: &[u64], e: Entered, r: Row) -> Entered
 }
 
 // The entry set for what is aimed at: from member to member in document order, since what a row adds stands after it.
-fn entry_set(chart: &[u64], aim: RowSet) -> Entered
-    requires { ⌜ Ready (now chart) × Within (rowCount (now chart)) (rowsOf aim) ⌝ }
+fn entry_set(chart: &[u64], atoms: RowSet, aim: RowSet) -> Entered
+    requires { ⌜ AllAtomic (chartOf (now chart)) (rowsOf atoms) × Ready (now chart) × Within (rowCount (now chart)) (rowsOf aim) ⌝ }
     ensures { λ e. ⌜ enteredAs e ≡ entrySet (chartOf (now (chart .entry))) (defaultTargets (chartOf (now (chart .entry)))) (rowsOf aim) ⌝ }
 {
     let mut e = Entered {
@@ -317,7 +368,7 @@ fn entry_set(chart: &[u64], aim: RowSet) -> Entered
         let set = e.set;
         match set.next_from(k) {
             Found::At(r) => {
-                e = complete_row(chart, e, r);
+                e = complete_row(chart, atoms, e, r);
                 k = row_after(r);
             }
             Found::Nothing => {
@@ -342,18 +393,19 @@ pub struct Plan {
 // The chosen transitions, taken together from the configuration: out are the rows that they exit.
 pub fn plan_round(
     chart: &[u64],
+    domains: &[u16],
     atoms: RowSet,
     conf: RowSet,
     history: &[u64],
-    chosen: Chosen,
+    chosen: &[u16],
     out: RowSet,
 ) -> Plan
-    requires { ⌜ RoundReady (now chart) (now history) atoms conf × ChosenIn (transitionCount (now chart)) chosen × (rowsOf out ≡ exits (chartOf (now chart)) (rowsOf conf) (storedAt (now history)) (chosenOf chosen)) ⌝ }
-    ensures { λ p. ⌜ Planned (chartOf (now (chart .entry))) (rowsOf conf) (storedAt (now (history .entry))) (chosenOf chosen) p × PlanReady (now (chart .entry)) p ⌝ }
+    requires { ⌜ Routed (chartOf (now chart)) (now domains) × RoundReady (now chart) (now history) atoms conf × Taken (transitionCount (now chart)) (now chosen) × (rowsOf out ≡ exits (chartOf (now chart)) (rowsOf conf) (storedAt (now history)) (now chosen)) ⌝ }
+    ensures { λ p. ⌜ Planned (chartOf (now (chart .entry))) (rowsOf conf) (storedAt (now (history .entry))) (now (chosen .entry)) p × PlanReady (now (chart .entry)) p ⌝ }
 {
     let stay = conf.minus(out);
-    let aim = targeted(chart, atoms, conf, history, out, chosen);
-    let e = entry_set(chart, aim);
+    let aim = targeted(chart, domains, atoms, conf, history, out, chosen);
+    let e = entry_set(chart, atoms, aim);
     let set = e.set;
     let by_default = e.by_default;
     Plan {
@@ -361,7 +413,7 @@ pub fn plan_round(
         out: out,
         set: set,
         by_default: by_default,
-        fallen: fallen_of(chart, atoms, conf, history, out, chosen),
+        fallen: fallen_of(chart, domains, atoms, conf, history, out, chosen),
     }
 }
 
@@ -378,12 +430,12 @@ pub fn next_configuration(plan: Plan) -> RowSet
 pub fn plan_effects(
     chart: &[u64],
     plan: Plan,
-    chosen: Chosen,
+    chosen: &[u16],
     trace: &mut [u32],
     tally: Tally,
 ) -> Tally
-    requires { ⌜ PlanReady (now chart) plan × ChosenIn (transitionCount (now chart)) chosen × Small tally ⌝ }
-    ensures { λ s. ⌜ Wrote (now (trace .entry)) (now (trace .exit)) tally s (planEffects (chartOf (now (chart .entry))) plan (chosenOf chosen)) ⌝ }
+    requires { ⌜ PlanReady (now chart) plan × Taken (transitionCount (now chart)) (now chosen) × Small tally ⌝ }
+    ensures { λ s. ⌜ Wrote (now (trace .entry)) (now (trace .exit)) tally s (planEffects (chartOf (now (chart .entry))) plan (now (chosen .entry))) ⌝ }
 {
     let out = plan.out;
     let stay = plan.stay;
@@ -402,7 +454,7 @@ pub fn first_entry(chart: &[u64]) -> Entered
     requires { ⌜ Ready (now chart) ⌝ }
     ensures { λ e. ⌜ (enteredAs e ≡ firstEntry (chartOf (now (chart .entry)))) × Within (rowCount (now (chart .entry))) (rowsOf (e .set)) ⌝ }
 {
-    entry_set(chart, default_paths(chart, Row(0)))
+    entry_set(chart, RowSet::empty(), default_paths(chart, Row(0)))
 }
 
 pub fn first_effects(chart: &[u64], e: Entered, trace: &mut [u32], tally: Tally) -> Tally

@@ -1,17 +1,18 @@
 -- Matching, byte by byte: the first tokens of a name are those of a descriptor exactly if the name is the descriptor, or begins with the
 -- descriptor and a dot. No assumption that either is a name: tokens may be empty.
 use mathlib.Core.Path.{_≡_, refl, ap, sym, _∙_}
-use mathlib.Core.Bool.{Bool, true, false, _&&_, _||_, cond, and-assoc}
+use mathlib.Core.Bool.{Bool, true, false, not, _&&_, _||_, cond, and-assoc}
 use mathlib.Core.List.{List, [], _∷_, _++_, append-nil}
 use mathlib.Core.Logic.{_⊎_, inl, inr, ⊎-elim}
-use Prim.Native.Nat.{ℕ, zero, suc, _+_, _<_}
+use Prim.Native.Nat.{ℕ, zero, suc, _+_, _-_, _<_}
 use native.Mathlib.Omega.{arith}
 use lib.Dec.{eqb}
-use lib.ListN.{length, take, drop}
-use borrow.Author.Tests.{eqb-true, eqb-false, eq-eqb, ne-eqb}
+use lib.ListN.{length, getD, take, drop}
+use borrow.Author.Tests.{not-true, eqb-true, eqb-false, eq-eqb, ne-eqb}
 use Rattle.definition.specs.Rows.{same}
-use Rattle.definition.specs.Names.{Name, grow, tokens, begins, bare, matches, star, dotStar}
-use Rattle.laws.specs.Bools.{no, and-false, and-left, and-right}
+use Rattle.definition.specs.Names.{Name, grow, tokens, begins, bare, matches, star, dotStar, beforeZero}
+use Rattle.laws.specs.Bools.{no, and-false, and-left, and-right, and3}
+use Rattle.laws.specs.Parts.{part-end}
 
 -- the name's bytes begin with the descriptor's, and there the name ends or has a dot
 unfoldable pub stops : Name → Name → Bool
@@ -106,6 +107,50 @@ stops-dot d r = stops-after d (46 ∷ r)
 pub matches-stops : (d n : Name) → matches d n ≡ (same d star || stops (bare d) n)
 unfolding matches
 matches-stops d n = ap (λ (b : Bool). same d star || b) (tokens-stops (bare d) n)
+
+-- ---- the descriptor in a slot, and the first byte
+
+-- the first byte is one of a token
+unfoldable pub startsToken : List ℕ → Bool
+startsToken [] = false
+startsToken (x ∷ xs) = not (eqb x 0) && not (eqb x 42) && not (eqb x 46)
+
+pub token-none : (s : List ℕ) → length s ≡ 0 → false ≡ startsToken s
+unfolding startsToken
+token-none [] h = refl
+token-none (x ∷ xs) h = absurd (omega arith)
+
+pub token-some : (s : List ℕ) → startsToken s ≡ true → 0 < length s
+unfolding startsToken
+token-some [] h = absurd (no h)
+token-some (x ∷ xs) h = omega arith
+
+pub token-at : (s : List ℕ) → 0 < length s → startsToken s ≡ (not (eqb (getD s 0 0) 0) && not (eqb (getD s 0 0) 42) && not (eqb (getD s 0 0) 46))
+unfolding startsToken
+token-at [] h = absurd (omega arith)
+token-at (x ∷ xs) h = refl
+
+-- then the first bytes of descriptor and event agree, and the rest of both decides
+slot-first : (s e : List ℕ) → startsToken s ≡ true → 0 < length e →
+    matches (beforeZero s) e ≡ (eqb (getD s 0 0) (getD e 0 0) && begins (tokens (bare (beforeZero (drop 1 s)))) (tokens (drop 1 e)))
+unfolding startsToken beforeZero bare same stops
+slot-first [] e h l = absurd (no h)
+slot-first (x ∷ xs) [] h l = absurd (omega arith)
+slot-first (x ∷ xs) (y ∷ ys) h l =
+    let k = and3 (not (eqb x 0)) (not (eqb x 42)) (not (eqb x 46)) h in
+    matches-stops (beforeZero (x ∷ xs)) (y ∷ ys) ∙
+    rw (not-true (eqb x 0) (k .0), not-true (eqb x 42) (k .1), not-true (eqb x 46) (k .2), tokens-stops (bare (beforeZero xs)) ys)
+
+module _ (s e : List ℕ) (h : startsToken s ≡ true) (l : 0 < length e) where
+  pub slot-differs : (getD s 0 0 ≡ getD e 0 0 → ⊥) → false ≡ matches (beforeZero s) e
+  slot-differs d = sym (slot-first s e h l ∙ rw (ne-eqb (getD s 0 0) (getD e 0 0) d))
+
+  pub slot-rest : (n r : List ℕ) (b : Bool) → getD s 0 0 ≡ getD e 0 0 → n ≡ beforeZero (take (length s - 1) (drop 1 s)) → r ≡ bare n →
+      b ≡ begins (tokens r) (tokens (take (length e - 1) (drop 1 e))) → b ≡ matches (beforeZero s) e
+  slot-rest n r b q p f g =
+      g ∙ ap (begins (tokens r)) (ap tokens (part-end 1 e)) ∙
+      ap (λ (x : List ℕ). begins (tokens x) (tokens (drop 1 e))) (f ∙ ap bare (p ∙ ap beforeZero (part-end 1 s))) ∙
+      sym (slot-first s e h l ∙ rw (eq-eqb (getD s 0 0) (getD e 0 0) q))
 
 -- ---- the descriptor without a ".*" at its end
 

@@ -10,6 +10,7 @@ ghost use Rattle.definition.specs.Names.{between, isLetter, isNameByte, isName,
 ghost use Rattle.definition.specs.Marked.{slotOf};
 ghost use Rattle.laws.specs.Parts.{laid};
 ghost use Rattle.names.specs.Slots.{padded};
+ghost use Rattle.names.specs.Matching.{startsToken};
 
 // "A name has 1 to 63 bytes"
 const MOST_BYTES: usize = 63;
@@ -166,6 +167,31 @@ pub fn name_of(slot: &[u8]) -> &[u8]
 {
     let n = name_len(slot);
     &slot[..n]
+}
+
+// Whether the first byte of a slot is one of a token that the event has to begin with: not so of a zero, a star or a dot.
+fn starts_token(slot: &[u8]) -> bool
+    ensures { λ r. ⌜ r ≡ startsToken (now (slot .entry)) ⌝ }
+{
+    if slot.len() == 0 {
+        return false;
+    }
+    let b = slot[0];
+    (b != 0) & (b != b'*') & (b != b'.')
+}
+
+// Whether the descriptor in a slot matches the event. Most descriptors differ from the event in the first byte: it is looked at first, and
+// then the slot's end is not looked for. Each byte of the event is read at most once here too.
+pub fn slot_matches(slot: &[u8], event: &[u8]) -> bool
+    ensures { λ r. ⌜ r ≡ matches (beforeZero (now (slot .entry))) (now (event .entry)) ⌝ }
+{
+    if starts_token(slot) & (0 < event.len()) {
+        if slot[0] != event[0] {
+            return false;
+        }
+        return begins_with(&event[1..], bare(name_of(&slot[1..])));
+    }
+    matches(name_of(slot), event)
 }
 
 // Every byte is zero.

@@ -4,13 +4,13 @@ use mathlib.Core.List.{List, [], _∷_, _++_, append-assoc, append-nil}
 use Prim.Native.Nat.{ℕ, suc, _+_, _-_, _*_, _≤_, _<_}
 use native.Mathlib.Numerals.{add-one}
 use native.Mathlib.Omega.{arith}
-use lib.ListN.{length, getD, take, drop, set, length-drop, length-append}
-use lib.Seq.{take-at, take-all, take-suc, drop-cons, drop-drop, drop-length, getD-append-add, getD-drop, set-at, length-take-le}
+use lib.ListN.{length, getD, take, drop, set, replicate, length-drop, length-append, take-append-drop, replicate-append-replicate}
+use lib.Seq.{drop-append-le, take-at, take-all, take-suc, drop-cons, drop-drop, drop-length, getD-append-add, getD-drop, set-at, length-take-le}
 use Rattle.definition.specs.Tables.{slotAt}
 use Rattle.definition.specs.Marked.{slotOf}
 use Rattle.laws.specs.Cells.{blank}
 use Rattle.names.specs.Slots.{padded, slot-padded, padded-blank}
-use Rattle.queue.specs.Queues.{SlotInside}
+use Rattle.queue.specs.Queues.{SlotInside, Waiting}
 
 -- the part from a to e
 part-length : (q : List ℕ) (a e : ℕ) → a ≤ e → e ≤ length q → length (take (e - a) (drop a q)) ≡ e - a
@@ -64,3 +64,15 @@ clear-last q₀ q slot h e f =
     let s : slot ≡ blank 64 = f ∙ rw (part-length q (length q - 64) (length q) (omega arith) (omega arith), w) (padded-blank 64) in
     let behind : drop (length q - (length q - 64)) (drop (length q - 64) q) ≡ [] = part-behind q (length q - 64) (length q) (omega arith) ∙ drop-length q in
     ap₂ {C = List ℕ} (λ a b. a ++ b) front (ap₂ {C = List ℕ} (λ a b. a ++ b) s behind ∙ append-nil (blank 64))
+
+-- the first of the names leaves the part that they fill
+pub oldest-left : (q part : List ℕ) (count : ℕ) → Waiting q count → part ≡ drop 64 (take (count * 64) q) ++ replicate 64 0 → part ++ drop (count * 64) q ≡ drop 64 q ++ replicate 64 0
+oldest-left q part count h e =
+    let some = h .some in
+    let inside = h .inside in
+    let front : List ℕ = take (count * 64) q in
+    let size : length front ≡ count * 64 = length-take-le (count * 64) q inside in
+    let n : ℕ = length q - count * 64 in
+    let swap : 64 + n ≡ n + 64 = omega arith in
+    let back : drop 64 q ≡ drop 64 front ++ drop (count * 64) q = ap (drop 64) (sym (take-append-drop (count * 64) q)) ∙ drop-append-le 64 front (drop (count * 64) q) (omega arith) in
+    rw (e, back, h .behind, append-assoc (drop 64 front) (replicate 64 0) (replicate n 0), append-assoc (drop 64 front) (replicate n 0) (replicate 64 0), replicate-append-replicate {A = ℕ} 64 n 0, replicate-append-replicate {A = ℕ} n 64 0, swap)

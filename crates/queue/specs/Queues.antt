@@ -2,12 +2,12 @@
 use mathlib.Core.Path.{_≡_, sym, ap, _∙_}
 use mathlib.Core.Bool.{Bool, true, false, not, _&&_}
 use mathlib.Core.List.{List, [], _∷_, _++_, map}
-use Prim.Native.Nat.{ℕ, _+_, _*_, _≤_, _<_}
+use Prim.Native.Nat.{ℕ, zero, suc, _+_, _-_, _*_, _≤_, _<_}
 use native.Mathlib.Nat.{zero-add}
 use native.Mathlib.Omega.{arith}
 use lib.Dec.{eqb, leb, ltb}
 use lib.ListN.{length, getD, take, drop, replicate, length-drop}
-use lib.Seq.{length-take-le}
+use lib.Seq.{drop-at, drop-drop, length-take-le}
 use borrow.Author.Tests.{ltb-true, ltb-false, lt-ltb, le-leb, leb-true, not-true, not-false}
 use Rattle.definition.specs.Rows.{from, all, same, flat}
 use Rattle.definition.specs.Names.{Name, isName, beforeZero, zerosAfter}
@@ -29,6 +29,12 @@ pub record SlotInside (bytes : List ℕ) (k : ℕ) : Type 0 where
 -- the bytes of 32 slots
 pub record QueueSized (bytes : List ℕ) : Type 0 where
   pub size : length bytes ≡ 2048
+
+-- the bytes have count slots, one at least, and zeros behind them
+pub record Waiting (bytes : List ℕ) (count : ℕ) : Type 0 where
+  pub some : 1 ≤ count
+  pub inside : count * 64 ≤ length bytes
+  pub behind : drop (count * 64) bytes ≡ replicate (length bytes - count * 64) 0
 
 -- the bytes that hold the names
 unfoldable pub queueBytes : List Name → List ℕ
@@ -92,6 +98,26 @@ queue-last bytes count names name e n h =
 -- the first name taken
 pub queue-rest : (bytes : List ℕ) (name : Name) (names : List Name) → bytes ≡ queueBytes (name ∷ names) → length names < 32 → drop 64 bytes ++ blank 64 ≡ queueBytes names
 queue-rest bytes name names e h = rw (e, queue-cells (name ∷ names), queue-cells names) (cells-rest slotOf 64 slot-length 31 name names (omega arith))
+
+-- behind the names there are zeros
+cells-behind : (n : ℕ) (names : List Name) → length names ≤ n → drop (length names * 64) (cells slotOf 64 n names) ≡ blank (n * 64 - length names * 64)
+unfolding cells
+cells-behind n [] l = let z : n * 64 - 0 ≡ n * 64 = omega arith in rw z (cells-none slotOf 64 n)
+cells-behind zero (name ∷ names) l = absurd (omega arith)
+cells-behind (suc n) (name ∷ names) l =
+    let m : ℕ = length names in
+    let a : suc m * 64 ≡ 64 + m * 64 = omega arith in
+    let b : suc n * 64 - suc m * 64 ≡ n * 64 - m * 64 = omega arith in
+    rw (b, a, ← drop-drop (m * 64) 64 (slotOf name ++ cells slotOf 64 n names), drop-at (slotOf name) (cells slotOf 64 n names) 64 (slot-length name)) (cells-behind n names (omega arith))
+
+pub queue-waits : (bytes : List ℕ) (names : List Name) (count : ℕ) → bytes ≡ queueBytes names → count ≡ length names → 0 < count → count ≤ 32 → Waiting bytes count
+queue-waits bytes names count e n some few =
+    let size : length bytes ≡ 2048 = ap length e ∙ queue-length names in
+    record {
+      some = omega arith;
+      inside = omega arith;
+      behind = rw (size, e, n, queue-cells names) (cells-behind 32 names (omega arith));
+    }
 
 -- ---- the names of the bytes
 

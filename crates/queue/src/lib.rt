@@ -7,7 +7,7 @@ ghost use lib.ListN.{length, take, drop, replicate};
 ghost use Rattle.definition.specs.Names.{doneName};
 ghost use Rattle.definition.specs.Tables.{slotAt, nameAt};
 ghost use Rattle.definition.specs.Marked.{slotOf};
-ghost use Rattle.queue.specs.Queues.{isQueue, slotHolds, SlotInside, QueueSized};
+ghost use Rattle.queue.specs.Queues.{isQueue, slotHolds, SlotInside, QueueSized, Waiting};
 
 // "at most 32 names each"
 pub const MOST_QUEUED: u64 = 32;
@@ -66,13 +66,22 @@ fn shift(queue: &mut [u8])
 }
 
 // The first name leaves, the others move up.
-pub fn take_first(queue: &mut [u8])
+fn take_first(queue: &mut [u8])
     requires { ⌜ SlotInside (now queue) 0 ⌝ }
     ensures { λ _. ⌜ now (queue .exit) ≡ drop 64 (now (queue .entry)) ++ replicate 64 0 ⌝ }
 {
     shift(queue);
     let last = queue.len() - SLOT;
     names::put_name(&mut queue[last..], b"");
+}
+
+// The first of count names leaves. Behind them all is blank, so their own slots alone are touched.
+pub fn take_oldest(queue: &mut [u8], count: u64)
+    requires { ⌜ Waiting (now queue) count ⌝ }
+    ensures { λ _. ⌜ now (queue .exit) ≡ drop 64 (now (queue .entry)) ++ replicate 64 0 ⌝ }
+{
+    let used = count as usize * SLOT;
+    take_first(&mut queue[..used]);
 }
 
 // No name waits.

@@ -14,7 +14,7 @@ use Rattle.definition.specs.Follower.{Follower, Round, closingRound, roundIn, r
 use Rattle.theory.specs.Runs.{not-refused}
 use Rattle.rowset.specs.Member.{rowsOf}
 use Rattle.chart.specs.Ready.{Ready, CompiledWith}
-use Rattle.matching.specs.Chosen.{Within, chosenOf}
+use Rattle.matching.specs.Chosen.{listOf, Within}
 use Rattle.selection.specs.History.{storedAt}
 use Rattle.effects.specs.declared.Tally.{Tally}
 use Rattle.effects.specs.Trace.{Wrote}
@@ -129,16 +129,16 @@ module _ (chart names : List ℕ) (s : State) (history internal external : List 
   unfolding restStatus roundIn closingRound
   rest-closing e = ap restStatus (round-mode Closing e)
 
-  module _ (m : s .mode ≡ Running) (choice : Choice) (ch : Chooses (chartOf chart) (nameAt names) f (storedAt history) choice) where
-    chosen-round : roundBy (choice .source) (chartOf chart) (nameAt names) f (chosenOf (choice .selected .chosen)) ≡ round (chartOf chart) (nameAt names) f
+  module _ (m : s .mode ≡ Running) (items : List ℕ) (choice : Choice) (ch : Chooses (chartOf chart) (nameAt names) f (storedAt history) items choice) where
+    chosen-round : roundBy (choice .source) (chartOf chart) (nameAt names) f (listOf items (choice .selected .len)) ≡ round (chartOf chart) (nameAt names) f
     chosen-round = sym (ch .is) ∙ round-mode Running m
 
     pub rest-idle : choice .source ≡ Nothing → status.Idle ≡ restStatus (round (chartOf chart) (nameAt names) f)
     unfolding restStatus roundBy
     rest-idle e =
-        sym (ap (λ (x : Source). restStatus (roundBy x (chartOf chart) (nameAt names) f (chosenOf (choice .selected .chosen)))) e) ∙ ap restStatus chosen-round
+        sym (ap (λ (x : Source). restStatus (roundBy x (chartOf chart) (nameAt names) f (listOf items (choice .selected .len)))) e) ∙ ap restStatus chosen-round
 
     pub rest-more : (choice .source ≡ Nothing → ⊥) → status.More ≡ restStatus (round (chartOf chart) (nameAt names) f)
     unfolding restStatus
     rest-more z =
-        sym (ap restStatus (round-did (choice .source) (chartOf chart) (nameAt names) f (chosenOf (choice .selected .chosen)) z)) ∙ ap restStatus chosen-round
+        sym (ap restStatus (round-did (choice .source) (chartOf chart) (nameAt names) f (listOf items (choice .selected .len)) z)) ∙ ap restStatus chosen-round

@@ -10,8 +10,9 @@ use Rattle.definition.specs.Microstep.{Effect, exits, storedIn}
 use Rattle.definition.specs.Follower.{Follower, Round, roundIn, refusalIf, refusal}
 use Rattle.rowset.specs.declared.RowSet.{RowSet}
 use Rattle.rowset.specs.Member.{rowsOf}
-use Rattle.matching.specs.Chosen.{ChosenIn, chosenOf}
+use Rattle.matching.specs.Chosen.{listOf, Taken}
 use Rattle.selection.specs.History.{storedAt}
+use Rattle.selection.specs.Routes.{Routed}
 use Rattle.effects.specs.declared.Tally.{Tally}
 use Rattle.microstep.specs.declared.Plan.{Plan}
 use Rattle.microstep.specs.Stored.{RoundReady}
@@ -26,11 +27,12 @@ use Rattle.rounds.specs.declared.Outcome.{Outcome}
 use Rattle.rounds.specs.declared.Outcome.the-variants.{Idle, Did}
 use Rattle.rounds.specs.declared.Turn.{Turn}
 use Rattle.rounds.specs.Turns.{judged, judged-none, untouched, Turned, turned-idle, turned-refused}
+use Rattle.rounds.specs.Traces.{Drafted, drafted-counted}
 use Rattle.rounds.specs.Judging.{Counted, refusal-judged, LeavesInternal}
-use Rattle.rounds.specs.Taking.{spelled, HoldsAt, Given, roundEffects, nextBy, round-did, HasChosen, Decided, round-ready, leaves-internal, planned-from}
+use Rattle.rounds.specs.Taking.{spelled, HoldsAt, Given, roundEffects, nextBy, round-did, HasChosen, picked-first, Decided, round-ready, leaves-internal, planned-from}
 
-module _ (chart names starts : List ℕ) (atoms histories : RowSet) (s : State) (history internal external : List ℕ) (g : Given chart names starts atoms histories) (h : HoldsAt chart s history internal external)
-    (choice : Choice) (ch : Chooses (chartOf chart) (nameAt names) (spelled chart s history internal external) (storedAt history) choice) where
+module _ (chart names starts domains : List ℕ) (atoms eventless histories : RowSet) (s : State) (history internal external : List ℕ) (g : Given chart names starts domains atoms eventless histories)
+    (h : HoldsAt chart s history internal external) (items : List ℕ) (choice : Choice) (ch : Chooses (chartOf chart) (nameAt names) (spelled chart s history internal external) (storedAt history) items choice) where
   -- nothing is left to choose
   pub taken-idle : (t : Turn) (old : List ℕ) → t ≡ untouched s Idle → choice .source ≡ Nothing →
       Turned (roundIn Running (chartOf chart) (nameAt names) (spelled chart s history internal external)) (spelled chart s history internal external) t history internal external old old
@@ -38,30 +40,36 @@ module _ (chart names starts : List ℕ) (atoms histories : RowSet) (s : State) 
   taken-idle t old q e =
       let f = spelled chart s history internal external in
       turned-idle (roundIn Running (chartOf chart) (nameAt names) f) f s t history internal external old (h .spells) q
-      (ch .is ∙ ap (λ (source : Source). roundBy source (chartOf chart) (nameAt names) f (chosenOf (choice .selected .chosen))) e)
+      (ch .is ∙ ap (λ (source : Source). roundBy source (chartOf chart) (nameAt names) f (listOf items (choice .selected .len))) e)
 
-  pub has-chosen : (choice .source ≡ Nothing → ⊥) → HasChosen chart names atoms histories s history internal external choice
-  has-chosen z = record { compiled = g .prepared .compiled; atomic = g .prepared .atomic; stores = g .stores; holds = h; chooses = ch; some = z }
+  pub has-chosen : (choice .source ≡ Nothing → ⊥) → HasChosen chart names domains atoms histories s history internal external choice (listOf items (choice .selected .len))
+  has-chosen z = record {
+    compiled = g .looked .prepared .compiled;
+    routed = g .looked .routed;
+    atomic = g .looked .prepared .atomic;
+    stores = g .stores;
+    holds = h;
+    chooses = picked-first (chartOf chart) (nameAt names) (spelled chart s history internal external) (storedAt history) items choice ch;
+    some = z;
+  }
 
-module _ (chart names : List ℕ) (atoms histories : RowSet) (s : State) (history internal external : List ℕ) (choice : Choice)
-    (g : HasChosen chart names atoms histories s history internal external choice) where
+module _ (chart names domains : List ℕ) (atoms histories : RowSet) (s : State) (history internal external : List ℕ) (choice : Choice) (ts : List ℕ)
+    (g : HasChosen chart names domains atoms histories s history internal external choice ts) where
   abbrev f : Follower
   f = spelled chart s history internal external
-
-  abbrev ts : List ℕ
-  ts = chosenOf (choice .selected .chosen)
 
   -- the round that was chosen is the session's
   pub taken-turn : (t : Turn) (stored inner outer old new : List ℕ) → Turned (roundBy (choice .source) (chartOf chart) (nameAt names) f ts) f t stored inner outer old new →
       Turned (roundIn Running (chartOf chart) (nameAt names) f) f t stored inner outer old new
   taken-turn t stored inner outer old new = subst (λ (r : Round). Turned r f t stored inner outer old new) (sym (g .chooses .is))
 
-  pub plan-ready : RoundReady chart history atoms (s .configuration) × ChosenIn (transitionCount chart) (choice .selected .chosen) ×
+  pub plan-ready : Routed (chartOf chart) domains × RoundReady chart history atoms (s .configuration) × Taken (transitionCount chart) ts ×
       (rowsOf (choice .selected .exits) ≡ exits (chartOf chart) (rowsOf (s .configuration)) (storedAt history) ts)
   plan-ready = (
+    g .routed,
     round-ready chart names (g .compiled) f s history internal external (g .holds) atoms (g .atomic),
-    g .chooses .selected .fits,
-    g .chooses .selected .exits ∙ ap (λ (conf : List ℕ). exits (chartOf chart) conf (storedAt history) ts) (sym (g .holds .spells .configuration)),
+    g .chooses .fits,
+    g .chooses .exits ∙ ap (λ (conf : List ℕ). exits (chartOf chart) conf (storedAt history) ts) (sym (g .holds .spells .configuration)),
   )
 
   pub choice-leaves : LeavesInternal (choice .source) (s .internal)
@@ -74,7 +82,7 @@ module _ (chart names : List ℕ) (atoms histories : RowSet) (s : State) (histor
     pub few-kept : kept ≤ 32
     few-kept = waiting .short
 
-    module _ (plan : Plan) (p : Planned (chartOf chart) (rowsOf (s .configuration)) (storedAt history) ts plan × PlanReady chart plan) (t : Tally) (q : Counted t (planEffects (chartOf chart) plan ts))
+    module _ (plan : Plan) (p : Planned (chartOf chart) (rowsOf (s .configuration)) (storedAt history) ts plan × PlanReady chart plan) (draft : List ℕ) (t : Tally) (q : Drafted draft t (planEffects (chartOf chart) plan ts))
         (room : ℕ) (o : Outcome) (j : o ≡ judged (refusalIf (ltb 32 (kept + t .names)) (ltb room (t .entries)))) where
       abbrev es : List Effect
       es = roundEffects (chartOf chart) f ts
@@ -84,9 +92,10 @@ module _ (chart names : List ℕ) (atoms histories : RowSet) (s : State) (histor
 
       counted : Counted t es
       counted =
+          let n = drafted-counted draft t (planEffects (chartOf chart) plan ts) q in
           subst (Counted t)
           (plan-effects (chartOf chart) (f .configuration) (storedIn (f .history)) ts plan
-          (planned-from chart names (g .compiled) f s history internal external (g .holds) ts plan (p .0))) q
+          (planned-from chart names (g .compiled) f s history internal external (g .holds) ts plan (p .0))) (record { entries = n .0; names = n .1 })
 
       is-judged : o ≡ judged (refusal room next es)
       unfolding nextBy
@@ -97,5 +106,5 @@ module _ (chart names : List ℕ) (atoms histories : RowSet) (s : State) (histor
           turned-refused (roundIn Running (chartOf chart) (nameAt names) f) f s u history internal external old (g .holds .spells) o y next es
           (g .chooses .is ∙ round-did (choice .source) (chartOf chart) (nameAt names) f ts (g .some)) (rw e is-judged) z
 
-      pub is-decided : o ≡ Did → Decided chart names atoms histories s history internal external choice plan room
+      pub is-decided : o ≡ Did → Decided chart names domains atoms histories s history internal external choice ts plan room
       is-decided e = record { chosen = g; planned = p .0; ready = p .1; goes = judged-none (refusal room next es) (sym is-judged ∙ e) }

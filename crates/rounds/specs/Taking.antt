@@ -17,7 +17,7 @@ use Rattle.definition.specs.Chart.{Chart, Names}
 use Rattle.definition.specs.Tables.{rowCount, nameAt, chartOf}
 use Rattle.definition.specs.Selection.{History}
 use Rattle.definition.specs.Microstep.{Effect, traceNo, queued, exits, storing, storedIn, historyAfter, configurationAfter, effects}
-use Rattle.definition.specs.Follower.{Follower, did, isFinalUnderRoot, modeOf, taking, refusal}
+use Rattle.definition.specs.Follower.{Follower, did, roundIn, isFinalUnderRoot, modeOf, taking, refusal}
 use Rattle.laws.specs.Bools.{bool-case}
 use Rattle.laws.specs.Lists.{set-below}
 use Rattle.laws.specs.Maps.{map-length, map-reads}
@@ -26,9 +26,9 @@ use Rattle.theory.specs.Runs.{Fits, not-refused}
 use Rattle.rowset.specs.declared.RowSet.{RowSet}
 use Rattle.rowset.specs.Member.{rowsOf}
 use Rattle.chart.specs.Ready.{setAt, CompiledWith}
-use Rattle.matching.specs.Chosen.{Within, chosenOf, atomicRows}
-use Rattle.matching.specs.Ready.{Prepared}
+use Rattle.matching.specs.Chosen.{listOf, Within, Taken, chosen-length, atomicRows}
 use Rattle.selection.specs.History.{storedAt}
+use Rattle.selection.specs.Routes.{Routed}
 use Rattle.effects.specs.declared.Tally.{Tally}
 use Rattle.effects.specs.Trace.{Wrote}
 use Rattle.microstep.specs.declared.Plan.{Plan}
@@ -36,7 +36,7 @@ use Rattle.microstep.specs.Stored.{StoreReady, RoundReady}
 use Rattle.microstep.specs.Plan.{Planned, PlanReady, planEffects, plan-effects, plan-next, next-within}
 use Rattle.microstep.specs.Words.{historyRows, isStoring, HistoryStored, words-after}
 use Rattle.legality.specs.Rows.{RowsReady}
-use Rattle.queue.specs.Queues.{queueBytes, queueOf}
+use Rattle.queue.specs.Queues.{queueBytes, queueOf, queue-waits}
 use Rattle.state.specs.declared.State.{State}
 use Rattle.state.specs.State.{Holds, stateOf, historyWords}
 use Rattle.state.specs.Words as words
@@ -44,13 +44,13 @@ use Rattle.state.specs.Found.{stored-set, queue-again, history-is}
 use Rattle.events.specs.declared.Source.{Source}
 use Rattle.events.specs.declared.Source.the-variants.{Nothing, Eventless, Internal, External}
 use Rattle.events.specs.declared.Choice.{Choice}
-use Rattle.events.specs.Rounds.{Chooses, internalAfter, externalAfter, internalBytes, externalBytes, roundBy, queuedNames, EntriesIn}
+use Rattle.events.specs.Rounds.{Lookup, Chooses, Waits, internalAfter, externalAfter, internalBytes, externalBytes, roundBy, queuedNames, EntriesIn}
 use Rattle.events.specs.Left.{internalLeft, externalLeft, QueueIs, EventLeft, event-left}
 use Rattle.events.specs.Entries.{EntriesOf, round-entries}
-use Rattle.events.specs.Choosing.{conf-within, history-size, internal-size, external-size}
+use Rattle.events.specs.Choosing.{conf-within, history-size}
 use Rattle.rounds.specs.declared.Outcome.the-variants.{Did}
 use Rattle.rounds.specs.Turns.{Turned, turned-did}
-use Rattle.rounds.specs.Traces.{nothing, wrote-entries, wrote-trace, wrote-fit, wrote-front, wrote-size}
+use Rattle.rounds.specs.Traces.{nothing, Drafted, wrote-entries, wrote-trace, wrote-fit, wrote-front, wrote-size}
 use Rattle.rounds.specs.Judging.{LeavesInternal, LeavesExternal}
 
 -- the state that the parts spell
@@ -61,8 +61,8 @@ abbrev pub HoldsAt : List ℕ → State → List ℕ → List ℕ → List ℕ �
 HoldsAt chart s history internal external = Holds (chartOf chart) (spelled chart s history internal external) s history internal external
 
 -- what is worked out of a chart once
-pub record Given (chart names starts : List ℕ) (atoms histories : RowSet) : Type 0 where
-  pub prepared : Prepared chart names starts atoms
+pub record Given (chart names starts domains : List ℕ) (atoms eventless histories : RowSet) : Type 0 where
+  pub looked : Lookup chart names starts domains atoms eventless
   pub stores : rowsOf histories ≡ historyRows (chartOf chart)
 
 -- ---- the definition's round that takes these transitions
@@ -88,22 +88,40 @@ round-did External c names f ts n = refl
 
 -- ---- a round that is to be done
 
+-- these transitions were chosen, for an event from there
+pub record Picked (c : Chart) (names : Names) (f : Follower) (hist : History) (ts : List ℕ) (r : Choice) : Type 0 where
+  pub is : roundIn Running c names f ≡ roundBy (r .source) c names f ts
+  pub exits : rowsOf (r .selected .exits) ≡ exits c (f .configuration) hist ts
+  pub fits : Taken (c .transitions) ts
+  pub internal : r .source ≡ Internal → f .internal ≡ [] → ⊥
+  pub external : r .source ≡ External → f .external ≡ [] → ⊥
+
+pub picked-first : (c : Chart) (names : Names) (f : Follower) (hist : History) (items : List ℕ) (r : Choice) → Chooses c names f hist items r → Picked c names f hist (listOf items (r .selected .len)) r
+picked-first c names f hist items r h = record {
+  is = h .is;
+  exits = h .selected .exits;
+  fits = record { most = let e = chosen-length (c .transitions) items (r .selected .len) (h .selected .fits) in let m = h .selected .fits .most in omega arith; inside = h .selected .fits .inside };
+  internal = h .internal;
+  external = h .external;
+}
+
 -- the choice that is to be carried out
-pub record HasChosen (chart names : List ℕ) (atoms histories : RowSet) (s : State) (history internal external : List ℕ) (choice : Choice) : Type 0 where
+pub record HasChosen (chart names domains : List ℕ) (atoms histories : RowSet) (s : State) (history internal external : List ℕ) (choice : Choice) (ts : List ℕ) : Type 0 where
   pub compiled : CompiledWith chart names
+  pub routed : Routed (chartOf chart) domains
   pub atomic : rowsOf atoms ≡ atomicRows (chartOf chart)
   pub stores : rowsOf histories ≡ historyRows (chartOf chart)
   pub holds : HoldsAt chart s history internal external
-  pub chooses : Chooses (chartOf chart) (nameAt names) (spelled chart s history internal external) (storedAt history) choice
+  pub chooses : Picked (chartOf chart) (nameAt names) (spelled chart s history internal external) (storedAt history) ts choice
   pub some : choice .source ≡ Nothing → ⊥
 
 -- with its plan, and not refused
-pub record Decided (chart names : List ℕ) (atoms histories : RowSet) (s : State) (history internal external : List ℕ) (choice : Choice) (plan : Plan) (room : ℕ) : Type 0 where
-  pub chosen : HasChosen chart names atoms histories s history internal external choice
-  pub planned : Planned (chartOf chart) (rowsOf (s .configuration)) (storedAt history) (chosenOf (choice .selected .chosen)) plan
+pub record Decided (chart names domains : List ℕ) (atoms histories : RowSet) (s : State) (history internal external : List ℕ) (choice : Choice) (ts : List ℕ) (plan : Plan) (room : ℕ) : Type 0 where
+  pub chosen : HasChosen chart names domains atoms histories s history internal external choice ts
+  pub planned : Planned (chartOf chart) (rowsOf (s .configuration)) (storedAt history) ts plan
   pub ready : PlanReady chart plan
-  pub goes : refusal room (nextBy (choice .source) (chartOf chart) (nameAt names) (spelled chart s history internal external) (chosenOf (choice .selected .chosen)))
-      (roundEffects (chartOf chart) (spelled chart s history internal external) (chosenOf (choice .selected .chosen))) ≡ none
+  pub goes : refusal room (nextBy (choice .source) (chartOf chart) (nameAt names) (spelled chart s history internal external) ts)
+      (roundEffects (chartOf chart) (spelled chart s history internal external) ts) ≡ none
 
 some-name : (queue : List Name) (n : ℕ) → n ≡ length queue → (queue ≡ [] → ⊥) → 0 < n
 some-name [] n e z = absurd (z refl)
@@ -185,16 +203,13 @@ module _ (chart names : List ℕ) (k : CompiledWith chart names) (f : Follower) 
 
 -- ---- what is decided is written
 
-module _ (chart names : List ℕ) (atoms histories : RowSet) (s : State) (history internal external : List ℕ) (choice : Choice) (plan : Plan) (room : ℕ)
-    (d : Decided chart names atoms histories s history internal external choice plan room) where
-  abbrev g : HasChosen chart names atoms histories s history internal external choice
+module _ (chart names domains : List ℕ) (atoms histories : RowSet) (s : State) (history internal external : List ℕ) (choice : Choice) (ts : List ℕ) (plan : Plan) (room : ℕ)
+    (d : Decided chart names domains atoms histories s history internal external choice ts plan room) where
+  abbrev g : HasChosen chart names domains atoms histories s history internal external choice ts
   g = d .chosen
 
   abbrev source : Source
   source = choice .source
-
-  abbrev ts : List ℕ
-  ts = chosenOf (choice .selected .chosen)
 
   abbrev f : Follower
   f = spelled chart s history internal external
@@ -223,7 +238,7 @@ module _ (chart names : List ℕ) (atoms histories : RowSet) (s : State) (histor
   entered : EntriesOf chart names es
   entered =
       round-entries chart names (g .compiled) (f .configuration) (storedIn (f .history)) ts
-      (subst (Within (rowCount chart)) (g .holds .spells .configuration) within) (g .chooses .selected .fits .inside)
+      (subst (Within (rowCount chart)) (g .holds .spells .configuration) within) (g .chooses .fits .inside)
 
   pub internal-leaves : LeavesInternal source (s .internal)
   internal-leaves = leaves-internal chart names (g .compiled) f s history internal external (g .holds) source (g .chooses .internal)
@@ -231,8 +246,18 @@ module _ (chart names : List ℕ) (atoms histories : RowSet) (s : State) (histor
   pub external-leaves : LeavesExternal source (s .external)
   external-leaves = leaves-external chart names (g .compiled) f s history internal external (g .holds) source (g .chooses .external)
 
-  pub queue-sizes : (length internal ≡ 2048) × (length external ≡ 2048)
-  queue-sizes = (internal-size chart names (g .compiled) f s history internal external (g .holds), external-size chart names (g .compiled) f s history internal external (g .holds))
+  -- a queue that the event comes from has a name
+  pub event-waits : Waits source internal external (s .internal) (s .external)
+  event-waits =
+      let h = g .holds in
+      let a = h .formed .internalShort in
+      let b = h .formed .externalShort in
+      let n = h .spells .internalCount in
+      let m = h .spells .externalCount in
+      record {
+        inner = λ e. queue-waits internal (f .internal) (s .internal) (h .spells .internalIs) n (internal-leaves .some e) (omega arith);
+        outer = λ e. queue-waits external (f .external) (s .external) (h .spells .externalIs) m (external-leaves .some e) (omega arith);
+      }
 
   pub stores-ready : StoreReady chart atoms (s .configuration) × (rowsOf histories ≡ historyRows (chartOf chart)) × (length history ≡ 1024)
   stores-ready = (record { ready = g .compiled .ready; atomic = g .atomic; inside = within }, g .stores, history-size chart names (g .compiled) f s history internal external (g .holds))
@@ -241,6 +266,10 @@ module _ (chart names : List ℕ) (atoms histories : RowSet) (s : State) (histor
   next-ready r e =
       let w : Within (rowCount chart) (rowsOf r) = rw e (next-within chart (rowsOf (s .configuration)) (storedAt history) ts plan within (d .planned) (d .ready)) in
       record { ready = g .compiled .ready; inside = w .at }
+
+  -- the entries that were drafted have room
+  pub draft-fits : (draft : List ℕ) (t : Tally) → Drafted draft t (planEffects (chartOf chart) plan ts) → t .entries ≤ room
+  draft-fits draft t w = let l = fits .roomy in let e = w .wrote .entries in let n = ap {B = ℕ} length shown in omega arith
 
   module _ (old new : List ℕ) (t : Tally) (size : length old ≡ room) (w : Wrote old new nothing t (planEffects (chartOf chart) plan ts)) where
     wrote : Wrote old new nothing t es

@@ -1,14 +1,15 @@
 -- The trace after effects were written: into it from its beginning, or into the part behind the entries that are there.
 use mathlib.Core.Path.{_≡_, sym, ap, _∙_}
-use mathlib.Core.List.{List, _++_, map, map-append, append-assoc, append-nil}
-use Prim.Native.Nat.{ℕ, _+_, _-_, _≤_}
+use mathlib.Core.List.{List, [], _∷_, _++_, map, map-append, append-assoc, append-nil}
+use Prim.Native.Nat.{ℕ, suc, _+_, _-_, _≤_, _<_}
+use native.Mathlib.Numerals.{add-one}
 use native.Mathlib.Nat.{zero-add}
 use native.Mathlib.Omega.{arith}
-use lib.ListN.{length, take, drop, length-append, length-map, length-drop}
-use lib.Seq.{take-at, take-all, drop-at, drop-drop, drop-length, length-take-le}
+use lib.ListN.{length, getD, take, drop, set, length-append, length-map, length-drop}
+use lib.Seq.{take-at, take-all, take-suc, drop-cons, set-at, drop-at, drop-drop, drop-length, length-take-le}
 use Rattle.definition.specs.Microstep.{Effect, traceNo}
 use Rattle.effects.specs.declared.Tally.{Tally}
-use Rattle.effects.specs.Trace.{overwrite-inside, Wrote}
+use Rattle.effects.specs.Trace.{allQueues, overwrite-length, overwrite-inside, Wrote}
 use Rattle.state.specs.State.{traceWith}
 
 -- nothing counted yet
@@ -42,6 +43,50 @@ module _ (old new : List ℕ) (t : Tally) (es : List Effect) (l : length es ≤ 
 
   pub wrote-size : t .entries ≡ length (take (t .entries) new)
   wrote-size = wrote-entries ∙ sym (ap {B = ℕ} length wrote-front ∙ length-map es traceNo)
+
+-- ---- a draft: these effects were written into a place of its own, as far as it goes
+
+pub record Drafted (draft : List ℕ) (t : Tally) (es : List Effect) : Type 0 where
+  pub before : List ℕ
+  pub wrote : Wrote before draft nothing t es
+
+-- n entries are there, and find room
+pub record EntriesFit (draft : List ℕ) (n : ℕ) (trace : List ℕ) : Type 0 where
+  pub there : n ≤ length draft
+  pub room : n ≤ length trace
+
+-- copied one after the other
+module _ (draft old new : List ℕ) (i : ℕ) (so-far : new ≡ take i draft ++ drop i old) where
+  pub copy-turn : i < length draft → i < length old → set new i (getD draft i 0) ≡ take (i + 1) draft ++ drop (i + 1) old
+  copy-turn l m =
+      let size : length (take i draft) ≡ i = length-take-le i draft (omega arith) in
+      rw (so-far, drop-cons old i 0 m, set-at (take i draft) (getD old i 0) (drop (suc i) old) (getD draft i 0) i size, add-one i, take-suc draft i 0 l)
+      (sym (append-assoc (take i draft) (getD draft i 0 ∷ []) (drop (suc i) old)))
+
+  pub copy-length : i ≤ length draft → i ≤ length old → length new ≡ length old
+  copy-length l m = ap length so-far ∙ omega (arith, length-append (take i draft) (drop i old), length-take-le i draft l, length-drop i old)
+
+  pub copy-done : (n : ℕ) → i ≡ n → new ≡ take n draft ++ drop n old
+  copy-done n e = so-far ∙ ap (λ (k : ℕ). take k draft ++ drop k old) e
+
+pub drafted-counted : (draft : List ℕ) (t : Tally) (es : List Effect) → Drafted draft t es → (t .entries ≡ length es) × (t .names ≡ allQueues es)
+drafted-counted draft t es h = (h .wrote .entries ∙ zero-add (length es), h .wrote .names ∙ zero-add (allQueues es))
+
+-- a draft that is whole is copied
+pub draft-copied : (draft old new : List ℕ) (t : Tally) (es : List Effect) → Drafted draft t es → t .entries ≤ length draft → t .entries ≤ length old →
+    new ≡ take (t .entries) draft ++ drop (t .entries) old → Wrote old new nothing t es
+draft-copied draft old new t es h l m e =
+    let n = drafted-counted draft t es h .0 in
+    let size : length (h .before) ≡ length draft = sym (ap length (h .wrote .trace) ∙ overwrite-length (h .before) 0 (map traceNo es)) in
+    let fits : length es ≤ length (h .before) = omega arith in
+    let front : take (t .entries) draft ≡ map traceNo es = wrote-front (h .before) draft t es fits (h .wrote) in
+    let k = length-map es traceNo in
+    let z : 0 + length (map traceNo es) ≡ t .entries = omega arith in
+    record {
+      entries = h .wrote .entries;
+      names = h .wrote .names;
+      trace = e ∙ ap (λ (xs : List ℕ). xs ++ drop (t .entries) old) front ∙ sym (overwrite-inside old 0 (map traceNo es) (omega arith) ∙ ap (λ (j : ℕ). map traceNo es ++ drop j old) z);
+    }
 
 -- es, then fs
 pub trace-both : (old : List ℕ) (es fs : List Effect) → traceWith old (es ++ fs) ≡ map traceNo es ++ traceWith (drop (length es) old) fs

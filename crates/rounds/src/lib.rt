@@ -1,28 +1,29 @@
 // Rounds over the lent parts of a session. A round is worked out whole and counted; 7 and 10 are judged; then history, queues and trace
 // are written. A refused round changes nothing, since nothing was written.
 ghost use mathlib.Core.Path.{_≡_};
-ghost use mathlib.Core.List.{[]};
+ghost use mathlib.Core.List.{[], _++_};
 ghost use Prim.Native.Nat.{_+_, _≤_};
 ghost use lib.Dec.{ltb};
-ghost use lib.ListN.{length, replicate};
+ghost use lib.ListN.{length, take, drop, replicate};
 ghost use Rattle.definition.specs.declared.Mode.the-variants.{Running};
 ghost use Rattle.definition.specs.Tables.{rowCount, transitionCount, nameAt, chartOf};
 ghost use Rattle.definition.specs.Microstep.{exiting, entering};
 ghost use Rattle.definition.specs.Follower.{modeOf, roundIn, round, refusalIf, restStatus, start, run};
 ghost use Rattle.rowset.specs.Member.{rowsOf};
 ghost use Rattle.chart.specs.Ready.{Ready, CompiledWith};
-ghost use Rattle.matching.specs.Chosen.{Within, ChosenIn, chosenOf};
-ghost use Rattle.matching.specs.Ready.{Prepared};
+ghost use Rattle.matching.specs.Chosen.{Within, Taken};
+ghost use Rattle.effects.specs.Trace.{Wrote};
 ghost use Rattle.microstep.specs.Entry.{enteredAs};
 ghost use Rattle.microstep.specs.Plan.{PlanReady, planEffects};
 ghost use Rattle.legality.specs.Rows.{RowsReady};
 ghost use Rattle.state.specs.State.{stateOf, Holds};
-ghost use Rattle.events.specs.Rounds.{roundBy};
+ghost use Rattle.events.specs.Rounds.{Lookup, roundBy};
 ghost use Rattle.events.specs.Left.{internalLeft, externalLeft};
 ghost use Rattle.rounds.specs.Calls.{RunDone, StartDone};
 ghost use Rattle.rounds.specs.Turns.{judged, statusOf, untouched, Turned};
 ghost use Rattle.rounds.specs.Judging.{Counted, LeavesInternal, LeavesExternal};
 ghost use Rattle.rounds.specs.Taking.{spelled, HoldsAt, Given, HasChosen, Decided};
+ghost use Rattle.rounds.specs.Traces.{nothing, Drafted, EntriesFit};
 ghost use Rattle.rounds.specs.Closing.{IsEnded, Closed};
 use definition::Answer;
 use definition::Mode;
@@ -30,7 +31,6 @@ use definition::Status;
 use effects::Tally;
 use events::Choice;
 use events::Source;
-use matching::Chosen;
 use microstep::Entered;
 use microstep::Plan;
 use rowset::RowSet;
@@ -93,19 +93,14 @@ fn judge(kept: u64, tally: Tally, room: usize) -> Outcome
     Outcome::Did
 }
 
-// A round is counted with no trace to write into, and written from the beginning of what is lent to it.
+// A round of a running session is drafted first; one with more entries than this is worked out twice.
+const DRAFT: usize = 512;
+
+// A start and a closing round are counted with no trace to write into; all are written from the beginning of what is lent to them.
 const NOTHING: Tally = Tally {
     entries: 0,
     names: 0,
 };
-
-fn count_round(chart: &[u64], plan: Plan, chosen: Chosen) -> Tally
-    requires { ⌜ PlanReady (now chart) plan × ChosenIn (transitionCount (now chart)) chosen ⌝ }
-    ensures { λ t. ⌜ Counted t (planEffects (chartOf (now (chart .entry))) plan (chosenOf chosen)) ⌝ }
-{
-    let mut none = [0u32; 0];
-    microstep::plan_effects(chart, plan, chosen, &mut none, NOTHING)
-}
 
 fn count_closing(chart: &[u64], conf: RowSet) -> Tally
     requires { ⌜ Ready (now chart) × Within (rowCount (now chart)) (rowsOf conf) ⌝ }
@@ -157,32 +152,66 @@ fn mode_of(chart: &[u64], conf: RowSet) -> Mode
     Mode::Running
 }
 
+// The first n entries of the draft, which are all of them, into the trace.
+fn copy_entries(draft: &[u32], n: usize, trace: &mut [u32])
+    requires { ⌜ EntriesFit (now draft) n (now trace) ⌝ }
+    ensures { λ _. ⌜ now (trace .exit) ≡ take n (now (draft .entry)) ++ drop n (now (trace .entry)) ⌝ }
+{
+    let mut i = 0;
+    while i < n {
+        trace[i] = draft[i];
+        i += 1;
+    }
+}
+
+// The effects that were drafted, into the trace. Those that the draft had no room for are worked out again.
+fn show_plan(
+    chart: &[u64],
+    plan: Plan,
+    chosen: &[u16],
+    draft: &[u32],
+    tally: Tally,
+    trace: &mut [u32],
+) -> Tally
+    requires { ⌜ PlanReady (now chart) plan × Taken (transitionCount (now chart)) (now chosen) × Drafted (now draft) tally (planEffects (chartOf (now chart)) plan (now chosen)) × (tally .entries ≤ length (now trace)) ⌝ }
+    ensures { λ t. ⌜ Wrote (now (trace .entry)) (now (trace .exit)) nothing t (planEffects (chartOf (now (chart .entry))) plan (now (chosen .entry))) ⌝ }
+{
+    let n = tally.entries;
+    if (draft.len() as u64) < n {
+        return microstep::plan_effects(chart, plan, chosen, trace, NOTHING);
+    }
+    copy_entries(draft, n as usize, trace);
+    tally
+}
+
 // What was decided is written: trace, queues, stored history, and the next state.
 fn write_round(
     chart: &[u64],
     names: &[u8],
+    domains: &[u16],
     atoms: RowSet,
     histories: RowSet,
     state: State,
     choice: Choice,
+    chosen: &[u16],
     plan: Plan,
+    draft: &[u32],
+    drafted: Tally,
     history: &mut [u64],
     internal: &mut [u8],
     external: &mut [u8],
     trace: &mut [u32],
 ) -> Turn
-    requires { ⌜ Decided (now chart) (now names) atoms histories state (now history) (now internal) (now external) choice plan (length (now trace)) ⌝ }
-    ensures { λ r. ⌜ Turned (roundBy (choice .source) (chartOf (now (chart .entry))) (nameAt (now (names .entry))) (spelled (now (chart .entry)) state (now (history .entry)) (now (internal .entry)) (now (external .entry))) (chosenOf (choice .selected .chosen))) (spelled (now (chart .entry)) state (now (history .entry)) (now (internal .entry)) (now (external .entry))) r (now (history .exit)) (now (internal .exit)) (now (external .exit)) (now (trace .entry)) (now (trace .exit)) ⌝ }
+    requires { ⌜ Decided (now chart) (now names) (now domains) atoms histories state (now history) (now internal) (now external) choice (now chosen) plan (length (now trace)) × Drafted (now draft) drafted (planEffects (chartOf (now chart)) plan (now chosen)) ⌝ }
+    ensures { λ r. ⌜ Turned (roundBy (choice .source) (chartOf (now (chart .entry))) (nameAt (now (names .entry))) (spelled (now (chart .entry)) state (now (history .entry)) (now (internal .entry)) (now (external .entry))) (now (chosen .entry))) (spelled (now (chart .entry)) state (now (history .entry)) (now (internal .entry)) (now (external .entry))) r (now (history .exit)) (now (internal .exit)) (now (external .exit)) (now (trace .entry)) (now (trace .exit)) ⌝ }
 {
     let source = choice.source;
-    let selected = choice.selected;
-    let chosen = selected.chosen;
     let conf = state.configuration;
     let out = plan.out;
     let kept = internal_left(source, state.internal);
-    let tally = microstep::plan_effects(chart, plan, chosen, trace, NOTHING);
+    let tally = show_plan(chart, plan, chosen, draft, drafted, trace);
     let count = tally.entries as usize;
-    events::take_event(source, internal, external);
+    events::take_event(source, internal, external, state.internal, state.external);
     let waiting = events::queue_names(chart, names, &trace[..count], internal, kept);
     microstep::store(chart, atoms, histories, conf, out, history);
     let next = microstep::next_configuration(plan);
@@ -202,37 +231,44 @@ fn write_round(
 fn carry_out(
     chart: &[u64],
     names: &[u8],
+    domains: &[u16],
     atoms: RowSet,
     histories: RowSet,
     state: State,
     choice: Choice,
+    chosen: &[u16],
     history: &mut [u64],
     internal: &mut [u8],
     external: &mut [u8],
+    draft: &mut [u32],
     trace: &mut [u32],
 ) -> Turn
-    requires { ⌜ HasChosen (now chart) (now names) atoms histories state (now history) (now internal) (now external) choice ⌝ }
+    requires { ⌜ HasChosen (now chart) (now names) (now domains) atoms histories state (now history) (now internal) (now external) choice (now chosen) ⌝ }
     ensures { λ r. ⌜ Turned (roundIn Running (chartOf (now (chart .entry))) (nameAt (now (names .entry))) (spelled (now (chart .entry)) state (now (history .entry)) (now (internal .entry)) (now (external .entry)))) (spelled (now (chart .entry)) state (now (history .entry)) (now (internal .entry)) (now (external .entry))) r (now (history .exit)) (now (internal .exit)) (now (external .exit)) (now (trace .entry)) (now (trace .exit)) ⌝ }
 {
     let source = choice.source;
     let selected = choice.selected;
-    let chosen = selected.chosen;
     let out = selected.exits;
     let conf = state.configuration;
-    let plan = microstep::plan_round(chart, atoms, conf, history, chosen, out);
+    let plan = microstep::plan_round(chart, domains, atoms, conf, history, chosen, out);
     let kept = internal_left(source, state.internal);
-    let outcome = judge(kept, count_round(chart, plan, chosen), trace.len());
+    let tally = microstep::plan_effects(chart, plan, chosen, draft, NOTHING);
+    let outcome = judge(kept, tally, trace.len());
     let Outcome::Did = outcome else {
         return unchanged(state, outcome);
     };
     write_round(
         chart,
         names,
+        domains,
         atoms,
         histories,
         state,
         choice,
+        chosen,
         plan,
+        draft,
+        tally,
         history,
         internal,
         external,
@@ -244,41 +280,53 @@ fn take(
     chart: &[u64],
     names: &[u8],
     starts: &[u16],
+    domains: &[u16],
     atoms: RowSet,
+    eventless: RowSet,
     histories: RowSet,
     state: State,
     history: &mut [u64],
     internal: &mut [u8],
     external: &mut [u8],
+    items: &mut [u16],
+    draft: &mut [u32],
     trace: &mut [u32],
 ) -> Turn
-    requires { ⌜ Given (now chart) (now names) (now starts) atoms histories × HoldsAt (now chart) state (now history) (now internal) (now external) ⌝ }
+    requires { ⌜ Given (now chart) (now names) (now starts) (now domains) atoms eventless histories × HoldsAt (now chart) state (now history) (now internal) (now external) × (length (now items) ≡ 256) ⌝ }
     ensures { λ r. ⌜ Turned (roundIn Running (chartOf (now (chart .entry))) (nameAt (now (names .entry))) (spelled (now (chart .entry)) state (now (history .entry)) (now (internal .entry)) (now (external .entry)))) (spelled (now (chart .entry)) state (now (history .entry)) (now (internal .entry)) (now (external .entry))) r (now (history .exit)) (now (internal .exit)) (now (external .exit)) (now (trace .entry)) (now (trace .exit)) ⌝ }
 {
     let choice = events::choose(
         chart,
         names,
         starts,
+        domains,
         atoms,
+        eventless,
         state,
         history,
         internal,
         external,
+        items,
     );
     let source = choice.source;
     if let Source::Nothing = source {
         return unchanged(state, Outcome::Idle);
     }
+    let selected = choice.selected;
+    let n = selected.len;
     carry_out(
         chart,
         names,
+        domains,
         atoms,
         histories,
         state,
         choice,
+        &items[..n],
         history,
         internal,
         external,
+        draft,
         trace,
     )
 }
@@ -330,15 +378,19 @@ fn round(
     chart: &[u64],
     names: &[u8],
     starts: &[u16],
+    domains: &[u16],
     atoms: RowSet,
+    eventless: RowSet,
     histories: RowSet,
     state: State,
     history: &mut [u64],
     internal: &mut [u8],
     external: &mut [u8],
+    items: &mut [u16],
+    draft: &mut [u32],
     trace: &mut [u32],
 ) -> Turn
-    requires { ⌜ Given (now chart) (now names) (now starts) atoms histories × HoldsAt (now chart) state (now history) (now internal) (now external) ⌝ }
+    requires { ⌜ Given (now chart) (now names) (now starts) (now domains) atoms eventless histories × HoldsAt (now chart) state (now history) (now internal) (now external) × (length (now items) ≡ 256) ⌝ }
     ensures { λ r. ⌜ Turned (round (chartOf (now (chart .entry))) (nameAt (now (names .entry))) (spelled (now (chart .entry)) state (now (history .entry)) (now (internal .entry)) (now (external .entry)))) (spelled (now (chart .entry)) state (now (history .entry)) (now (internal .entry)) (now (external .entry))) r (now (history .exit)) (now (internal .exit)) (now (external .exit)) (now (trace .entry)) (now (trace .exit)) ⌝ }
 {
     let mode = state.mode;
@@ -347,12 +399,16 @@ fn round(
             chart,
             names,
             starts,
+            domains,
             atoms,
+            eventless,
             histories,
             state,
             history,
             internal,
             external,
+            items,
+            draft,
             trace,
         ),
         Mode::Closing => close(chart, state, internal, external, trace),
@@ -408,13 +464,16 @@ fn rest_status(
     chart: &[u64],
     names: &[u8],
     starts: &[u16],
+    domains: &[u16],
     atoms: RowSet,
+    eventless: RowSet,
     state: State,
     history: &[u64],
     internal: &[u8],
     external: &[u8],
+    items: &mut [u16],
 ) -> Status
-    requires { ⌜ Prepared (now chart) (now names) (now starts) atoms × HoldsAt (now chart) state (now history) (now internal) (now external) ⌝ }
+    requires { ⌜ Lookup (now chart) (now names) (now starts) (now domains) atoms eventless × HoldsAt (now chart) state (now history) (now internal) (now external) × (length (now items) ≡ 256) ⌝ }
     ensures { λ s. ⌜ s ≡ restStatus (round (chartOf (now (chart .entry))) (nameAt (now (names .entry))) (spelled (now (chart .entry)) state (now (history .entry)) (now (internal .entry)) (now (external .entry)))) ⌝ }
 {
     let mode = state.mode;
@@ -426,11 +485,14 @@ fn rest_status(
                 chart,
                 names,
                 starts,
+                domains,
                 atoms,
+                eventless,
                 state,
                 history,
                 internal,
                 external,
+                items,
             );
             let source = choice.source;
             if let Source::Nothing = source {
@@ -458,6 +520,10 @@ pub fn run(
     let index = matching::index_of(chart);
     let atoms = matching::atomic_rows(chart);
     let histories = microstep::history_rows(chart);
+    let eventless = matching::eventless_rows(chart);
+    let routes = selection::routes_of(chart);
+    let mut items = [0u16; 256];
+    let mut draft = [0u32; DRAFT];
     let mut s = state;
     let mut done: u32 = 0;
     let mut count: usize = 0;
@@ -466,12 +532,16 @@ pub fn run(
             chart,
             names,
             &index.starts,
+            &routes.domains,
             atoms,
+            eventless,
             histories,
             s,
             history,
             internal,
             external,
+            &mut items,
+            &mut draft,
             &mut trace[count..],
         );
         s = turn.state;
@@ -491,11 +561,14 @@ pub fn run(
         chart,
         names,
         &index.starts,
+        &routes.domains,
         atoms,
+        eventless,
         s,
         history,
         internal,
         external,
+        &mut items,
     );
     Progress {
         state: s,

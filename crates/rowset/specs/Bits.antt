@@ -203,11 +203,9 @@ pub leading-small : (v : ℕ) → 0 < v → v < 2 ^ 64 → leadingZeros 64 v ≤
 leading-small v p h = omega (arith, leading-top 64 v p h .1)
 
 -- what `high_below` finds: the highest bit of those of w below b
-module _ (w b v : ℕ) (e : v ≡ bitAnd w (2 ^ min b 64 - 1)) (b64 : b ≤ 64) where
+module _ (w b v : ℕ) (e : v ≡ bitAnd w (2 ^ b - 1)) where
   masked : (i : ℕ) → bit v i ≡ (bit w i && ltb i b)
-  masked i =
-      let m : min b 64 ≡ b = omega arith in
-      ap (λ (x : ℕ). bit x i) e ∙ bit-and w (2 ^ min b 64 - 1) i ∙ ap (λ (x : Bool). bit w i && x) (bit-ones (min b 64) i ∙ ap (ltb i) m)
+  masked i = ap (λ (x : ℕ). bit x i) e ∙ bit-and w (2 ^ b - 1) i ∙ ap (λ (x : Bool). bit w i && x) (bit-ones b i)
 
   below : (i : ℕ) → i < b → bit v i ≡ bit w i
   below i l = masked i ∙ ap (λ (x : Bool). bit w i && x) (lt-ltb i b l) ∙ and-one (bit w i)

@@ -179,12 +179,15 @@ single-row xs up r e = rw (first-row xs up r e) (ap isEmpty (minus-head (r .0) (
 pub record Clear (s : RowSet) (lo hi : ℕ) : Type 0 where
   pub none : (m : ℕ) → lo ≤ m → m < hi → member s m ≡ false
 
-pub clear-in : (s : RowSet) (lo hi lo′ hi′ : ℕ) → Clear s lo hi → lo ≤ lo′ → hi′ ≤ hi → Clear s lo′ hi′
+clear-in : (s : RowSet) (lo hi lo′ hi′ : ℕ) → Clear s lo hi → lo ≤ lo′ → hi′ ≤ hi → Clear s lo′ hi′
 clear-in s lo hi lo′ hi′ f a b = record { none = λ m l h. f .none m (omega arith) (omega arith) }
 
+pub clear-none : (s : RowSet) (lo hi : ℕ) → hi ≤ lo → Clear s lo hi
+clear-none s lo hi e = record { none = λ m l h. absurd (omega arith) }
+
 -- no row is past 255
-pub past-clear : (s : RowSet) (lo k : ℕ) → min k 256 ≤ lo → Clear s lo k
-past-clear s lo k e = record { none = λ m l h. member-past s m (omega arith) }
+pub clear-top : (s : RowSet) (k : ℕ) → Clear s 256 k
+clear-top s k = record { none = λ m l h. member-past s m l }
 
 clear-join : (s : RowSet) (a b d : ℕ) → Clear s a b → Clear s b d → Clear s a d
 clear-join s a b d f g = record { none = λ m l h. lt-case m b (λ u. f .none m l u) (λ u. g .none m u h) }
@@ -198,39 +201,48 @@ clear-word s q w lo hi e u f = record {
 clear-rows : (s : RowSet) (lo hi : ℕ) → Clear s lo hi → (m : ℕ) → lo ≤ m → m < hi → mem m (rowsOf s) ≡ false
 clear-rows s lo hi f m l h = mem-rows s m ∙ f .none m l h
 
--- upward: none from k up to bit j of word q, in which b is the next bit
-module _ (s : RowSet) (k q j b w : ℕ) (past : Clear s k (q * 64 + j)) (e : w ≡ wordOf s q) (low : LowFrom w j b) where
-  pub up-clear : Clear s k (q * 64 + b)
-  up-clear = clear-join s k (q * 64 + j) (q * 64 + b) past (clear-word s q w j b e (low .most) (low .clear))
+-- upward: none from k up to word q, in which b is the next bit from k on
+module _ (s : RowSet) (k q j b w : ℕ) (past : Clear s k (q * 64)) (e : w ≡ wordOf s q) (at : j ≡ k - q * 64) (low : LowFrom w j b) where
+  up-start : Clear s k (q * 64 + j)
+  up-start = record { none = λ m l h. lt-case m (q * 64) (past .none m l) (λ u. absurd (omega arith)) }
 
-  pub up-found : k ≤ q * 64 + j → b < 64 → At (record { 0 = q * 64 + b }) ≡ nextIn (rowsOf s) k
-  up-found l h =
+  up-clear : Clear s k (q * 64 + b)
+  up-clear = clear-join s k (q * 64 + j) (q * 64 + b) up-start (clear-word s q w j b e (low .most) (low .clear))
+
+  pub up-past : 64 ≤ b → Clear s k (q * 64 + 64)
+  up-past h = clear-in s k (q * 64 + b) k (q * 64 + 64) up-clear (omega arith) (omega arith)
+
+  pub up-found : b < 64 → (r : ℕ) → r ≡ q * 64 + b → At (record { 0 = r }) ≡ nextIn (rowsOf s) k
+  up-found h r at′ =
       let jb : j ≤ b = low .least in
-      sym (next-is (rowsOf s) (ascends-rows s) k (q * 64 + b) (record {
+      sym (next-is (rowsOf s) (ascends-rows s) k r (record {
         low = omega arith;
-        here = mem-rows s (q * 64 + b) ∙ member-at s q b h ∙ ap (λ (x : ℕ). bit x b) (sym e) ∙ low .set h;
-        none = clear-rows s k (q * 64 + b) up-clear;
+        here = mem-rows s r ∙ ap (member s) at′ ∙ member-at s q b h ∙ ap (λ (x : ℕ). bit x b) (sym e) ∙ low .set h;
+        none = λ m l u. clear-rows s k (q * 64 + b) up-clear m l (omega arith);
       }))
 
 pub up-nothing : (s : RowSet) (k n : ℕ) → Clear s k n → 256 ≤ n → Nothing ≡ nextIn (rowsOf s) k
 up-nothing s k n f h = sym (next-none (rowsOf s) k (λ m l. lt-case m n (λ u. clear-rows s k n f m l u) (λ u. mem-rows s m ∙ member-past s m (omega arith))))
 
--- downward: none from bit j of word q up to k; b is the bit before j
-module _ (s : RowSet) (k q j b w : ℕ) (past : Clear s (q * 64 + j) k) (e : w ≡ wordOf s q) (high : HighBelow w j b) (j64 : j ≤ 64) where
-  pub down-clear : 64 ≤ b → Clear s (q * 64) k
-  down-clear h =
+-- downward: none from the word after q up to k; b is the bit of word q before k
+module _ (s : RowSet) (k q j b w : ℕ) (past : Clear s (q * 64 + 64) k) (e : w ≡ wordOf s q) (at : j ≡ min (k - q * 64) 64) (high : HighBelow w j b) where
+  down-start : Clear s (q * 64 + j) k
+  down-start = record { none = λ m l h. lt-case m (q * 64 + 64) (λ u. absurd (omega arith)) (λ u. past .none m u h) }
+
+  pub down-past : 64 ≤ b → Clear s (q * 64) k
+  down-past h =
       let b64 : b ≤ 64 = high .most in
-      let c : Clear s (q * 64 + 0) k = clear-join s (q * 64 + 0) (q * 64 + j) k (clear-word s q w 0 j e j64 (λ i l u. high .clear (omega arith) i u)) past in
+      let c : Clear s (q * 64 + 0) k = clear-join s (q * 64 + 0) (q * 64 + j) k (clear-word s q w 0 j e (omega arith) (λ i l u. high .clear (omega arith) i u)) down-start in
       clear-in s (q * 64 + 0) k (q * 64) k c (omega arith) (omega arith)
 
-  pub down-found : q * 64 + j ≤ k → b < 64 → At (record { 0 = q * 64 + b }) ≡ prevIn (rowsOf s) k
-  down-found l h =
+  pub down-found : b < 64 → (r : ℕ) → r ≡ q * 64 + b → At (record { 0 = r }) ≡ prevIn (rowsOf s) k
+  down-found h r at′ =
       let f = high .set h in
       let bj : b < j = f .0 in
-      let over : Clear s (q * 64 + suc b) k = clear-join s (q * 64 + suc b) (q * 64 + j) k (clear-word s q w (suc b) j e j64 (f .2)) past in
-      sym (prev-is (rowsOf s) (ascends-rows s) k (q * 64 + b) (record {
+      let over : Clear s (q * 64 + suc b) k = clear-join s (q * 64 + suc b) (q * 64 + j) k (clear-word s q w (suc b) j e (omega arith) (f .2)) down-start in
+      sym (prev-is (rowsOf s) (ascends-rows s) k r (record {
         high = omega arith;
-        here = mem-rows s (q * 64 + b) ∙ member-at s q b h ∙ ap (λ (x : ℕ). bit x b) (sym e) ∙ f .1;
+        here = mem-rows s r ∙ ap (member s) at′ ∙ member-at s q b h ∙ ap (λ (x : ℕ). bit x b) (sym e) ∙ f .1;
         none = λ m g u. clear-rows s (q * 64 + suc b) k over m (omega arith) u;
       }))
 

@@ -3,7 +3,7 @@
 use numbers::Row;
 ghost use mathlib.Core.Path.{_≡_};
 ghost use mathlib.Core.List.{[], _∷_};
-ghost use Prim.Native.Nat.{_-_, _^_, _<_, _≤_, min};
+ghost use Prim.Native.Nat.{_-_, _^_, _<_, min};
 ghost use Rattle.definition.specs.Rows.{from, mem, isEmpty, isSingle, insert, union, intersection, minus, meets, subset, same};
 ghost use Rattle.definition.specs.Compiled.{word};
 ghost use Rattle.rowset.specs.Member.{wordOf, rowsOf, nextIn, prevIn, LowFrom, HighBelow};
@@ -155,19 +155,33 @@ impl RowSet {
         (self.w0 == o.w0) & (self.w1 == o.w1) & (self.w2 == o.w2) & (self.w3 == o.w3)
     }
 
-    // The first row at or above k.
+    // The first row at or above k. The four words are written out: a loop would choose the word anew each time.
     pub fn next_from(self, k: u16) -> Found
         ensures { λ f. ⌜ f ≡ nextIn (rowsOf self) k ⌝ }
     {
-        let mut q = k / 64;
-        let mut j = k % 64;
-        while q < 4 {
-            let b = low_from(self.word(q), j);
+        if k < 64 {
+            let b = low_from(self.w0, k);
             if b < 64 {
-                return Found::At(Row((q * 64 + b) as u8));
+                return Found::At(Row(b as u8));
             }
-            q += 1;
-            j = 0;
+        }
+        if k < 128 {
+            let b = low_from(self.w1, less(k, 64));
+            if b < 64 {
+                return Found::At(Row((64 + b) as u8));
+            }
+        }
+        if k < 192 {
+            let b = low_from(self.w2, less(k, 128));
+            if b < 64 {
+                return Found::At(Row((128 + b) as u8));
+            }
+        }
+        if k < 256 {
+            let b = low_from(self.w3, less(k, 192));
+            if b < 64 {
+                return Found::At(Row((192 + b) as u8));
+            }
         }
         Found::Nothing
     }
@@ -176,20 +190,29 @@ impl RowSet {
     pub fn prev_below(self, k: u16) -> Found
         ensures { λ f. ⌜ f ≡ prevIn (rowsOf self) k ⌝ }
     {
-        let t = capped(k);
-        let mut q = t / 64;
-        let mut j = t % 64;
-        loop {
-            let b = high_below(self.word(q), j);
+        if 192 < k {
+            let b = high_below(self.w3, k - 192);
             if b < 64 {
-                return Found::At(Row((q * 64 + b) as u8));
+                return Found::At(Row((192 + b) as u8));
             }
-            if q == 0 {
-                return Found::Nothing;
-            }
-            q -= 1;
-            j = 64;
         }
+        if 128 < k {
+            let b = high_below(self.w2, k - 128);
+            if b < 64 {
+                return Found::At(Row((128 + b) as u8));
+            }
+        }
+        if 64 < k {
+            let b = high_below(self.w1, k - 64);
+            if b < 64 {
+                return Found::At(Row((64 + b) as u8));
+            }
+        }
+        let b = high_below(self.w0, k);
+        if b < 64 {
+            return Found::At(Row(b as u8));
+        }
+        Found::Nothing
     }
 
     pub fn first(self) -> Found
@@ -226,12 +249,6 @@ fn less(n: u16, m: u16) -> u16
     if n < m { 0 } else { n - m }
 }
 
-fn capped(k: u16) -> u16
-    ensures { λ r. ⌜ r ≡ min k 256 ⌝ }
-{
-    if k < 256 { k } else { 256 }
-}
-
 // The word of all bits below k.
 fn ones_below(k: u16) -> u64
     ensures { λ w. ⌜ w ≡ 2 ^ min k 64 - 1 ⌝ }
@@ -256,8 +273,7 @@ fn low_from(w: u64, k: u16) -> u16
 
 // The highest set bit of w below k, and 64 where there is none.
 fn high_below(w: u64, k: u16) -> u16
-    requires { ⌜ k ≤ 64 ⌝ }
-    ensures { λ r. ⌜ HighBelow w k r ⌝ }
+    ensures { λ r. ⌜ HighBelow w (min k 64) r ⌝ }
 {
     let v = w & ones_below(k);
     if v == 0 {

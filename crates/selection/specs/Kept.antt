@@ -1,104 +1,140 @@
--- Kept transitions with the rows that they exit: none, one more, the first of the candidates.
+-- Kept transitions with the rows that they exit, in the first of the items: none, one more, those of a pass over the items themselves.
 use mathlib.Core.Path.{_≡_, refl, sym, ap, _∙_, subst}
-use mathlib.Core.Bool.{Bool, false}
 use mathlib.Core.List.{List, []}
-use Prim.Native.Nat.{ℕ, _+_, _≤_, _<_}
+use Prim.Native.Nat.{ℕ, _+_, _-_, _≤_, _<_}
 use native.Mathlib.Omega.{arith}
-use lib.ListN.{length, getD, set, length-set}
-use Rattle.definition.specs.Rows.{fold, append, union, meets}
+use lib.ListN.{length, getD, drop, set, length-set}
+use lib.Seq.{drop-set-lt, drop-drop, getD-drop}
+use Rattle.definition.specs.Rows.{fold, append, union}
 use Rattle.definition.specs.Chart.{Chart}
-use Rattle.definition.specs.Selection.{History, exitSet, admit, withoutConflicts}
+use Rattle.definition.specs.Selection.{History, exitSet}
 use Rattle.definition.specs.Microstep.{exits}
 use Rattle.laws.specs.Passes.{Walked, walk-begin, walk-turn, walk-done}
 use Rattle.rowset.specs.declared.RowSet.{RowSet}
 use Rattle.rowset.specs.Member.{rowsOf}
-use Rattle.matching.specs.declared.Chosen.{Chosen}
-use Rattle.matching.specs.Chosen.{listOf, chosenOf, list-begin, list-push, list-more, chosen-length, chosen-at, Within, within-none, within-append, within-front, ChosenIn}
+use Rattle.matching.specs.Chosen.{listOf, list-at, list-begin, list-push, chosen-length, chosen-low, Within, within-none, within-append, ChosenIn}
 use Rattle.selection.specs.declared.Selected.{Selected}
-use Rattle.selection.specs.Conflicts.{exits-append, exits-none, admit-last}
-use Rattle.selection.specs.Ready.{IsSelected, Selects, Joined}
+use Rattle.selection.specs.Conflicts.{exits-append, exits-none}
+use Rattle.selection.specs.Ready.{IsSelected, Selects, Joined, Admits, Leaves}
 
-pub joined-is : (kept : Selected) (t : ℕ) (own out : RowSet) → kept .chosen .len < 256 → length (kept .chosen .items) ≡ 256 →
-    rowsOf out ≡ union (rowsOf (kept .exits)) (rowsOf own) →
-    Joined kept t own (record { chosen = record { items = set (kept .chosen .items) (kept .chosen .len) t; len = kept .chosen .len + 1 }; exits = out })
-unfolding chosenOf
-joined-is kept t own out l s e =
-    record { is = list-push (kept .chosen .items) (kept .chosen .len) t (omega arith); exits = e; room = length-set (kept .chosen .items) (kept .chosen .len) t ∙ s; len = refl }
+pub joined-is : (items : List ℕ) (kept : Selected) (t : ℕ) (own out : RowSet) → kept .len < length items →
+    rowsOf out ≡ union (rowsOf (kept .exits)) (rowsOf own) → Joined items kept t own (set items (kept .len) t) (record { len = kept .len + 1; exits = out })
+joined-is items kept t own out l e = record {
+  is = list-push items (kept .len) t l;
+  exits = e;
+  room = length-set items (kept .len) t;
+  len = refl;
+  behind = λ k m. drop-set-lt k items (kept .len) t m;
+}
 
 module _ (c : Chart) (conf : List ℕ) (hist : History) where
   -- the same list, by another name
-  pub selected-as : (xs ys : List ℕ) (r : Selected) → IsSelected c conf hist xs r → xs ≡ ys → IsSelected c conf hist ys r
-  selected-as xs ys r h e = record { is = h .is ∙ e; exits = h .exits ∙ ap (exits c conf hist) e; fits = h .fits }
+  pub selected-as : (xs ys items : List ℕ) (r : Selected) → IsSelected c conf hist xs items r → xs ≡ ys → IsSelected c conf hist ys items r
+  selected-as xs ys items r h e = record { is = h .is ∙ e; exits = h .exits ∙ ap (exits c conf hist) e; fits = h .fits }
 
-  pub selects-of : (xs : List ℕ) (r : Selected) → IsSelected c conf hist xs r → Selects c conf hist r
-  selects-of xs r h = selected-as xs (chosenOf (r .chosen)) r h (sym (h .is))
+  pub selects-of : (xs items : List ℕ) (r : Selected) → IsSelected c conf hist xs items r → Selects c conf hist items r
+  selects-of xs items r h = selected-as xs (listOf items (r .len)) items r h (sym (h .is))
 
-  pub selects-none : (r : Selected) → length (r .chosen .items) ≡ 256 → r .chosen .len ≡ 0 → rowsOf (r .exits) ≡ [] → Selects c conf hist r
-  selects-none r s l e = record {
+  pub selects-none : (items : List ℕ) (r : Selected) → length items ≡ 256 → r .len ≡ 0 → rowsOf (r .exits) ≡ [] → Selects c conf hist items r
+  selects-none items r s l e = record {
     is = refl;
     exits = e ∙ exits-none c conf hist ∙ ap (exits c conf hist) (sym none);
     fits = record { room = s; most = omega arith; inside = subst (Within (c .transitions)) (sym none) (within-none (c .transitions)) };
   }
     where
-      none : chosenOf (r .chosen) ≡ []
-      none = unfold chosenOf listOf in ap (λ (n : ℕ). listOf (r .chosen .items) n) l
+      none : listOf items (r .len) ≡ []
+      none = ap (listOf items) l ∙ list-begin items
 
   -- one more
-  pub joins : (kept r : Selected) (t : ℕ) (own : RowSet) → Selects c conf hist kept → kept .chosen .len < 256 → t < c .transitions →
-      rowsOf own ≡ exitSet c conf hist ((c .transition) t) → Joined kept t own r → IsSelected c conf hist (append (chosenOf (kept .chosen)) t) r
-  joins kept r t own h l m e j =
+  pub joins : (items after : List ℕ) (kept r : Selected) (t : ℕ) (own : RowSet) → Selects c conf hist items kept → kept .len < 256 → t < c .transitions →
+      rowsOf own ≡ exitSet c conf hist ((c .transition) t) → Joined items kept t own after r → IsSelected c conf hist (append (listOf items (kept .len)) t) after r
+  joins items after kept r t own h l m e j =
       let n = j .len in
       record {
         is = j .is;
-        exits = j .exits ∙ exits-append c conf hist (chosenOf (kept .chosen)) (rowsOf (kept .exits)) (rowsOf own) t (h .exits) e;
+        exits = j .exits ∙ exits-append c conf hist (listOf items (kept .len)) (rowsOf (kept .exits)) (rowsOf own) t (h .exits) e;
         fits = record {
-          room = j .room;
+          room = j .room ∙ h .fits .room;
           most = omega arith;
-          inside = subst (Within (c .transitions)) (sym (j .is)) (within-append (c .transitions) (chosenOf (kept .chosen)) t (h .fits .inside) m);
+          inside = subst (Within (c .transitions)) (sym (j .is)) (within-append (c .transitions) (listOf items (kept .len)) t (h .fits .inside) m);
         };
       }
 
-  -- the first i of the candidates
-  pub selects-front : (ts : Chosen) (i : ℕ) (out : RowSet) → ChosenIn (c .transitions) ts → i ≤ ts .len → rowsOf out ≡ exits c conf hist (listOf (ts .items) i) →
-      Selects c conf hist (record { chosen = record { items = ts .items; len = i }; exits = out })
-  unfolding chosenOf
-  selects-front ts i out h l e =
-      let m = h .most in
-      record { is = refl; exits = e; fits = record { room = h .room; most = omega arith; inside = within-front (c .transitions) (ts .items) i (ts .len) l (h .inside) } }
+  -- ---- what becomes of one candidate
 
--- the first i candidates are all kept, and exit these rows
-pub record Front (c : Chart) (conf : List ℕ) (hist : History) (ts : Chosen) (out : RowSet) (i : ℕ) : Type 0 where
-  pub most : i ≤ ts .len
-  pub exits : rowsOf out ≡ exits c conf hist (listOf (ts .items) i)
-  pub pass : Walked (admit c conf hist) [] (listOf (ts .items) i) (chosenOf ts) (ts .len) i
+  pub admits-same : (ts items : List ℕ) (kept : Selected) → Selects c conf hist items kept → listOf items (kept .len) ≡ ts → Admits c conf hist ts items (kept .len) items kept
+  admits-same ts items kept h e = record { selected = selected-as (listOf items (kept .len)) ts items kept h e; most = omega arith; behind = refl }
 
-module _ (c : Chart) (conf : List ℕ) (hist : History) (ts : Chosen) (fits : ChosenIn (c .transitions) ts) (out : RowSet) where
-  pub front-begin : rowsOf out ≡ [] → Front c conf hist ts out 0
-  front-begin e = record {
+  -- it joins those that were left of n
+  pub admits-joined : (ts first items after : List ℕ) (n : ℕ) (rest r : Selected) (t : ℕ) (own : RowSet) → Selects c conf hist items rest → rest .len ≤ n → n < 256 →
+      drop n items ≡ drop n first → t < c .transitions → rowsOf own ≡ exitSet c conf hist ((c .transition) t) → Joined items rest t own after r →
+      append (listOf items (rest .len)) t ≡ ts → Admits c conf hist ts first n after r
+  admits-joined ts first items after n rest r t own h l f b m e j q = record {
+    selected = selected-as (append (listOf items (rest .len)) t) ts after r (joins items after rest r t own h (omega arith) m e j) q;
+    most = let k = j .len in omega arith;
+    behind = j .behind (n + 1) (omega arith) ∙ drop-on n 1 items first b;
+  }
+    where
+      drop-on : (n k : ℕ) (xs ys : List ℕ) → drop n xs ≡ drop n ys → drop (n + k) xs ≡ drop (n + k) ys
+      drop-on n k xs ys e = sym (drop-drop k n xs) ∙ ap (drop k) e ∙ drop-drop k n ys
+
+-- ---- a pass over the first n items that keeps some of them in front of those to come
+
+-- after i of them, what is kept is what the step makes of the first i, and the items to come stand where they stood
+pub record Sifted (c : Chart) (conf : List ℕ) (hist : History) (step : List ℕ → ℕ → List ℕ) (first : List ℕ) (n : ℕ) (items : List ℕ) (kept : Selected) (i : ℕ) : Type 0 where
+  pub most : kept .len ≤ i
+  pub small : n ≤ 256
+  pub selects : Selects c conf hist items kept
+  pub behind : drop i items ≡ drop i first
+  pub pass : Walked step [] (listOf items (kept .len)) (listOf first n) n i
+
+module _ (c : Chart) (conf : List ℕ) (hist : History) (step : List ℕ → ℕ → List ℕ) (first : List ℕ) (n : ℕ) where
+  pub sift-begin : (kept : Selected) → ChosenIn (c .transitions) first n → kept .len ≡ 0 → rowsOf (kept .exits) ≡ [] → Sifted c conf hist step first n first kept 0
+  sift-begin kept h l e = record {
     most = omega arith;
-    exits = e ∙ exits-none c conf hist ∙ ap (exits c conf hist) (sym (list-begin (ts .items)));
-    pass = walk-begin (admit c conf hist) [] (listOf (ts .items) 0) (chosenOf ts) (ts .len) (chosen-length (c .transitions) ts fits) (list-begin (ts .items));
+    small = h .most;
+    selects = selects-none c conf hist first kept (h .room) l e;
+    behind = refl;
+    pass = walk-begin step [] (listOf first (kept .len)) (listOf first n) n (chosen-length (c .transitions) first n h) (ap (listOf first) l ∙ list-begin first);
   }
 
-  -- the next one's exit set meets none of them
-  pub front-turn : (i : ℕ) (own next : RowSet) (b : Bool) → Front c conf hist ts out i → i < ts .len → rowsOf own ≡ exitSet c conf hist ((c .transition) (getD (ts .items) i 0)) →
-      b ≡ meets (rowsOf own) (rowsOf out) → b ≡ false → rowsOf next ≡ union (rowsOf out) (rowsOf own) → Front c conf hist ts next (i + 1)
-  front-turn i own next b f l e m n u =
-      let room = fits .room in
-      let most = fits .most in
-      let more : append (listOf (ts .items) i) (getD (ts .items) i 0) ≡ listOf (ts .items) (i + 1) = list-more (ts .items) i (omega arith) in
-      record {
-        most = omega arith;
-        exits = u ∙ exits-append c conf hist (listOf (ts .items) i) (rowsOf out) (rowsOf own) (getD (ts .items) i 0) (f .exits) e ∙ ap (exits c conf hist) more;
-        pass = walk-turn (admit c conf hist) [] (listOf (ts .items) i) (chosenOf ts) (ts .len) (listOf (ts .items) (i + 1)) i (getD (ts .items) i 0) l (f .pass) (chosen-at ts i l)
-            (sym more ∙ admit-last c conf hist (listOf (ts .items) i) (rowsOf out) (rowsOf own) (getD (ts .items) i 0) b (f .exits) e m n);
-      }
+  module _ (items : List ℕ) (kept : Selected) (i : ℕ) (s : Sifted c conf hist step first n items kept i) where
+    -- the item to come
+    pub sift-item : i < n → getD items i 0 ≡ getD (listOf first n) i 0
+    sift-item l =
+        let z : i + 0 ≡ i = omega arith in
+        ap (λ (k : ℕ). getD items k 0) (sym z) ∙ sym (getD-drop i items 0 0) ∙ ap (λ (xs : List ℕ). getD xs 0 0) (s .behind) ∙ getD-drop i first 0 0 ∙ ap (λ (k : ℕ). getD first k 0) z ∙ list-at first n i l
 
-  pub front-done : (i : ℕ) → Front c conf hist ts out i → ts .len ≤ i → IsSelected c conf hist (withoutConflicts c conf hist (chosenOf ts)) (record { chosen = ts; exits = out })
-  unfolding chosenOf withoutConflicts
-  front-done i f l =
-      let m = f .most in
-      let e : i ≡ ts .len = omega arith in
-      let all : listOf (ts .items) (ts .len) ≡ fold (admit c conf hist) [] (chosenOf ts) =
-      sym (ap (listOf (ts .items)) e) ∙ walk-done (admit c conf hist) [] (listOf (ts .items) i) (chosenOf ts) (ts .len) i l (f .pass) in
-      record { is = all; exits = f .exits ∙ ap (λ (n : ℕ). exits c conf hist (listOf (ts .items) n)) e ∙ ap (exits c conf hist) all; fits = fits }
+    pub sift-turn : (after : List ℕ) (r : Selected) → i < n → Admits c conf hist (step (listOf items (kept .len)) (getD items i 0)) items (kept .len) after r → Sifted c conf hist step first n after r (i + 1)
+    sift-turn after r l a =
+        let m = s .most in
+        let u = a .most in
+        record {
+          most = omega arith;
+          small = s .small;
+          selects = selects-of c conf hist _ after r (a .selected);
+          behind = further (a .behind) ∙ onward;
+          pass = walk-turn step [] (listOf items (kept .len)) (listOf first n) n (listOf after (r .len)) i (getD items i 0) l (s .pass) (sift-item l) (a .selected .is);
+        }
+      where
+        onward : drop (i + 1) items ≡ drop (i + 1) first
+        onward = sym (drop-drop 1 i items) ∙ ap (drop 1) (s .behind) ∙ drop-drop 1 i first
+
+        further : drop (kept .len + 1) after ≡ drop (kept .len + 1) items → drop (i + 1) after ≡ drop (i + 1) items
+        further e =
+            let m = s .most in
+            let z : kept .len + 1 + (i - kept .len) ≡ i + 1 = omega arith in
+            ap (λ (k : ℕ). drop k after) (sym z) ∙ sym (drop-drop (i - kept .len) (kept .len + 1) after) ∙ ap (drop (i - kept .len)) e ∙ drop-drop (i - kept .len) (kept .len + 1) items ∙ ap (λ (k : ℕ). drop k items) z
+
+    pub sift-done : n ≤ i → Leaves c conf hist (fold step [] (listOf first n)) first n items kept
+    sift-done l =
+        let e : i ≡ n = (let a = s .pass .size in let b = s .pass .pass .most in omega arith) in
+        record {
+          selected = selected-as c conf hist (listOf items (kept .len)) (fold step [] (listOf first n)) items kept (s .selects) (walk-done step [] (listOf items (kept .len)) (listOf first n) n i l (s .pass));
+          most = let m = s .most in omega arith;
+          behind = ap (λ (k : ℕ). drop k items) (sym e) ∙ s .behind ∙ ap (λ (k : ℕ). drop k first) e;
+        }
+
+    -- a transition of the chart
+    pub sift-low : ChosenIn (c .transitions) first n → i < n → getD items i 0 < c .transitions
+    sift-low h l = rw (sift-item l ∙ sym (list-at first n i l)) (chosen-low (c .transitions) first n i h l)

@@ -3,19 +3,17 @@ ghost use mathlib.Core.Path.{_≡_};
 ghost use mathlib.Core.List.{[]};
 ghost use Prim.Native.Nat.{_+_, _≤_, _<_};
 ghost use lib.ListN.{length};
-ghost use Rattle.definition.specs.Rows.{fold, any, append, union};
+ghost use Rattle.definition.specs.Rows.{fold, any, union};
 ghost use Rattle.definition.specs.Tables.{rowCount, transitionCount, transitionAt, nameAt, chartOf};
 ghost use Rattle.definition.specs.Selection.{effectiveTargets, holdsAll, isOwnDomain, domainOf, domain, exitSet, isInTheWay, keepBeside, admit, withoutConflicts, selected};
-ghost use Rattle.laws.specs.Passes.{Walked};
 ghost use Rattle.tables.specs.Ranges.{RowsIn};
 ghost use Rattle.rowset.specs.Member.{rowsOf};
 ghost use Rattle.chart.specs.Ready.{Ready, RowReady, TransitionReady};
 ghost use Rattle.matching.specs.Events.{eventOf};
-ghost use Rattle.matching.specs.Chosen.{Within, ChosenIn, chosenOf};
-ghost use Rattle.matching.specs.Ready.{Prepared};
+ghost use Rattle.matching.specs.Chosen.{Within, ChosenIn, listOf};
 ghost use Rattle.selection.specs.History.{storedAt, asStored, storedOf, standsFor};
-ghost use Rattle.selection.specs.Ready.{HistoryReady, MoveReady, DomainIs, Candidate, IsSelected, Selects, Joined, Admits};
-use matching::Chosen;
+ghost use Rattle.selection.specs.Routes.{isPlain, Route, Routed};
+ghost use Rattle.selection.specs.Ready.{HistoryReady, MoveReady, RouteReady, SelectReady, DomainIs, Candidate, IsSelected, Selects, Joined, Admits, Leaves};
 use numbers::Row;
 use numbers::Transition;
 use rowset::RowSet;
@@ -148,12 +146,75 @@ pub fn domain(chart: &[u64], history: &[u64], t: Transition) -> Row
     domain_of(chart, t, effective_targets(chart, history, t))
 }
 
+// ---- domains that no history moves
+
+// The domain of each transition that has targets and no history among them, and 256 for the others: theirs is sought in each round.
+pub struct Routes {
+    pub domains: [u16; 512],
+}
+
+// What stands for no route: no row has this number.
+pub const NO_ROUTE: u16 = 256;
+
+// Whether a transition has targets, and no history among them.
+fn is_plain(chart: &[u64], t: Transition) -> bool
+    requires { ⌜ TransitionReady (now chart) (t .0) ⌝ }
+    ensures { λ b. ⌜ b ≡ isPlain (chartOf (now (chart .entry))) (t .0) ⌝ }
+{
+    let targets = tables::targets_of(chart, t);
+    let mut i = 0;
+    while i < targets.len() {
+        let x = tables::row_at(chart, targets, i);
+        if tables::is_history(tables::kind_of(chart, x)) {
+            return false;
+        }
+        i += 1;
+    }
+    0 < i
+}
+
+fn route_of(chart: &[u64], t: Transition) -> u16
+    requires { ⌜ TransitionReady (now chart) (t .0) ⌝ }
+    ensures { λ d. ⌜ Route (chartOf (now (chart .entry))) (t .0) d ⌝ }
+{
+    if !is_plain(chart, t) {
+        return NO_ROUTE;
+    }
+    let d = domain_of(chart, t, chart::anchors_of(chart, t));
+    d.0 as u16
+}
+
+pub fn routes_of(chart: &[u64]) -> Routes
+    requires { ⌜ Ready (now chart) ⌝ }
+    ensures { λ r. ⌜ Routed (chartOf (now (chart .entry))) (r .domains) ⌝ }
+{
+    let n = tables::transition_count(chart) as usize;
+    let mut domains = [NO_ROUTE; 512];
+    let mut t: usize = 0;
+    while t < n {
+        domains[t] = route_of(chart, Transition(t as u16));
+        t += 1;
+    }
+    Routes { domains: domains }
+}
+
 // ---- the exit set
 
-pub fn exit_set(chart: &[u64], conf: RowSet, history: &[u64], t: Transition) -> RowSet
-    requires { ⌜ MoveReady (now chart) (now history) (t .0) ⌝ }
+pub fn exit_set(
+    chart: &[u64],
+    domains: &[u16],
+    conf: RowSet,
+    history: &[u64],
+    t: Transition,
+) -> RowSet
+    requires { ⌜ RouteReady (now chart) (now domains) (now history) (t .0) ⌝ }
     ensures { λ r. ⌜ rowsOf r ≡ exitSet (chartOf (now (chart .entry))) (rowsOf conf) (storedAt (now (history .entry))) (transitionAt (now (chart .entry)) (t .0)) ⌝ }
 {
+    let at = t.0 as usize;
+    let route = domains[at];
+    if route < NO_ROUTE {
+        return conf.intersection(chart::descendants_of(chart, Row(route as u8)));
+    }
     if tables::targets_of(chart, t).len() == 0 {
         return RowSet::empty();
     }
@@ -162,24 +223,22 @@ pub fn exit_set(chart: &[u64], conf: RowSet, history: &[u64], t: Transition) -> 
 
 // ---- conflicts
 
-// Transitions in selection order, and the rows that they exit.
+// The first len of the lent items, in selection order, and the rows that they exit.
 pub struct Selected {
-    pub chosen: Chosen,
+    pub len: usize,
     pub exits: RowSet,
 }
 
 // One transition more, with its exit set.
-fn joined(kept: Selected, t: Transition, own: RowSet) -> Selected
-    requires { ⌜ (kept .chosen .len < 256) × (length (kept .chosen .items) ≡ 256) ⌝ }
-    ensures { λ r. ⌜ Joined kept (t .0) own r ⌝ }
+fn join(items: &mut [u16], kept: Selected, t: Transition, own: RowSet) -> Selected
+    requires { ⌜ kept .len < length (now items) ⌝ }
+    ensures { λ r. ⌜ Joined (now (items .entry)) kept (t .0) own (now (items .exit)) r ⌝ }
 {
-    let mut chosen = kept.chosen;
-    let n = chosen.len;
-    chosen.items[n] = t.0;
-    chosen.len = n + 1;
+    let n = kept.len;
     let exits = kept.exits;
+    items[n] = t.0;
     Selected {
-        chosen: chosen,
+        len: n + 1,
         exits: exits.union(own),
     }
 }
@@ -187,16 +246,17 @@ fn joined(kept: Selected, t: Transition, own: RowSet) -> Selected
 // Whether the kept k conflicts with the candidate t and t's source is no descendant of k's.
 fn is_in_the_way(
     chart: &[u64],
+    domains: &[u16],
     conf: RowSet,
     history: &[u64],
     t: Transition,
     own: RowSet,
     k: Transition,
 ) -> bool
-    requires { ⌜ Candidate (now chart) conf (now history) (t .0) own × (k .0 < transitionCount (now chart)) ⌝ }
+    requires { ⌜ Candidate (now chart) (now domains) conf (now history) (t .0) own × (k .0 < transitionCount (now chart)) ⌝ }
     ensures { λ b. ⌜ b ≡ isInTheWay (chartOf (now (chart .entry))) (rowsOf conf) (storedAt (now (history .entry))) (t .0) (k .0) ⌝ }
 {
-    if !own.meets(exit_set(chart, conf, history, k)) {
+    if !own.meets(exit_set(chart, domains, conf, history, k)) {
         return false;
     }
     let below = chart::descendants_of(chart, tables::source_of(chart, k));
@@ -205,19 +265,19 @@ fn is_in_the_way(
 
 fn is_blocked(
     chart: &[u64],
+    domains: &[u16],
     conf: RowSet,
     history: &[u64],
     t: Transition,
     own: RowSet,
-    kept: Chosen,
+    kept: &[u16],
 ) -> bool
-    requires { ⌜ Candidate (now chart) conf (now history) (t .0) own × ChosenIn (transitionCount (now chart)) kept ⌝ }
-    ensures { λ b. ⌜ b ≡ any (isInTheWay (chartOf (now (chart .entry))) (rowsOf conf) (storedAt (now (history .entry))) (t .0)) (chosenOf kept) ⌝ }
+    requires { ⌜ Candidate (now chart) (now domains) conf (now history) (t .0) own × Within (transitionCount (now chart)) (now kept) ⌝ }
+    ensures { λ b. ⌜ b ≡ any (isInTheWay (chartOf (now (chart .entry))) (rowsOf conf) (storedAt (now (history .entry))) (t .0)) (now (kept .entry)) ⌝ }
 {
-    let n = kept.len;
     let mut i = 0;
-    while i < n {
-        if is_in_the_way(chart, conf, history, t, own, Transition(kept.items[i])) {
+    while i < kept.len() {
+        if is_in_the_way(chart, domains, conf, history, t, own, Transition(kept[i])) {
             return true;
         }
         i += 1;
@@ -228,141 +288,118 @@ fn is_blocked(
 // The rest with the kept k, unless k conflicts with the candidate t.
 fn keep_beside(
     chart: &[u64],
+    domains: &[u16],
     conf: RowSet,
     history: &[u64],
     t: Transition,
     own: RowSet,
+    items: &mut [u16],
     rest: Selected,
     k: Transition,
 ) -> Selected
-    requires { ⌜ Candidate (now chart) conf (now history) (t .0) own × (k .0 < transitionCount (now chart)) × Selects (chartOf (now chart)) (rowsOf conf) (storedAt (now history)) rest × (rest .chosen .len < 256) ⌝ }
-    ensures { λ r. ⌜ Admits (chartOf (now (chart .entry))) (rowsOf conf) (storedAt (now (history .entry))) (keepBeside (chartOf (now (chart .entry))) (rowsOf conf) (storedAt (now (history .entry))) (t .0) (chosenOf (rest .chosen)) (k .0)) rest r ⌝ }
+    requires { ⌜ Candidate (now chart) (now domains) conf (now history) (t .0) own × (k .0 < transitionCount (now chart)) × Selects (chartOf (now chart)) (rowsOf conf) (storedAt (now history)) (now items) rest × (rest .len < 256) ⌝ }
+    ensures { λ r. ⌜ Admits (chartOf (now (chart .entry))) (rowsOf conf) (storedAt (now (history .entry))) (keepBeside (chartOf (now (chart .entry))) (rowsOf conf) (storedAt (now (history .entry))) (t .0) (listOf (now (items .entry)) (rest .len)) (k .0)) (now (items .entry)) (rest .len) (now (items .exit)) r ⌝ }
 {
-    let its = exit_set(chart, conf, history, k);
+    let its = exit_set(chart, domains, conf, history, k);
     if own.meets(its) {
         return rest;
     }
-    joined(rest, k, its)
+    join(items, rest, k, its)
 }
 
-// The kept transitions that do not conflict with the candidate t.
+// The first n items without those that conflict with the candidate t.
 fn beside(
     chart: &[u64],
+    domains: &[u16],
     conf: RowSet,
     history: &[u64],
     t: Transition,
     own: RowSet,
-    kept: Chosen,
+    items: &mut [u16],
+    n: usize,
 ) -> Selected
-    requires { ⌜ Candidate (now chart) conf (now history) (t .0) own × ChosenIn (transitionCount (now chart)) kept ⌝ }
-    ensures { λ r. ⌜ IsSelected (chartOf (now (chart .entry))) (rowsOf conf) (storedAt (now (history .entry))) (fold (keepBeside (chartOf (now (chart .entry))) (rowsOf conf) (storedAt (now (history .entry))) (t .0)) [] (chosenOf kept)) r × (r .chosen .len ≤ kept .len) ⌝ }
+    requires { ⌜ Candidate (now chart) (now domains) conf (now history) (t .0) own × ChosenIn (transitionCount (now chart)) (now items) n ⌝ }
+    ensures { λ r. ⌜ Leaves (chartOf (now (chart .entry))) (rowsOf conf) (storedAt (now (history .entry))) (fold (keepBeside (chartOf (now (chart .entry))) (rowsOf conf) (storedAt (now (history .entry))) (t .0)) [] (listOf (now (items .entry)) n)) (now (items .entry)) n (now (items .exit)) r ⌝ }
 {
-    let n = kept.len;
     let mut rest = Selected {
-        chosen: Chosen {
-            items: [0; 256],
-            len: 0,
-        },
+        len: 0,
         exits: RowSet::empty(),
     };
     let mut i = 0;
     while i < n {
-        rest = keep_beside(
-            chart,
-            conf,
-            history,
-            t,
-            own,
-            rest,
-            Transition(kept.items[i]),
-        );
+        let k = Transition(items[i]);
+        rest = keep_beside(chart, domains, conf, history, t, own, items, rest, k);
         i += 1;
     }
     rest
 }
 
 // The kept transitions with the candidate t. One whose exit set meets none of the rows that they exit conflicts with none of them.
-fn admit(chart: &[u64], conf: RowSet, history: &[u64], kept: Selected, t: Transition) -> Selected
-    requires { ⌜ MoveReady (now chart) (now history) (t .0) × Selects (chartOf (now chart)) (rowsOf conf) (storedAt (now history)) kept × (kept .chosen .len < 256) ⌝ }
-    ensures { λ r. ⌜ Admits (chartOf (now (chart .entry))) (rowsOf conf) (storedAt (now (history .entry))) (admit (chartOf (now (chart .entry))) (rowsOf conf) (storedAt (now (history .entry))) (chosenOf (kept .chosen)) (t .0)) kept r ⌝ }
-{
-    let own = exit_set(chart, conf, history, t);
-    let exits = kept.exits;
-    if !own.meets(exits) {
-        return joined(kept, t, own);
-    }
-    let chosen = kept.chosen;
-    if is_blocked(chart, conf, history, t, own, chosen) {
-        return kept;
-    }
-    joined(beside(chart, conf, history, t, own, chosen), t, own)
-}
-
-// The candidates from number i on, after those before it were kept as they are.
-fn resolve(
+fn admit(
     chart: &[u64],
+    domains: &[u16],
     conf: RowSet,
     history: &[u64],
-    before: Selected,
-    candidates: Chosen,
-    from: usize,
+    items: &mut [u16],
+    kept: Selected,
+    t: Transition,
 ) -> Selected
-    requires { ⌜ HistoryReady (now chart) (now history) × ChosenIn (transitionCount (now chart)) candidates × Selects (chartOf (now chart)) (rowsOf conf) (storedAt (now history)) before × (before .chosen .len ≤ from) × Walked (admit (chartOf (now chart)) (rowsOf conf) (storedAt (now history))) [] (chosenOf (before .chosen)) (chosenOf candidates) (candidates .len) from ⌝ }
-    ensures { λ r. ⌜ IsSelected (chartOf (now (chart .entry))) (rowsOf conf) (storedAt (now (history .entry))) (withoutConflicts (chartOf (now (chart .entry))) (rowsOf conf) (storedAt (now (history .entry))) (chosenOf candidates)) r ⌝ }
+    requires { ⌜ RouteReady (now chart) (now domains) (now history) (t .0) × Selects (chartOf (now chart)) (rowsOf conf) (storedAt (now history)) (now items) kept × (kept .len < 256) ⌝ }
+    ensures { λ r. ⌜ Admits (chartOf (now (chart .entry))) (rowsOf conf) (storedAt (now (history .entry))) (admit (chartOf (now (chart .entry))) (rowsOf conf) (storedAt (now (history .entry))) (listOf (now (items .entry)) (kept .len)) (t .0)) (now (items .entry)) (kept .len) (now (items .exit)) r ⌝ }
 {
-    let n = candidates.len;
-    let mut kept = before;
-    let mut i = from;
+    let own = exit_set(chart, domains, conf, history, t);
+    let exits = kept.exits;
+    if !own.meets(exits) {
+        return join(items, kept, t, own);
+    }
+    let n = kept.len;
+    if is_blocked(chart, domains, conf, history, t, own, &items[..n]) {
+        return kept;
+    }
+    let rest = beside(chart, domains, conf, history, t, own, items, n);
+    join(items, rest, t, own)
+}
+
+// The first n items, one after the other, each admitted to those that were kept before it, which stand in front of it.
+fn without_conflicts(
+    chart: &[u64],
+    domains: &[u16],
+    conf: RowSet,
+    history: &[u64],
+    items: &mut [u16],
+    n: usize,
+) -> Selected
+    requires { ⌜ HistoryReady (now chart) (now history) × Routed (chartOf (now chart)) (now domains) × ChosenIn (transitionCount (now chart)) (now items) n ⌝ }
+    ensures { λ r. ⌜ IsSelected (chartOf (now (chart .entry))) (rowsOf conf) (storedAt (now (history .entry))) (withoutConflicts (chartOf (now (chart .entry))) (rowsOf conf) (storedAt (now (history .entry))) (listOf (now (items .entry)) n)) (now (items .exit)) r ⌝ }
+{
+    let mut kept = Selected {
+        len: 0,
+        exits: RowSet::empty(),
+    };
+    let mut i = 0;
     while i < n {
-        kept = admit(chart, conf, history, kept, Transition(candidates.items[i]));
+        let t = Transition(items[i]);
+        kept = admit(chart, domains, conf, history, items, kept, t);
         i += 1;
     }
     kept
 }
 
-// While no exit set meets one before it, all candidates are kept.
-fn without_conflicts(chart: &[u64], conf: RowSet, history: &[u64], candidates: Chosen) -> Selected
-    requires { ⌜ HistoryReady (now chart) (now history) × ChosenIn (transitionCount (now chart)) candidates ⌝ }
-    ensures { λ r. ⌜ IsSelected (chartOf (now (chart .entry))) (rowsOf conf) (storedAt (now (history .entry))) (withoutConflicts (chartOf (now (chart .entry))) (rowsOf conf) (storedAt (now (history .entry))) (chosenOf candidates)) r ⌝ }
-{
-    let n = candidates.len;
-    let mut exits = RowSet::empty();
-    let mut i = 0;
-    while i < n {
-        let own = exit_set(chart, conf, history, Transition(candidates.items[i]));
-        if own.meets(exits) {
-            let items = candidates.items;
-            let before = Selected {
-                chosen: Chosen {
-                    items: items,
-                    len: i,
-                },
-                exits: exits,
-            };
-            return resolve(chart, conf, history, before, candidates, i);
-        }
-        exits = exits.union(own);
-        i += 1;
-    }
-    Selected {
-        chosen: candidates,
-        exits: exits,
-    }
-}
-
-// The transitions that a round of this event takes, in selection order, and the rows that they exit.
+// The transitions that a round of this event takes, in selection order, into the first of the lent items, and the rows that they exit.
 pub fn select(
     chart: &[u64],
     names: &[u8],
     starts: &[u16],
+    domains: &[u16],
     atoms: RowSet,
     conf: RowSet,
     history: &[u64],
     event: &[u8],
+    items: &mut [u16],
 ) -> Selected
-    requires { ⌜ Prepared (now chart) (now names) (now starts) atoms × Within (rowCount (now chart)) (rowsOf conf) × (length (now history) ≡ 1024) ⌝ }
-    ensures { λ r. ⌜ IsSelected (chartOf (now (chart .entry))) (rowsOf conf) (storedAt (now (history .entry))) (selected (chartOf (now (chart .entry))) (nameAt (now (names .entry))) (rowsOf conf) (storedAt (now (history .entry))) (eventOf (now (event .entry)))) r ⌝ }
+    requires { ⌜ SelectReady (now chart) (now names) (now starts) (now domains) atoms conf (now history) (now items) ⌝ }
+    ensures { λ r. ⌜ IsSelected (chartOf (now (chart .entry))) (rowsOf conf) (storedAt (now (history .entry))) (selected (chartOf (now (chart .entry))) (nameAt (now (names .entry))) (rowsOf conf) (storedAt (now (history .entry))) (eventOf (now (event .entry)))) (now (items .exit)) r ⌝ }
 {
-    let candidates = matching::candidates(chart, names, starts, atoms, conf, event);
-    without_conflicts(chart, conf, history, candidates)
+    let n = matching::candidates(chart, names, starts, atoms, conf, event, items);
+    without_conflicts(chart, domains, conf, history, items, n)
 }

@@ -234,6 +234,10 @@ block-listed numbers b start count h e =
       fits = each-map (actionAt numbers) (argumentFits numbers) count start (λ k q. argument-fits numbers (start + k) (record { tables = h .tables; below = omega arith }));
     })
 
+pub block-none : (numbers : List ℕ) (start count : ℕ) → count ≡ 0 → BlockOf numbers (blockAt numbers start count) []
+unfolding blockAt from all actionsOf
+block-none numbers start count e = rw e (record { is = refl; width = refl; short = omega arith; fits = refl })
+
 -- a block that was read by a start and a count of the tables
 pub block-as : (numbers : List ℕ) (s c s′ c′ : ℕ) (b : List ℕ) → s ≡ s′ → c ≡ c′ → BlockOf numbers (blockAt numbers s c) b → BlockOf numbers (blockAt numbers s′ c′) b
 block-as numbers s c s′ c′ b e q h = rw (← e, ← q) h

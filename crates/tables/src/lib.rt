@@ -8,7 +8,7 @@ ghost use Rattle.rowset.specs.Member.{rowsOf};
 ghost use Rattle.definition.specs.Tables.{rowCount, transitionCount, referenceCount, descriptorCount, actionCount, nameCount, transitionBase, referenceBase, descriptorBase, actionBase, tablesSize, rowCell, transitionCell, referenceCell, descriptorCell, actionCell, actionOf, actionAt, blockAt, kindAt, parentAt, entryAt, exitAt, listAt, listBlockAt, sourceAt, eventsAt, internalAt, targetsAt, transitionBlockAt, referencesAt, descriptorsAt, mostTargets, mostDescriptors};
 ghost use Rattle.definition.specs.Chart.{kindNo, isRoot, isState, isParallel, isFinal, isShallow, isHistory};
 ghost use Rattle.definition.specs.Rules.{countsFit, compiledSize, argumentFits, mayStand};
-ghost use Rattle.tables.specs.Ranges.{Counts, CellOfRow, CellOfTransition, CellOfAction, ReferenceIn, DescriptorIn, RowIn, TransitionIn, ActionIn, HasParent, ReferencesIn, DescriptorsIn, BlockIn, RowsIn, NamesIn, RowInList, NameInList, SlotIn, SetIn};
+ghost use Rattle.tables.specs.Ranges.{Counts, Sized, CellOfRow, CellOfTransition, CellOfAction, ReferenceIn, DescriptorIn, RowIn, TransitionIn, ActionIn, HasParent, ReferencesIn, DescriptorsIn, BlockIn, RowsIn, NamesIn, RowInList, NameInList, SlotIn, SetIn};
 ghost use Rattle.tables.specs.Parts.{Listed, RowOf, NameOf, IdOf, actionsOf, ActionInBlock, BlockOf, ConditionIn, SlotOf, setAt};
 use definition::Action;
 use definition::Kind;
@@ -93,42 +93,19 @@ pub fn counts_fit(numbers: &[u64]) -> bool
         & (actions <= limits::ROOM_FOR_ACTIONS)
 }
 
-// ---- where each table begins, for counts within their limits
-
-fn transition_base(numbers: &[u64]) -> usize
-    requires { ⌜ Counts (now numbers) ⌝ }
-    ensures { λ b. ⌜ b ≡ transitionBase (now (numbers .entry)) ⌝ }
-{
-    columns::HEADER + row_count(numbers) as usize * columns::ROW_WIDTH
-}
-
-fn reference_base(numbers: &[u64]) -> usize
-    requires { ⌜ Counts (now numbers) ⌝ }
-    ensures { λ b. ⌜ b ≡ referenceBase (now (numbers .entry)) ⌝ }
-{
-    transition_base(numbers) + transition_count(numbers) as usize * columns::TRANSITION_WIDTH
-}
-
-fn descriptor_base(numbers: &[u64]) -> usize
-    requires { ⌜ Counts (now numbers) ⌝ }
-    ensures { λ b. ⌜ b ≡ descriptorBase (now (numbers .entry)) ⌝ }
-{
-    reference_base(numbers) + reference_count(numbers) as usize
-}
-
-fn action_base(numbers: &[u64]) -> usize
-    requires { ⌜ Counts (now numbers) ⌝ }
-    ensures { λ b. ⌜ b ≡ actionBase (now (numbers .entry)) ⌝ }
-{
-    descriptor_base(numbers) + descriptor_count(numbers) as usize
-}
+// ---- how many numbers there are to be, for counts within their limits
 
 // How many numbers the tables have by their header.
 pub fn tables_size(numbers: &[u64]) -> usize
     requires { ⌜ Counts (now numbers) ⌝ }
     ensures { λ n. ⌜ n ≡ tablesSize (now (numbers .entry)) ⌝ }
 {
-    action_base(numbers) + action_count(numbers) as usize * columns::ACTION_WIDTH
+    columns::HEADER
+        + row_count(numbers) as usize * columns::ROW_WIDTH
+        + transition_count(numbers) as usize * columns::TRANSITION_WIDTH
+        + reference_count(numbers) as usize
+        + descriptor_count(numbers) as usize
+        + action_count(numbers) as usize * columns::ACTION_WIDTH
 }
 
 // How many numbers its compiled chart has.
@@ -139,6 +116,36 @@ pub fn compiled_size(numbers: &[u64]) -> usize
     tables_size(numbers)
         + row_count(numbers) as usize * columns::ROW_SET_WORDS
         + transition_count(numbers) as usize * columns::TRANSITION_SET_WORDS
+}
+
+// ---- where each table begins, for tables that lie inside the numbers
+
+fn transition_base(numbers: &[u64]) -> usize
+    requires { ⌜ Sized (now numbers) ⌝ }
+    ensures { λ b. ⌜ b ≡ transitionBase (now (numbers .entry)) ⌝ }
+{
+    columns::HEADER + numbers[columns::ROWS] as usize * columns::ROW_WIDTH
+}
+
+fn reference_base(numbers: &[u64]) -> usize
+    requires { ⌜ Sized (now numbers) ⌝ }
+    ensures { λ b. ⌜ b ≡ referenceBase (now (numbers .entry)) ⌝ }
+{
+    transition_base(numbers) + numbers[columns::TRANSITIONS] as usize * columns::TRANSITION_WIDTH
+}
+
+fn descriptor_base(numbers: &[u64]) -> usize
+    requires { ⌜ Sized (now numbers) ⌝ }
+    ensures { λ b. ⌜ b ≡ descriptorBase (now (numbers .entry)) ⌝ }
+{
+    reference_base(numbers) + numbers[columns::REFERENCES] as usize
+}
+
+fn action_base(numbers: &[u64]) -> usize
+    requires { ⌜ Sized (now numbers) ⌝ }
+    ensures { λ b. ⌜ b ≡ actionBase (now (numbers .entry)) ⌝ }
+{
+    descriptor_base(numbers) + numbers[columns::DESCRIPTORS] as usize
 }
 
 // ---- the cells of tables that lie inside the numbers
@@ -329,6 +336,9 @@ fn actions_part(numbers: &[u64], start: u64, count: u64) -> &[u64]
     requires { ⌜ BlockIn (now numbers) start count ⌝ }
     ensures { λ b. ⌜ BlockOf (now (numbers .entry)) (blockAt (now (numbers .entry)) start count) (now b) ⌝ }
 {
+    if count == 0 {
+        return &numbers[..0];
+    }
     let from = action_base(numbers) + start as usize * columns::ACTION_WIDTH;
     let to = from + count as usize * columns::ACTION_WIDTH;
     &numbers[from..to]

@@ -1,6 +1,6 @@
 use borrow.Author.Needs.{needs}
 use Prim.Native.Nat.{_-_}
-use Rattle.legality.specs.Rows.{row-ready}
+use Rattle.legality.specs.Rows.{row-ready, root-ready, part-ready, final-children}
 use Rattle.rowset.specs.Visits.{Remains, found-next, next-less, remain-begin, any-on, any-stop, any-end}
 use Rattle.definition.specs.Rows.{any}
 use Rattle.definition.specs.Follower.{isFinalUnderRoot}
@@ -9,10 +9,16 @@ use Rattle.legality.proofs.has_final.Statement.{statement}
 use Rattle.legality.proofs.has_final.Tie as tie
 
 abbrev Inv-loop : tie.InvT-loop
-Inv-loop chart conf k₀ k = Remains (any (isFinalUnderRoot (chartOf chart))) conf k
+Inv-loop chart top k₀ k = Remains (any (isFinalUnderRoot (chartOf chart))) top k
 
 abbrev μ-loop : tie.MeasureT-loop
-μ-loop chart conf k₀ k = 256 - k
+μ-loop chart top k₀ k = 256 - k
+
+children-of-requires : tie.Need-children-of-requires Inv-loop μ-loop
+children-of-requires c κs = root-ready _ (c .before .pre .ready)
+
+intersection-requires : tie.Need-intersection-requires Inv-loop μ-loop
+intersection-requires c κs = search needs
 
 loop-holds : tie.Need-loop-holds Inv-loop μ-loop
 loop-holds c = remain-begin _ _
@@ -27,13 +33,22 @@ enum-told : tie.Need-enum-told Inv-loop μ-loop
 enum-told c = search needs
 
 returns : tie.Need-returns Inv-loop μ-loop
-returns c = any-end _ _ _ _ (c .before .before .before .loop .inv) (c .before .before .next-from .ensures) (c .enum-told .given .1)
+returns c =
+    let at = c .before .before .before .before in
+    final-children _ _ _ _ _ (at .before .before .before .pre) (at .before .children-of .ensures) (at .intersection .ensures)
+    (any-end _ _ _ _ (c .before .before .before .loop .inv) (c .before .before .next-from .ensures) (c .enum-told .given .1))
 
 is-final-under-root-requires : tie.Need-is-final-under-root-requires Inv-loop μ-loop
-is-final-under-root-requires c κs = row-ready _ _ _ (c .before .before .before .before .before .before .pre) (found-next _ _ _ (c .before .before .before .next-from .ensures) _ (c .before .r .given .1) .here)
+is-final-under-root-requires c κs =
+    let at = c .before .before .before .before .before in
+    row-ready _ _ _ (part-ready _ _ _ _ (at .before .before .before .pre) (at .intersection .ensures))
+    (found-next _ _ _ (c .before .before .before .next-from .ensures) _ (c .before .r .given .1) .here)
 
 returns-2 : tie.Need-returns-2 Inv-loop μ-loop
-returns-2 c = any-stop _ _ _ _ _ _ (c .before .before .before .before .before .before .loop .inv) (c .before .before .before .before .before .next-from .ensures) (c .before .before .before .r .given .1) (c .before .is-final-under-root .ensures) (c .if1 .taken)
+returns-2 c =
+    let at = c .before .before .before .before .before .before .before in
+    final-children _ _ _ _ _ (at .before .before .before .pre) (at .before .children-of .ensures) (at .intersection .ensures)
+    (any-stop _ _ _ _ _ _ (c .before .before .before .before .before .before .loop .inv) (c .before .before .before .before .before .next-from .ensures) (c .before .before .before .r .given .1) (c .before .is-final-under-root .ensures) (c .if1 .taken))
 
 cast-k : tie.Need-cast-k Inv-loop μ-loop
 cast-k c = search needs
@@ -53,6 +68,8 @@ has-final-spec =
     (tie.spec
     Inv-loop
     μ-loop
+    children-of-requires
+    intersection-requires
     loop-holds
     next-from-requires
     enum-known-r

@@ -1,29 +1,29 @@
+use borrow.Author.Needs.{needs}
 use mathlib.Core.List.{[]}
 use mathlib.Core.Path.{_≡_, refl, sym, ap, _∙_}
 use Prim.Native.Nat.{_-_, _≤_}
 use native.Mathlib.Omega.{arith}
 use lib.ListN.{length}
-use borrow.Author.Needs.{needs}
 use Rattle.definition.specs.Selection.{addOnce, choose}
 use Rattle.definition.specs.Tables.{nameAt, chartOf}
 use Rattle.rowset.specs.Visits.{Visited, visit-begin, visit-turn, visit-end, found-next, next-small, next-less}
 use Rattle.rowset.specs.Member.{rowsOf}
-use Rattle.matching.specs.Chosen.{listOf, chosenOf, list-begin, active-inside, candidates-done}
+use Rattle.matching.specs.Chosen.{listOf, list-begin, active-inside, candidates-done}
 use Rattle.matching.specs.Events.{eventOf}
 use Rattle.matching.proofs.candidates.Statement.{statement}
 use Rattle.matching.proofs.candidates.Tie as tie
 
 abbrev Inv-loop : tie.InvT-loop
-Inv-loop chart names starts conf event active items₀ len₀ k₀ items len k = (length items ≡ 256) × (len ≤ k) × Visited (choose (chartOf chart) (nameAt names) (rowsOf conf) (eventOf event)) [] (listOf items len) active k
+Inv-loop chart names starts conf event items₀ active len₀ k₀ items len k = (length items ≡ 256) × (len ≤ k) × Visited (choose (chartOf chart) (nameAt names) (rowsOf conf) (eventOf event)) [] (listOf items len) active k
 
 abbrev μ-loop : tie.MeasureT-loop
-μ-loop chart names starts conf event active items₀ len₀ k₀ items len k = 256 - k
+μ-loop chart names starts conf event items₀ active len₀ k₀ items len k = 256 - k
 
 intersection-requires : tie.Need-intersection-requires Inv-loop μ-loop
 intersection-requires c κs = search needs
 
 loop-holds : tie.Need-loop-holds Inv-loop μ-loop
-loop-holds c = (refl, omega arith, visit-begin _ _ _ _ (list-begin _))
+loop-holds c = (c .before .before .before .before .before .before .pre .2, omega arith, visit-begin _ _ _ _ (list-begin _))
 
 next-from-requires : tie.Need-next-from-requires Inv-loop μ-loop
 next-from-requires c κs = search needs
@@ -34,24 +34,21 @@ enum-known-i c = search needs
 enum-told : tie.Need-enum-told Inv-loop μ-loop
 enum-told c = search needs
 
+same-length : tie.Need-same-length Inv-loop μ-loop
+same-length c = c .before .before .before .loop .inv .0 ∙ sym (c .before .before .before .before .before .before .before .before .before .before .pre .2)
+
 returns : tie.Need-returns Inv-loop μ-loop
-unfolding chosenOf
 returns c = let v = c .before .before .before .loop .inv in
-    let p = c .before .before .before .before .before .before .before .before .before .pre in
     let b = v .2 .low in
-    candidates-done _ (p .0 .compiled .ready .sound) _ _ _ _ _ _ (p .1) (p .0 .atomic) (c .before .before .before .before .intersection .ensures)
+    candidates-done _ (c .before .before .before .before .before .before .before .before .before .before .pre .0 .compiled .ready .sound) _ _ _ _ _ _ _ (c .before .before .before .before .before .before .before .before .before .before .pre .1) (c .before .before .before .before .before .before .before .before .before .before .pre .0 .atomic) (c .before .before .before .before .intersection .ensures)
     (visit-end _ _ _ _ _ _ (v .2) (c .before .before .next-from .ensures) (c .enum-told .given .1)) (v .0) (omega arith)
 
 choice-of-requires : tie.Need-choice-of-requires Inv-loop μ-loop
-choice-of-requires c κs = let p = c .before .before .before .before .before .before .before .before .before .before .pre in
-    record {
-      compiled = p .0 .compiled;
-      indexed = p .0 .indexed;
-      inside = active-inside _ _ _ _ _ (p .1) (c .before .before .before .before .before .intersection .ensures) (found-next _ _ _ (c .before .before .before .next-from .ensures) _ (c .before .i .given .1) .here);
-    }
-
-slice-aggregate-add-once : tie.Need-slice-aggregate-add-once Inv-loop μ-loop
-slice-aggregate-add-once c = sym (c .before .before .before .before .before .before .loop .inv .0)
+choice-of-requires c κs = record {
+  compiled = c .before .before .before .before .before .before .before .before .before .before .before .pre .0 .compiled;
+  indexed = c .before .before .before .before .before .before .before .before .before .before .before .pre .0 .indexed;
+  inside = active-inside _ _ _ _ _ (c .before .before .before .before .before .before .before .before .before .before .before .pre .1) (c .before .before .before .before .before .intersection .ensures) (found-next _ _ _ (c .before .before .before .next-from .ensures) _ (c .before .i .given .1) .here);
+}
 
 add-once-requires : tie.Need-add-once-requires Inv-loop μ-loop
 add-once-requires c κs = let v = c .before .before .before .before .before .before .loop .inv in
@@ -69,18 +66,18 @@ add-k : tie.Need-add-k Inv-loop μ-loop
 add-k c = search needs
 
 loop-less : tie.Need-loop-less Inv-loop μ-loop
-loop-less c = next-less _ _ _ (c .before .before .before .before .before .before .before .before .next-from .ensures) _ (c .before .before .before .before .before .before .i .given .1)
+loop-less c = next-less _ _ _ (c .before .before .before .before .before .before .before .before .before .next-from .ensures) _ (c .before .before .before .before .before .before .before .i .given .1)
 
 loop-again : tie.Need-loop-again Inv-loop μ-loop
 unfolding choose
-loop-again c = let v = c .before .before .before .before .before .before .before .before .before .loop .inv in
+loop-again c = let v = c .before .before .before .before .before .before .before .before .before .before .loop .inv in
     let m = v .1 in
-    let f = found-next _ _ _ (c .before .before .before .before .before .before .before .before .next-from .ensures) _ (c .before .before .before .before .before .before .i .given .1) in
+    let f = found-next _ _ _ (c .before .before .before .before .before .before .before .before .before .next-from .ensures) _ (c .before .before .before .before .before .before .before .i .given .1) in
     let l = f .low in
-    let n = c .before .before .add-once .ensures .most in (
-      c .before .before .add-once .ensures .room ∙ v .0,
+    let n = c .before .before .before .add-once .ensures .most in (
+      c .before .before .before .add-once .ensures .room ∙ v .0,
       omega arith,
-      visit-turn _ _ _ _ _ _ _ _ (v .2) (c .before .before .before .before .before .before .before .before .next-from .ensures) (c .before .before .before .before .before .before .i .given .1) (c .before .before .add-once .ensures .is ∙ ap (addOnce _) (c .before .before .before .before .choice-of .ensures)),
+      visit-turn _ _ _ _ _ _ _ _ (v .2) (c .before .before .before .before .before .before .before .before .before .next-from .ensures) (c .before .before .before .before .before .before .before .i .given .1) (c .before .before .before .add-once .ensures .is ∙ ap (addOnce _) (c .before .before .before .before .before .choice-of .ensures)),
     )
 
 pub candidates-spec : {M : Type 1} → statement M
@@ -94,9 +91,9 @@ candidates-spec =
     next-from-requires
     enum-known-i
     enum-told
+    same-length
     returns
     choice-of-requires
-    slice-aggregate-add-once
     add-once-requires
     cast-k
     add-k

@@ -1,3 +1,4 @@
+use mathlib.Core.Path.{refl}
 use borrow.Author.Needs.{needs}
 use Rattle.matching.specs.Events.{matched-at}
 use Rattle.matching.proofs.matches_at.Statement.{statement}
@@ -6,14 +7,11 @@ use Rattle.matching.proofs.matches_at.Tie as tie
 slot-of-requires : tie.Need-slot-of-requires
 slot-of-requires c κs = search needs
 
-name-of-requires : tie.Need-name-of-requires
-name-of-requires c κs = search needs
-
-matches-requires : tie.Need-matches-requires
-matches-requires c κs = search needs
+slot-matches-requires : tie.Need-slot-matches-requires
+slot-matches-requires c κs = search needs
 
 returns : tie.Need-returns
-returns c = matched-at _ _ _ _ _ _ (c .before .before .slot-of .ensures .is) (c .before .name-of .ensures) (c .matches .ensures)
+returns c = matched-at _ _ _ _ _ _ (c .before .slot-of .ensures .is) refl (c .slot-matches .ensures)
 
 pub matches-at-spec : {M : Type 1} → statement M
-matches-at-spec = tie.close (tie.spec slot-of-requires name-of-requires matches-requires returns)
+matches-at-spec = tie.close (tie.spec slot-of-requires slot-matches-requires returns)

@@ -9,16 +9,16 @@ use Rattle.microstep.proofs.entry_set.Statement.{statement}
 use Rattle.microstep.proofs.entry_set.Tie as tie
 
 abbrev Inv-loop : tie.InvT-loop
-Inv-loop chart e₀ k₀ e k = Completing (chartOf chart) (rowsOf (e₀ .set)) e k
+Inv-loop chart atoms e₀ k₀ e k = Completing (chartOf chart) (rowsOf (e₀ .set)) e k
 
 abbrev μ-loop : tie.MeasureT-loop
-μ-loop chart e₀ k₀ e k = 256 - k
+μ-loop chart atoms e₀ k₀ e k = 256 - k
 
 empty-requires : tie.Need-empty-requires Inv-loop μ-loop
 empty-requires c κs = search needs
 
 loop-holds : tie.Need-loop-holds Inv-loop μ-loop
-loop-holds c = completing-begin _ _ _ refl (c .empty .ensures) (c .before .before .pre .1)
+loop-holds c = completing-begin _ _ _ refl (c .empty .ensures) (c .before .before .pre .2)
 
 next-from-requires : tie.Need-next-from-requires Inv-loop μ-loop
 next-from-requires c κs = search needs
@@ -27,7 +27,7 @@ enum-known-r : tie.Need-enum-known-r Inv-loop μ-loop
 enum-known-r c = search needs
 
 complete-row-requires : tie.Need-complete-row-requires Inv-loop μ-loop
-complete-row-requires c κs = (record { ready = c .before .before .before .before .before .before .before .before .pre .0; inside = completing-row _ _ _ _ _ _ (c .before .before .before .before .before .loop .inv) (c .before .before .before .next-from .ensures) (c .before .r .given .1) }, found-next _ _ _ (c .before .before .before .next-from .ensures) _ (c .before .r .given .1) .here)
+complete-row-requires c κs = (c .before .before .before .before .before .before .before .before .pre .0, record { ready = c .before .before .before .before .before .before .before .before .pre .1; inside = completing-row _ _ _ _ _ _ (c .before .before .before .before .before .loop .inv) (c .before .before .before .next-from .ensures) (c .before .r .given .1) }, found-next _ _ _ (c .before .before .before .next-from .ensures) _ (c .before .r .given .1) .here)
 
 row-after-requires : tie.Need-row-after-requires Inv-loop μ-loop
 row-after-requires c κs = search needs

@@ -1,12 +1,14 @@
 use borrow.Author.Needs.{needs}
-use mathlib.Core.Path.{refl}
+use mathlib.Core.Path.{refl, sym, _∙_}
+use native.Mathlib.Omega.{arith}
+use Rattle.matching.specs.Chosen.{listOf, list-length}
 use Rattle.rounds.specs.Deciding.{taken-idle, has-chosen}
 use Rattle.rounds.proofs.Tags.{not-nothing}
 use Rattle.rounds.proofs.take.Statement.{statement}
 use Rattle.rounds.proofs.take.Tie as tie
 
 choose-requires : tie.Need-choose-requires
-choose-requires c κs = (c .before .before .before .before .before .before .before .before .before .before .pre .0 .prepared, c .before .before .before .before .before .before .before .before .before .before .pre .1)
+choose-requires c κs = (c .before .before .before .before .before .before .before .before .before .before .before .before .before .before .pre .0 .looked, c .before .before .before .before .before .before .before .before .before .before .before .before .before .before .pre .1, c .before .before .before .before .before .before .before .before .before .before .before .before .before .before .pre .2)
 
 enum-told : tie.Need-enum-told
 enum-told c = search needs
@@ -23,26 +25,43 @@ same-length-2 c = refl
 same-length-3 : tie.Need-same-length-3
 same-length-3 c = refl
 
+same-length-4 : tie.Need-same-length-4
+same-length-4 c = c .before .before .before .before .before .choose .ensures .selected .fits .room ∙ sym (c .before .before .before .before .before .before .before .before .before .before .before .before .before .before .before .before .before .before .before .before .pre .2)
+
 returns : tie.Need-returns
-returns c = taken-idle _ _ _ _ _ _ _ _ _ (c .before .before .before .before .before .before .before .before .before .before .before .before .before .before .pre .0) (c .before .before .before .before .before .before .before .before .before .before .before .before .before .before .pre .1) _ (c .before .before .before .choose .ensures) _ _ (c .unchanged .ensures) (c .before .enum-told .given .1)
+returns c = taken-idle _ _ _ _ _ _ _ _ _ _ _ (c .before .before .before .before .before .before .before .before .before .before .before .before .before .before .before .before .before .before .before .before .pre .0) (c .before .before .before .before .before .before .before .before .before .before .before .before .before .before .before .before .before .before .before .before .pre .1) _ _ (c .before .before .before .before .before .choose .ensures) _ _ (c .unchanged .ensures) (c .before .enum-told .given .1)
+
+slice-reshare-prefix-carry-out : tie.Need-slice-reshare-prefix-carry-out
+slice-reshare-prefix-carry-out c = let r = c .before .before .before .before .choose .ensures .selected .fits .room in let m = c .before .before .before .before .choose .ensures .selected .fits .most in omega arith
+
+slice-aggregate-carry-out : tie.Need-slice-aggregate-carry-out
+unfolding listOf
+slice-aggregate-carry-out c = sym (list-length _ _ (let r = c .before .before .before .before .before .choose .ensures .selected .fits .room in let m = c .before .before .before .before .before .choose .ensures .selected .fits .most in omega arith))
 
 carry-out-requires : tie.Need-carry-out-requires
-carry-out-requires c κs = has-chosen _ _ _ _ _ _ _ _ _ (c .before .before .before .before .before .before .before .before .before .before .before .before .before .before .before .before .pre .0) (c .before .before .before .before .before .before .before .before .before .before .before .before .before .before .before .before .pre .1) _ (c .before .before .before .before .before .choose .ensures) (not-nothing _ (c .before .before .before .before .match .keys2))
-
-same-length-4 : tie.Need-same-length-4
-same-length-4 c = c .before .before .before .before .before .before .before .before .carry-out .kept .1 .1 .1 .1 .1 .1 .0
+unfolding listOf
+carry-out-requires c κs = has-chosen _ _ _ _ _ _ _ _ _ _ _ (c .before .before .before .before .before .before .before .before .before .before .before .before .before .before .before .before .before .before .before .before .before .before .before .before .before .pre .0) (c .before .before .before .before .before .before .before .before .before .before .before .before .before .before .before .before .before .before .before .before .before .before .before .before .before .pre .1) _ _ (c .before .before .before .before .before .before .before .before .before .before .choose .ensures) (not-nothing _ (c .before .before .before .before .before .before .before .match .keys2))
 
 same-length-5 : tie.Need-same-length-5
-same-length-5 c = c .before .before .before .before .before .before .before .before .carry-out .kept .1 .1 .1 .1 .1 .1 .1 .0
+same-length-5 c = c .before .before .before .before .before .before .before .before .before .before .carry-out .kept .1 .1 .1 .1 .1 .1 .1 .1 .0
 
 same-length-6 : tie.Need-same-length-6
-same-length-6 c = c .before .before .before .before .before .before .before .before .carry-out .kept .1 .1 .1 .1 .1 .1 .1 .1 .0
+same-length-6 c = c .before .before .before .before .before .before .before .before .before .before .carry-out .kept .1 .1 .1 .1 .1 .1 .1 .1 .1 .0
 
 same-length-7 : tie.Need-same-length-7
-same-length-7 c = c .before .before .before .before .before .before .before .before .carry-out .kept .1 .1 .1 .1 .1 .1 .1 .1 .1 .0
+same-length-7 c = c .before .before .before .before .before .before .before .before .before .before .carry-out .kept .1 .1 .1 .1 .1 .1 .1 .1 .1 .1 .0
+
+same-length-8 : tie.Need-same-length-8
+same-length-8 c = c .before .before .before .before .before .before .before .before .before .before .before .before .before .before .before .before .before .before .before .before .before .choose .ensures .selected .fits .room ∙ sym (c .before .before .before .before .before .before .before .before .before .before .before .before .before .before .before .before .before .before .before .before .before .before .before .before .before .before .before .before .before .before .before .before .before .before .before .before .pre .2)
+
+same-length-9 : tie.Need-same-length-9
+same-length-9 c = c .before .before .before .before .before .before .before .before .before .before .carry-out .kept .1 .1 .1 .1 .1 .1 .1 .1 .1 .1 .1 .0
+
+same-length-10 : tie.Need-same-length-10
+same-length-10 c = c .before .before .before .before .before .before .before .before .before .before .carry-out .kept .1 .1 .1 .1 .1 .1 .1 .1 .1 .1 .1 .1 .0
 
 returns-2 : tie.Need-returns-2
-returns-2 c = c .before .before .before .before .before .before .before .before .carry-out .ensures
+returns-2 c = c .before .before .before .before .before .before .before .before .before .before .carry-out .ensures
 
 pub take-spec : {M : Type 1} → statement M
 take-spec =
@@ -54,10 +73,15 @@ take-spec =
     same-length
     same-length-2
     same-length-3
-    returns
-    carry-out-requires
     same-length-4
+    returns
+    slice-reshare-prefix-carry-out
+    slice-aggregate-carry-out
+    carry-out-requires
     same-length-5
     same-length-6
     same-length-7
+    same-length-8
+    same-length-9
+    same-length-10
     returns-2)

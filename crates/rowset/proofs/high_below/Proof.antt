@@ -22,7 +22,7 @@ fits : (c : tie.After-ones-below) → v c < 2 ^ 64
 fits c = omega (arith, and-le-l (c .before .args .w) (c .ones-below .result))
 
 returns : tie.Need-returns
-returns c = high-missing (c .before .before .args .w) (c .before .before .args .k) (v (c .before)) (masked (c .before)) (omega arith) (c .if1 .taken)
+returns c = high-missing (c .before .before .args .w) _ (v (c .before)) (masked (c .before)) (c .if1 .taken)
 
 cast-result : tie.Need-cast-result
 cast-result c = omega (arith, leading-le 64 (v (c .before)))
@@ -32,7 +32,7 @@ sub-result c = leading-small (v (c .before)) (omega arith) (fits (c .before))
 
 returns-2 : tie.Need-returns-2
 returns-2 c =
-    high-found (c .before .before .args .w) (c .before .before .args .k) (v (c .before)) (masked (c .before)) (omega arith) _ (omega arith) (fits (c .before)) refl
+    high-found (c .before .before .args .w) _ (v (c .before)) (masked (c .before)) _ (omega arith) (fits (c .before)) refl
 
 pub high-below-spec : {M : Type 1} → statement M
 high-below-spec = tie.close (tie.spec ones-below-requires returns cast-result sub-result returns-2)

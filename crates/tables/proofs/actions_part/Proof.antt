@@ -1,8 +1,14 @@
 use borrow.Author.Needs.{needs}
-use Rattle.tables.specs.Parts.{block-listed}
+use Rattle.tables.specs.Parts.{block-listed, block-none}
 use Rattle.tables.specs.Ranges.{layout}
 use Rattle.tables.proofs.actions_part.Statement.{statement}
 use Rattle.tables.proofs.actions_part.Tie as tie
+
+slice-aggregate-result : tie.Need-slice-aggregate-result
+slice-aggregate-result c = search needs
+
+returns : tie.Need-returns
+returns c = block-none _ _ _ (c .before .if1 .taken)
 
 action-base-requires : tie.Need-action-base-requires
 action-base-requires c κs = search needs
@@ -35,13 +41,15 @@ part-result-end : tie.Need-part-result-end
 unfolding layout
 part-result-end c = search needs
 
-returns : tie.Need-returns
-returns c = block-listed _ _ _ _ (c .before .before .before .pre) (c .before .action-base .ensures)
+returns-2 : tie.Need-returns-2
+returns-2 c = block-listed _ _ _ _ (c .before .before .before .before .pre) (c .before .action-base .ensures)
 
 pub actions-part-spec : {M : Type 1} → statement M
 actions-part-spec =
     tie.close
     (tie.spec
+    slice-aggregate-result
+    returns
     action-base-requires
     mul-from
     add-from
@@ -51,4 +59,4 @@ actions-part-spec =
     sub-result
     part-result-start
     part-result-end
-    returns)
+    returns-2)

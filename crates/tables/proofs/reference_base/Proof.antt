@@ -1,26 +1,27 @@
 use borrow.Author.Needs.{needs}
-use Rattle.definition.specs.Tables.{transitionBase, referenceBase}
+use Rattle.definition.specs.Tables.{transitionCount, referenceBase}
+use Rattle.tables.specs.Ranges.{layout}
 use Rattle.tables.proofs.reference_base.Statement.{statement}
 use Rattle.tables.proofs.reference_base.Tie as tie
 
 transition-base-requires : tie.Need-transition-base-requires
 transition-base-requires c κs = search needs
 
-transition-count-requires : tie.Need-transition-count-requires
-transition-count-requires c κs = search needs
+shared-slice-read-result : tie.Need-shared-slice-read-result
+unfolding layout
+shared-slice-read-result c = search needs
 
 mul-result : tie.Need-mul-result
+unfolding transitionCount
 mul-result c = search needs
 
 add-result : tie.Need-add-result
-unfolding transitionBase
+unfolding transitionCount layout
 add-result c = search needs
 
 returns : tie.Need-returns
-unfolding referenceBase
+unfolding referenceBase transitionCount
 returns c = search needs
 
 pub reference-base-spec : {M : Type 1} → statement M
-reference-base-spec =
-    tie.close
-    (tie.spec transition-base-requires transition-count-requires mul-result add-result returns)
+reference-base-spec = tie.close (tie.spec transition-base-requires shared-slice-read-result mul-result add-result returns)

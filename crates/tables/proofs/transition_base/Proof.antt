@@ -1,20 +1,24 @@
 use borrow.Author.Needs.{needs}
-use Rattle.definition.specs.Tables.{transitionBase}
+use Rattle.definition.specs.Tables.{rowCount, transitionBase}
+use Rattle.tables.specs.Ranges.{layout}
 use Rattle.tables.proofs.transition_base.Statement.{statement}
 use Rattle.tables.proofs.transition_base.Tie as tie
 
-row-count-requires : tie.Need-row-count-requires
-row-count-requires c κs = search needs
+shared-slice-read-result : tie.Need-shared-slice-read-result
+unfolding layout
+shared-slice-read-result c = search needs
 
 mul-result : tie.Need-mul-result
+unfolding rowCount
 mul-result c = search needs
 
 add-result : tie.Need-add-result
+unfolding rowCount layout
 add-result c = search needs
 
 returns : tie.Need-returns
-unfolding transitionBase
+unfolding transitionBase rowCount
 returns c = search needs
 
 pub transition-base-spec : {M : Type 1} → statement M
-transition-base-spec = tie.close (tie.spec row-count-requires mul-result add-result returns)
+transition-base-spec = tie.close (tie.spec shared-slice-read-result mul-result add-result returns)
