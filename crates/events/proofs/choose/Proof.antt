@@ -14,7 +14,8 @@ returns : tie.Need-returns
 returns c = choose-eventless _ _ (c .before .before .before .before .before .before .before .before .before .before .before .before .before .before .before .pre .0 .prepared .compiled) _ _ _ _ _ (c .before .before .before .before .before .before .before .before .before .before .before .before .before .before .before .pre .1) _ _ (c .before .before .before .before .select-eventless .ensures) (c .if1 .taken)
 
 first-name-requires : tie.Need-first-name-requires
-first-name-requires c κs = let e = internal-size _ _ (c .before .before .before .before .before .before .before .before .before .before .before .before .before .before .before .before .before .pre .0 .prepared .compiled) _ _ _ _ _ (c .before .before .before .before .before .before .before .before .before .before .before .before .before .before .before .before .before .pre .1) in record { inside = omega arith }
+first-name-requires c κs = let e = internal-size _ _ (c .before .before .before .before .before .before .before .before .before .before .before .before .before .before .before .before .before .pre .0 .prepared .compiled) _ _ _ _ _ (c .before .before .before .before .before .before .before .before .before .before .before .before .before .before .before .before .before .pre .1) in
+    let f = external-size _ _ (c .before .before .before .before .before .before .before .before .before .before .before .before .before .before .before .before .before .pre .0 .prepared .compiled) _ _ _ _ _ (c .before .before .before .before .before .before .before .before .before .before .before .before .before .before .before .before .before .pre .1) in record { inside = omega arith }
 
 select-requires : tie.Need-select-requires
 select-requires c κs = let p = c .before .before .before .before .before .before .before .before .before .before .before .before .before .before .before .before .before .before .before .pre .0 .prepared in record { prepared = p; routed = c .before .before .before .before .before .before .before .before .before .before .before .before .before .before .before .before .before .before .before .pre .0 .routed; inside = conf-within _ _ (p .compiled) _ _ _ _ _ (c .before .before .before .before .before .before .before .before .before .before .before .before .before .before .before .before .before .before .before .pre .1); room = history-size _ _ (p .compiled) _ _ _ _ _ (c .before .before .before .before .before .before .before .before .before .before .before .before .before .before .before .before .before .before .before .pre .1); places = c .before .before .before .before .before .before .before .before .select-eventless .ensures .fits .room }
@@ -26,7 +27,8 @@ returns-2 : tie.Need-returns-2
 returns-2 c = choose-internal _ _ (c .before .before .before .before .before .before .before .before .before .before .before .before .before .before .before .before .before .before .before .before .before .before .pre .0 .prepared .compiled) _ _ _ _ _ (c .before .before .before .before .before .before .before .before .before .before .before .before .before .before .before .before .before .before .before .before .before .before .pre .1) _ _ (c .before .before .before .before .before .before .before .before .before .before .before .select-eventless .ensures) (c .before .before .before .before .before .before .before .if1 .left) (c .before .before .before .before .before .if2 .taken) _ _ _ (c .before .before .before .before .first-name .ensures) (c .before .before .select .ensures)
 
 first-name-requires-2 : tie.Need-first-name-requires-2
-first-name-requires-2 c κs = let e = external-size _ _ (c .before .before .before .before .before .before .before .before .before .before .before .before .before .before .before .before .before .before .before .pre .0 .prepared .compiled) _ _ _ _ _ (c .before .before .before .before .before .before .before .before .before .before .before .before .before .before .before .before .before .before .before .pre .1) in record { inside = omega arith }
+first-name-requires-2 c κs = let e = internal-size _ _ (c .before .before .before .before .before .before .before .before .before .before .before .before .before .before .before .before .before .before .before .pre .0 .prepared .compiled) _ _ _ _ _ (c .before .before .before .before .before .before .before .before .before .before .before .before .before .before .before .before .before .before .before .pre .1) in
+    let f = external-size _ _ (c .before .before .before .before .before .before .before .before .before .before .before .before .before .before .before .before .before .before .before .pre .0 .prepared .compiled) _ _ _ _ _ (c .before .before .before .before .before .before .before .before .before .before .before .before .before .before .before .before .before .before .before .pre .1) in record { inside = omega arith }
 
 select-requires-2 : tie.Need-select-requires-2
 select-requires-2 c κs = let p = c .before .before .before .before .before .before .before .before .before .before .before .before .before .before .before .before .before .before .before .before .before .pre .0 .prepared in record { prepared = p; routed = c .before .before .before .before .before .before .before .before .before .before .before .before .before .before .before .before .before .before .before .before .before .pre .0 .routed; inside = conf-within _ _ (p .compiled) _ _ _ _ _ (c .before .before .before .before .before .before .before .before .before .before .before .before .before .before .before .before .before .before .before .before .before .pre .1); room = history-size _ _ (p .compiled) _ _ _ _ _ (c .before .before .before .before .before .before .before .before .before .before .before .before .before .before .before .before .before .before .before .before .before .pre .1); places = c .before .before .before .before .before .before .before .before .before .before .select-eventless .ensures .fits .room }
