@@ -317,7 +317,17 @@ fn mark_pair(compare: bool, descriptor: &[u8], event: &[u8]) {
     if compare {
         mark(names::equal(descriptor, event));
     } else {
+        mark_match(descriptor, event);
+    }
+}
+
+// Whether the event matches; and the match of a slot has to say the same as that of the name which the slot holds.
+fn mark_match(descriptor: &[u8], event: &[u8]) {
+    let held = names::matches(names::name_of(descriptor), event);
+    if held == names::slot_matches(descriptor, event) {
         mark(names::matches(descriptor, event));
+    } else {
+        put(b'!');
     }
 }
 
