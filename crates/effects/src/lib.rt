@@ -1,5 +1,5 @@
-// Writes the effects of a round into the lent trace, and counts them. An entry that finds no room is counted alone, so a round is
-// counted first, with an empty trace, and written when its entries are known to fit.
+// Writes the effects of a round into a lent place, and counts them. An entry that finds no room is counted alone, so a round can be worked
+// out before its entries are known to fit: into a draft, or with no place to write into.
 ghost use mathlib.Core.Path.{_≡_};
 ghost use mathlib.Core.Bool.{cond};
 ghost use mathlib.Core.List.{[], _∷_};

@@ -19,7 +19,7 @@ use Rattle.matching.specs.Chosen.{listOf}
 use Rattle.matching.specs.Eventless.{eventlessRows}
 use Rattle.matching.specs.Ready.{Prepared}
 use Rattle.selection.specs.Ready.{Selects}
-use Rattle.selection.specs.Routes.{Routed}
+use Rattle.selection.specs.FixedDomains.{DomainsFixed}
 use Rattle.effects.specs.Kinds.{effectOf}
 use Rattle.queue.specs.Queues.{queueBytes, Waiting}
 use Rattle.events.specs.declared.Source.{Source}
@@ -48,7 +48,7 @@ roundBy External c names f ts = taking c names f (internalAfter External f) (ext
 -- what is worked out of a chart once, for all rounds of a call
 pub record Lookup (chart names starts domains : List ℕ) (atoms eventless : RowSet) : Type 0 where
   pub prepared : Prepared chart names starts atoms
-  pub routed : Routed (chartOf chart) domains
+  pub fixed : DomainsFixed (chartOf chart) domains
   pub sources : rowsOf eventless ≡ eventlessRows (chartOf chart)
 
 -- the choice of a running session's next round: hist reads the stored history of f

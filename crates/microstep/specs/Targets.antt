@@ -17,7 +17,7 @@ use Rattle.theory.specs.Domain.{effective-of}
 use Rattle.theory.specs.Entry.{isOnPath, mem-paths, ascends-paths}
 use Rattle.chart.specs.Inside.{default-inside}
 use Rattle.matching.specs.Chosen.{Within}
-use Rattle.selection.specs.Routes.{isHistoryRow, Route, plain-none, plain-targets, route-plain, route-domain}
+use Rattle.selection.specs.FixedDomains.{isHistoryRow, FixedDomain, none-history, anchors-stand, fixed-targets, fixed-is-domain}
 
 -- the order of the list does not matter
 pub paths-same : (c : Chart) (d : ℕ) (xs ys : List ℕ) → ((a : ℕ) → mem a xs ≡ mem a ys) → pathsBelow c d xs ≡ pathsBelow c d ys
@@ -79,7 +79,7 @@ module _ (c : Chart) (after : History) (set : List ℕ) (x : ℕ) where
   unfolding addFell fellToDefault
   fell-plain h = rw h
 
--- ---- a transition with a route has no history among its targets
+-- ---- a transition whose domain is fixed has no history among its targets
 
 none-fell : (c : Chart) (after : History) (xs : List ℕ) → any (isHistoryRow c) xs ≡ false → keep (fellToDefault c after) xs ≡ []
 unfolding any isHistoryRow fellToDefault
@@ -89,17 +89,17 @@ none-fell c after (x ∷ xs) h =
     let q : any (isHistoryRow c) xs ≡ false = not-so (any (isHistoryRow c) xs) (λ e. no (sym h ∙ or-right (isHistory (kind c x)) (any (isHistoryRow c) xs) e)) in
     rw p (none-fell c after xs q)
 
-module _ (c : Chart) (before after : History) (set : List ℕ) (t d : ℕ) (r : Route c t d) (known : d < 256) where
-  pub routed-fallen : set ≡ addFallen c after set t
+module _ (c : Chart) (before after : History) (set : List ℕ) (t d : ℕ) (r : FixedDomain c t d) (known : d < 256) where
+  pub fixed-fallen : set ≡ addFallen c after set t
   unfolding addFallen union fold
-  routed-fallen = rw (none-fell c after ((c .transition) t .targets) (plain-none c after t (route-plain c after t d r known)))
+  fixed-fallen = rw (none-fell c after ((c .transition) t .targets) (none-history c after t (fixed-targets c after t d r known)))
 
-  pub routed-anchors : (to : List ℕ) → to ≡ anchors c t → to ≡ effectiveTargets c after ((c .transition) t)
-  routed-anchors to e = e ∙ sym (plain-targets c after t (route-plain c after t d r known))
+  pub fixed-anchors : (to : List ℕ) → to ≡ anchors c t → to ≡ effectiveTargets c after ((c .transition) t)
+  fixed-anchors to e = e ∙ sym (anchors-stand c after t (fixed-targets c after t d r known))
 
-  pub routed-targets : (to paths all : List ℕ) → to ≡ anchors c t → paths ≡ pathsBelow c d to → all ≡ union set paths → all ≡ addTargets c before after set t
+  pub fixed-aim : (to paths all : List ℕ) → to ≡ anchors c t → paths ≡ pathsBelow c d to → all ≡ union set paths → all ≡ addTargets c before after set t
   unfolding addTargets
-  routed-targets to paths all e f h = h ∙ ap (union set) (f ∙ ap (pathsBelow c d) (routed-anchors to e) ∙ ap (λ (a : ℕ). pathsBelow c a (effectiveTargets c after ((c .transition) t))) (route-domain c before t d r known))
+  fixed-aim to paths all e f h = h ∙ ap (union set) (f ∙ ap (pathsBelow c d) (fixed-anchors to e) ∙ ap (λ (a : ℕ). pathsBelow c a (effectiveTargets c after ((c .transition) t))) (fixed-is-domain c before t d r known))
 
 -- ---- what is aimed at lies inside the chart
 

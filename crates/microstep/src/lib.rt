@@ -14,7 +14,7 @@ ghost use Rattle.rowset.specs.Member.{rowsOf};
 ghost use Rattle.chart.specs.Ready.{Ready, RowReady};
 ghost use Rattle.matching.specs.Chosen.{Within, Taken};
 ghost use Rattle.selection.specs.History.{storedAt};
-ghost use Rattle.selection.specs.Routes.{Routed};
+ghost use Rattle.selection.specs.FixedDomains.{DomainsFixed};
 ghost use Rattle.effects.specs.Trace.{Wrote};
 ghost use Rattle.effects.specs.Entering.{HistoryRow};
 ghost use Rattle.microstep.specs.Stored.{StoreReady, RoundReady, TakenReady, StoredIs};
@@ -39,7 +39,7 @@ use numbers::Transition;
 use numbers::row_index;
 use rowset::Found;
 use rowset::RowSet;
-use selection::NO_ROUTE;
+use selection::NO_DOMAIN;
 use selection::Stored;
 use selection::add_stand_ins;
 use selection::as_stored;
@@ -159,7 +159,7 @@ fn add_fallen(
     set
 }
 
-// The same; a transition with a route has no history among its targets.
+// The same; a transition whose domain is fixed has no history among its targets.
 fn add_fallen_by(
     chart: &[u64],
     domains: &[u16],
@@ -170,11 +170,11 @@ fn add_fallen_by(
     set: RowSet,
     t: Transition,
 ) -> RowSet
-    requires { ⌜ Routed (chartOf (now chart)) (now domains) × TakenReady (now chart) (now history) atoms conf (t .0) ⌝ }
+    requires { ⌜ DomainsFixed (chartOf (now chart)) (now domains) × TakenReady (now chart) (now history) atoms conf (t .0) ⌝ }
     ensures { λ s. ⌜ rowsOf s ≡ addFallen (chartOf (now (chart .entry))) (stored (chartOf (now (chart .entry))) (rowsOf conf) (storedAt (now (history .entry))) (rowsOf out)) (rowsOf set) (t .0) ⌝ }
 {
     let at = t.0 as usize;
-    if domains[at] < NO_ROUTE {
+    if domains[at] < NO_DOMAIN {
         return set;
     }
     add_fallen(chart, atoms, conf, history, out, set, t)
@@ -190,7 +190,7 @@ fn fallen_of(
     out: RowSet,
     chosen: &[u16],
 ) -> RowSet
-    requires { ⌜ Routed (chartOf (now chart)) (now domains) × RoundReady (now chart) (now history) atoms conf × Taken (transitionCount (now chart)) (now chosen) ⌝ }
+    requires { ⌜ DomainsFixed (chartOf (now chart)) (now domains) × RoundReady (now chart) (now history) atoms conf × Taken (transitionCount (now chart)) (now chosen) ⌝ }
     ensures { λ s. ⌜ rowsOf s ≡ fallen (chartOf (now (chart .entry))) (stored (chartOf (now (chart .entry))) (rowsOf conf) (storedAt (now (history .entry))) (rowsOf out)) (now (chosen .entry)) ⌝ }
 {
     let mut set = RowSet::empty();
@@ -266,7 +266,7 @@ fn add_targets(
     set.union(paths_below(chart, d, to))
 }
 
-// The same; a transition with a route aims at its anchors whatever is stored.
+// The same; a transition whose domain is fixed aims at its anchors whatever is stored.
 fn add_targets_by(
     chart: &[u64],
     domains: &[u16],
@@ -277,13 +277,13 @@ fn add_targets_by(
     set: RowSet,
     t: Transition,
 ) -> RowSet
-    requires { ⌜ Routed (chartOf (now chart)) (now domains) × TakenReady (now chart) (now history) atoms conf (t .0) ⌝ }
+    requires { ⌜ DomainsFixed (chartOf (now chart)) (now domains) × TakenReady (now chart) (now history) atoms conf (t .0) ⌝ }
     ensures { λ s. ⌜ rowsOf s ≡ addTargets (chartOf (now (chart .entry))) (storedAt (now (history .entry))) (stored (chartOf (now (chart .entry))) (rowsOf conf) (storedAt (now (history .entry))) (rowsOf out)) (rowsOf set) (t .0) ⌝ }
 {
     let at = t.0 as usize;
-    let route = domains[at];
-    if route < NO_ROUTE {
-        return set.union(paths_below(chart, Row(route as u8), anchors_of(chart, t)));
+    let fixed = domains[at];
+    if fixed < NO_DOMAIN {
+        return set.union(paths_below(chart, Row(fixed as u8), anchors_of(chart, t)));
     }
     add_targets(chart, atoms, conf, history, out, set, t)
 }
@@ -298,7 +298,7 @@ fn targeted(
     out: RowSet,
     chosen: &[u16],
 ) -> RowSet
-    requires { ⌜ Routed (chartOf (now chart)) (now domains) × RoundReady (now chart) (now history) atoms conf × Taken (transitionCount (now chart)) (now chosen) ⌝ }
+    requires { ⌜ DomainsFixed (chartOf (now chart)) (now domains) × RoundReady (now chart) (now history) atoms conf × Taken (transitionCount (now chart)) (now chosen) ⌝ }
     ensures { λ s. ⌜ rowsOf s ≡ targeted (chartOf (now (chart .entry))) (storedAt (now (history .entry))) (stored (chartOf (now (chart .entry))) (rowsOf conf) (storedAt (now (history .entry))) (rowsOf out)) (now (chosen .entry)) ⌝ }
 {
     let mut set = RowSet::empty();
@@ -400,7 +400,7 @@ pub fn plan_round(
     chosen: &[u16],
     out: RowSet,
 ) -> Plan
-    requires { ⌜ Routed (chartOf (now chart)) (now domains) × RoundReady (now chart) (now history) atoms conf × Taken (transitionCount (now chart)) (now chosen) × (rowsOf out ≡ exits (chartOf (now chart)) (rowsOf conf) (storedAt (now history)) (now chosen)) ⌝ }
+    requires { ⌜ DomainsFixed (chartOf (now chart)) (now domains) × RoundReady (now chart) (now history) atoms conf × Taken (transitionCount (now chart)) (now chosen) × (rowsOf out ≡ exits (chartOf (now chart)) (rowsOf conf) (storedAt (now history)) (now chosen)) ⌝ }
     ensures { λ p. ⌜ Planned (chartOf (now (chart .entry))) (rowsOf conf) (storedAt (now (history .entry))) (now (chosen .entry)) p × PlanReady (now (chart .entry)) p ⌝ }
 {
     let stay = conf.minus(out);

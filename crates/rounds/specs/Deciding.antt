@@ -12,7 +12,7 @@ use Rattle.rowset.specs.declared.RowSet.{RowSet}
 use Rattle.rowset.specs.Member.{rowsOf}
 use Rattle.matching.specs.Chosen.{listOf, Taken}
 use Rattle.selection.specs.History.{storedAt}
-use Rattle.selection.specs.Routes.{Routed}
+use Rattle.selection.specs.FixedDomains.{DomainsFixed}
 use Rattle.effects.specs.declared.Tally.{Tally}
 use Rattle.microstep.specs.declared.Plan.{Plan}
 use Rattle.microstep.specs.Stored.{RoundReady}
@@ -42,10 +42,9 @@ module _ (chart names starts domains : List ℕ) (atoms eventless histories : Ro
       turned-idle (roundIn Running (chartOf chart) (nameAt names) f) f s t history internal external old (h .spells) q
       (ch .is ∙ ap (λ (source : Source). roundBy source (chartOf chart) (nameAt names) f (listOf items (choice .selected .len))) e)
 
-  pub has-chosen : (choice .source ≡ Nothing → ⊥) → HasChosen chart names domains atoms histories s history internal external choice (listOf items (choice .selected .len))
+  pub has-chosen : (choice .source ≡ Nothing → ⊥) → HasChosen chart names atoms histories s history internal external choice (listOf items (choice .selected .len))
   has-chosen z = record {
     compiled = g .looked .prepared .compiled;
-    routed = g .looked .routed;
     atomic = g .looked .prepared .atomic;
     stores = g .stores;
     holds = h;
@@ -53,8 +52,8 @@ module _ (chart names starts domains : List ℕ) (atoms eventless histories : Ro
     some = z;
   }
 
-module _ (chart names domains : List ℕ) (atoms histories : RowSet) (s : State) (history internal external : List ℕ) (choice : Choice) (ts : List ℕ)
-    (g : HasChosen chart names domains atoms histories s history internal external choice ts) where
+module _ (chart names : List ℕ) (atoms histories : RowSet) (s : State) (history internal external : List ℕ) (choice : Choice) (ts : List ℕ)
+    (g : HasChosen chart names atoms histories s history internal external choice ts) where
   abbrev f : Follower
   f = spelled chart s history internal external
 
@@ -63,10 +62,10 @@ module _ (chart names domains : List ℕ) (atoms histories : RowSet) (s : State)
       Turned (roundIn Running (chartOf chart) (nameAt names) f) f t stored inner outer old new
   taken-turn t stored inner outer old new = subst (λ (r : Round). Turned r f t stored inner outer old new) (sym (g .chooses .is))
 
-  pub plan-ready : Routed (chartOf chart) domains × RoundReady chart history atoms (s .configuration) × Taken (transitionCount chart) ts ×
+  pub plan-ready : (domains : List ℕ) → DomainsFixed (chartOf chart) domains → DomainsFixed (chartOf chart) domains × RoundReady chart history atoms (s .configuration) × Taken (transitionCount chart) ts ×
       (rowsOf (choice .selected .exits) ≡ exits (chartOf chart) (rowsOf (s .configuration)) (storedAt history) ts)
-  plan-ready = (
-    g .routed,
+  plan-ready domains fixed = (
+    fixed,
     round-ready chart names (g .compiled) f s history internal external (g .holds) atoms (g .atomic),
     g .chooses .fits,
     g .chooses .exits ∙ ap (λ (conf : List ℕ). exits (chartOf chart) conf (storedAt history) ts) (sym (g .holds .spells .configuration)),
@@ -106,5 +105,5 @@ module _ (chart names domains : List ℕ) (atoms histories : RowSet) (s : State)
           turned-refused (roundIn Running (chartOf chart) (nameAt names) f) f s u history internal external old (g .holds .spells) o y next es
           (g .chooses .is ∙ round-did (choice .source) (chartOf chart) (nameAt names) f ts (g .some)) (rw e is-judged) z
 
-      pub is-decided : o ≡ Did → Decided chart names domains atoms histories s history internal external choice ts plan room
+      pub is-decided : o ≡ Did → Decided chart names atoms histories s history internal external choice ts plan room
       is-decided e = record { chosen = g; planned = p .0; ready = p .1; goes = judged-none (refusal room next es) (sym is-judged ∙ e) }

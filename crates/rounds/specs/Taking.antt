@@ -28,7 +28,6 @@ use Rattle.rowset.specs.Member.{rowsOf}
 use Rattle.chart.specs.Ready.{setAt, CompiledWith}
 use Rattle.matching.specs.Chosen.{listOf, Within, Taken, chosen-length, atomicRows}
 use Rattle.selection.specs.History.{storedAt}
-use Rattle.selection.specs.Routes.{Routed}
 use Rattle.effects.specs.declared.Tally.{Tally}
 use Rattle.effects.specs.Trace.{Wrote}
 use Rattle.microstep.specs.declared.Plan.{Plan}
@@ -106,9 +105,8 @@ picked-first c names f hist items r h = record {
 }
 
 -- the choice that is to be carried out
-pub record HasChosen (chart names domains : List ℕ) (atoms histories : RowSet) (s : State) (history internal external : List ℕ) (choice : Choice) (ts : List ℕ) : Type 0 where
+pub record HasChosen (chart names : List ℕ) (atoms histories : RowSet) (s : State) (history internal external : List ℕ) (choice : Choice) (ts : List ℕ) : Type 0 where
   pub compiled : CompiledWith chart names
-  pub routed : Routed (chartOf chart) domains
   pub atomic : rowsOf atoms ≡ atomicRows (chartOf chart)
   pub stores : rowsOf histories ≡ historyRows (chartOf chart)
   pub holds : HoldsAt chart s history internal external
@@ -116,8 +114,8 @@ pub record HasChosen (chart names domains : List ℕ) (atoms histories : RowSet)
   pub some : choice .source ≡ Nothing → ⊥
 
 -- with its plan, and not refused
-pub record Decided (chart names domains : List ℕ) (atoms histories : RowSet) (s : State) (history internal external : List ℕ) (choice : Choice) (ts : List ℕ) (plan : Plan) (room : ℕ) : Type 0 where
-  pub chosen : HasChosen chart names domains atoms histories s history internal external choice ts
+pub record Decided (chart names : List ℕ) (atoms histories : RowSet) (s : State) (history internal external : List ℕ) (choice : Choice) (ts : List ℕ) (plan : Plan) (room : ℕ) : Type 0 where
+  pub chosen : HasChosen chart names atoms histories s history internal external choice ts
   pub planned : Planned (chartOf chart) (rowsOf (s .configuration)) (storedAt history) ts plan
   pub ready : PlanReady chart plan
   pub goes : refusal room (nextBy (choice .source) (chartOf chart) (nameAt names) (spelled chart s history internal external) ts)
@@ -203,9 +201,9 @@ module _ (chart names : List ℕ) (k : CompiledWith chart names) (f : Follower) 
 
 -- ---- what is decided is written
 
-module _ (chart names domains : List ℕ) (atoms histories : RowSet) (s : State) (history internal external : List ℕ) (choice : Choice) (ts : List ℕ) (plan : Plan) (room : ℕ)
-    (d : Decided chart names domains atoms histories s history internal external choice ts plan room) where
-  abbrev g : HasChosen chart names domains atoms histories s history internal external choice ts
+module _ (chart names : List ℕ) (atoms histories : RowSet) (s : State) (history internal external : List ℕ) (choice : Choice) (ts : List ℕ) (plan : Plan) (room : ℕ)
+    (d : Decided chart names atoms histories s history internal external choice ts plan room) where
+  abbrev g : HasChosen chart names atoms histories s history internal external choice ts
   g = d .chosen
 
   abbrev source : Source

@@ -1,5 +1,5 @@
-// Rounds over the lent parts of a session. A round is worked out whole and counted; 7 and 10 are judged; then history, queues and trace
-// are written. A refused round changes nothing, since nothing was written.
+// Rounds over the lent parts of a session. A round is worked out whole, into a draft; 7 and 10 are judged; then history, queues and trace
+// are written. A refused round changes none of them, since none of them was written.
 ghost use mathlib.Core.Path.{_≡_};
 ghost use mathlib.Core.List.{[], _++_};
 ghost use Prim.Native.Nat.{_+_, _≤_};
@@ -17,6 +17,7 @@ ghost use Rattle.microstep.specs.Entry.{enteredAs};
 ghost use Rattle.microstep.specs.Plan.{PlanReady, planEffects};
 ghost use Rattle.legality.specs.Rows.{RowsReady};
 ghost use Rattle.state.specs.State.{stateOf, Holds};
+ghost use Rattle.selection.specs.FixedDomains.{DomainsFixed};
 ghost use Rattle.events.specs.Rounds.{Lookup, roundBy};
 ghost use Rattle.events.specs.Left.{internalLeft, externalLeft};
 ghost use Rattle.rounds.specs.Calls.{RunDone, StartDone};
@@ -93,15 +94,16 @@ fn judge(kept: u64, tally: Tally, room: usize) -> Outcome
     Outcome::Did
 }
 
-// A round of a running session is drafted first; one with more entries than this is worked out twice.
+// A round of a running session is drafted first; the effects of one with more entries than this are worked out twice.
 const DRAFT: usize = 512;
 
-// A start and a closing round are counted with no trace to write into; all are written from the beginning of what is lent to them.
+// Nothing is counted yet: effects are written from the beginning of what is lent.
 const NOTHING: Tally = Tally {
     entries: 0,
     names: 0,
 };
 
+// A closing round and a start are counted with no trace to write into.
 fn count_closing(chart: &[u64], conf: RowSet) -> Tally
     requires { ⌜ Ready (now chart) × Within (rowCount (now chart)) (rowsOf conf) ⌝ }
     ensures { λ t. ⌜ Counted t (exiting (chartOf (now (chart .entry))) (rowsOf conf)) ⌝ }
@@ -152,7 +154,7 @@ fn mode_of(chart: &[u64], conf: RowSet) -> Mode
     Mode::Running
 }
 
-// The first n entries of the draft, which are all of them, into the trace.
+// The first n entries of the draft, which are the round's, into the trace.
 fn copy_entries(draft: &[u32], n: usize, trace: &mut [u32])
     requires { ⌜ EntriesFit (now draft) n (now trace) ⌝ }
     ensures { λ _. ⌜ now (trace .exit) ≡ take n (now (draft .entry)) ++ drop n (now (trace .entry)) ⌝ }
@@ -164,7 +166,7 @@ fn copy_entries(draft: &[u32], n: usize, trace: &mut [u32])
     }
 }
 
-// The effects that were drafted, into the trace. Those that the draft had no room for are worked out again.
+// The effects that were drafted, into the trace. Where the draft was too short they are all worked out again.
 fn show_plan(
     chart: &[u64],
     plan: Plan,
@@ -188,7 +190,6 @@ fn show_plan(
 fn write_round(
     chart: &[u64],
     names: &[u8],
-    domains: &[u16],
     atoms: RowSet,
     histories: RowSet,
     state: State,
@@ -202,7 +203,7 @@ fn write_round(
     external: &mut [u8],
     trace: &mut [u32],
 ) -> Turn
-    requires { ⌜ Decided (now chart) (now names) (now domains) atoms histories state (now history) (now internal) (now external) choice (now chosen) plan (length (now trace)) × Drafted (now draft) drafted (planEffects (chartOf (now chart)) plan (now chosen)) ⌝ }
+    requires { ⌜ Decided (now chart) (now names) atoms histories state (now history) (now internal) (now external) choice (now chosen) plan (length (now trace)) × Drafted (now draft) drafted (planEffects (chartOf (now chart)) plan (now chosen)) ⌝ }
     ensures { λ r. ⌜ Turned (roundBy (choice .source) (chartOf (now (chart .entry))) (nameAt (now (names .entry))) (spelled (now (chart .entry)) state (now (history .entry)) (now (internal .entry)) (now (external .entry))) (now (chosen .entry))) (spelled (now (chart .entry)) state (now (history .entry)) (now (internal .entry)) (now (external .entry))) r (now (history .exit)) (now (internal .exit)) (now (external .exit)) (now (trace .entry)) (now (trace .exit)) ⌝ }
 {
     let source = choice.source;
@@ -227,7 +228,7 @@ fn write_round(
     }
 }
 
-// The choice is carried out: planned, counted, judged, and written unless it is refused.
+// The choice is carried out: planned, drafted, judged, and written unless it is refused.
 fn carry_out(
     chart: &[u64],
     names: &[u8],
@@ -243,7 +244,7 @@ fn carry_out(
     draft: &mut [u32],
     trace: &mut [u32],
 ) -> Turn
-    requires { ⌜ HasChosen (now chart) (now names) (now domains) atoms histories state (now history) (now internal) (now external) choice (now chosen) ⌝ }
+    requires { ⌜ DomainsFixed (chartOf (now chart)) (now domains) × HasChosen (now chart) (now names) atoms histories state (now history) (now internal) (now external) choice (now chosen) ⌝ }
     ensures { λ r. ⌜ Turned (roundIn Running (chartOf (now (chart .entry))) (nameAt (now (names .entry))) (spelled (now (chart .entry)) state (now (history .entry)) (now (internal .entry)) (now (external .entry)))) (spelled (now (chart .entry)) state (now (history .entry)) (now (internal .entry)) (now (external .entry))) r (now (history .exit)) (now (internal .exit)) (now (external .exit)) (now (trace .entry)) (now (trace .exit)) ⌝ }
 {
     let source = choice.source;
@@ -260,7 +261,6 @@ fn carry_out(
     write_round(
         chart,
         names,
-        domains,
         atoms,
         histories,
         state,
@@ -521,7 +521,7 @@ pub fn run(
     let atoms = matching::atomic_rows(chart);
     let histories = microstep::history_rows(chart);
     let eventless = matching::eventless_rows(chart);
-    let routes = selection::routes_of(chart);
+    let fixed = selection::fixed_domains(chart);
     let mut items = [0u16; 256];
     let mut draft = [0u32; DRAFT];
     let mut s = state;
@@ -532,7 +532,7 @@ pub fn run(
             chart,
             names,
             &index.starts,
-            &routes.domains,
+            &fixed.domains,
             atoms,
             eventless,
             histories,
@@ -561,7 +561,7 @@ pub fn run(
         chart,
         names,
         &index.starts,
-        &routes.domains,
+        &fixed.domains,
         atoms,
         eventless,
         s,

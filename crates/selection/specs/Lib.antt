@@ -1,6 +1,6 @@
 pub mod History
 pub mod Domain
 pub mod Conflicts
-pub mod Routes
+pub mod FixedDomains
 pub mod Ready
 pub mod Kept

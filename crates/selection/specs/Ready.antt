@@ -15,7 +15,7 @@ use Rattle.matching.specs.Chosen.{listOf, Within, ChosenIn}
 use Rattle.matching.specs.Ready.{Prepared}
 use Rattle.selection.specs.declared.Selected.{Selected}
 use Rattle.selection.specs.History.{storedAt}
-use Rattle.selection.specs.Routes.{Routed}
+use Rattle.selection.specs.FixedDomains.{DomainsFixed}
 
 -- stored history has four words for each of 256 rows
 pub record HistoryReady (chart history : List ℕ) : Type 0 where
@@ -27,15 +27,15 @@ pub record MoveReady (chart history : List ℕ) (t : ℕ) : Type 0 where
   pub room : length history ≡ 1024
   pub inside : t < transitionCount chart
 
--- with the routes of all transitions
-pub record RouteReady (chart domains history : List ℕ) (t : ℕ) : Type 0 where
+-- with the fixed of all transitions
+pub record FixedReady (chart domains history : List ℕ) (t : ℕ) : Type 0 where
   pub move : MoveReady chart history t
-  pub routed : Routed (chartOf chart) domains
+  pub fixed : DomainsFixed (chartOf chart) domains
 
 -- all that a selection is given: the chart with what is made of it once, the session's part, room for the items
 pub record SelectReady (chart names starts domains : List ℕ) (atoms conf : RowSet) (history items : List ℕ) : Type 0 where
   pub prepared : Prepared chart names starts atoms
-  pub routed : Routed (chartOf chart) domains
+  pub fixed : DomainsFixed (chartOf chart) domains
   pub inside : Within (rowCount chart) (rowsOf conf)
   pub room : length history ≡ 1024
   pub places : length items ≡ 256
@@ -47,7 +47,7 @@ pub record DomainIs (chart : List ℕ) (domain d : ℕ) : Type 0 where
 
 -- a transition with its exit set
 pub record Candidate (chart domains : List ℕ) (conf : RowSet) (history : List ℕ) (t : ℕ) (own : RowSet) : Type 0 where
-  pub move : RouteReady chart domains history t
+  pub move : FixedReady chart domains history t
   pub exits : rowsOf own ≡ exitSet (chartOf chart) (rowsOf conf) (storedAt history) (transitionAt chart t)
 
 -- these transitions are the first of the items, and these the rows that they exit

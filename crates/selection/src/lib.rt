@@ -6,14 +6,13 @@ ghost use lib.ListN.{length};
 ghost use Rattle.definition.specs.Rows.{fold, any, union};
 ghost use Rattle.definition.specs.Tables.{rowCount, transitionCount, transitionAt, nameAt, chartOf};
 ghost use Rattle.definition.specs.Selection.{effectiveTargets, holdsAll, isOwnDomain, domainOf, domain, exitSet, isInTheWay, keepBeside, admit, withoutConflicts, selected};
-ghost use Rattle.tables.specs.Ranges.{RowsIn};
 ghost use Rattle.rowset.specs.Member.{rowsOf};
 ghost use Rattle.chart.specs.Ready.{Ready, RowReady, TransitionReady};
 ghost use Rattle.matching.specs.Events.{eventOf};
 ghost use Rattle.matching.specs.Chosen.{Within, ChosenIn, listOf};
 ghost use Rattle.selection.specs.History.{storedAt, asStored, storedOf, standsFor};
-ghost use Rattle.selection.specs.Routes.{isPlain, Route, Routed};
-ghost use Rattle.selection.specs.Ready.{HistoryReady, MoveReady, RouteReady, SelectReady, DomainIs, Candidate, IsSelected, Selects, Joined, Admits, Leaves};
+ghost use Rattle.selection.specs.FixedDomains.{hasFixedTargets, FixedDomain, DomainsFixed};
+ghost use Rattle.selection.specs.Ready.{HistoryReady, MoveReady, FixedReady, SelectReady, DomainIs, Candidate, IsSelected, Selects, Joined, Admits, Leaves};
 use numbers::Row;
 use numbers::Transition;
 use rowset::RowSet;
@@ -46,20 +45,6 @@ pub fn stored_at(history: &[u64], h: Row) -> Stored
 
 // ---- effective targets
 
-// The set with the rows of a list.
-fn add_all(chart: &[u64], set: RowSet, list: &[u64]) -> RowSet
-    requires { ⌜ RowsIn (now chart) (now list) ⌝ }
-    ensures { λ r. ⌜ rowsOf r ≡ union (rowsOf set) (now (list .entry)) ⌝ }
-{
-    let mut all = set;
-    let mut i = 0;
-    while i < list.len() {
-        all = all.with(tables::row_at(chart, list, i));
-        i += 1;
-    }
-    all
-}
-
 // The set with what stands in for target x, which has `kept` stored if it is a history.
 pub fn add_stand_ins(chart: &[u64], set: RowSet, x: Row, kept: Stored) -> RowSet
     requires { ⌜ RowReady (now chart) (x .0) ⌝ }
@@ -69,7 +54,7 @@ pub fn add_stand_ins(chart: &[u64], set: RowSet, x: Row, kept: Stored) -> RowSet
         return set.with(x);
     }
     let Stored::Stored(stored) = kept else {
-        return add_all(chart, set, tables::list_of(chart, x));
+        return tables::with_rows(chart, set, tables::list_of(chart, x));
     };
     set.union(stored)
 }
@@ -149,17 +134,17 @@ pub fn domain(chart: &[u64], history: &[u64], t: Transition) -> Row
 // ---- domains that no history moves
 
 // The domain of each transition that has targets and no history among them, and 256 for the others: theirs is sought in each round.
-pub struct Routes {
+pub struct FixedDomains {
     pub domains: [u16; 512],
 }
 
-// What stands for no route: no row has this number.
-pub const NO_ROUTE: u16 = 256;
+// What stands for no domain: no row has this number.
+pub const NO_DOMAIN: u16 = 256;
 
 // Whether a transition has targets, and no history among them.
-fn is_plain(chart: &[u64], t: Transition) -> bool
+fn has_fixed_targets(chart: &[u64], t: Transition) -> bool
     requires { ⌜ TransitionReady (now chart) (t .0) ⌝ }
-    ensures { λ b. ⌜ b ≡ isPlain (chartOf (now (chart .entry))) (t .0) ⌝ }
+    ensures { λ b. ⌜ b ≡ hasFixedTargets (chartOf (now (chart .entry))) (t .0) ⌝ }
 {
     let targets = tables::targets_of(chart, t);
     let mut i = 0;
@@ -173,29 +158,29 @@ fn is_plain(chart: &[u64], t: Transition) -> bool
     0 < i
 }
 
-fn route_of(chart: &[u64], t: Transition) -> u16
+fn fixed_domain(chart: &[u64], t: Transition) -> u16
     requires { ⌜ TransitionReady (now chart) (t .0) ⌝ }
-    ensures { λ d. ⌜ Route (chartOf (now (chart .entry))) (t .0) d ⌝ }
+    ensures { λ d. ⌜ FixedDomain (chartOf (now (chart .entry))) (t .0) d ⌝ }
 {
-    if !is_plain(chart, t) {
-        return NO_ROUTE;
+    if !has_fixed_targets(chart, t) {
+        return NO_DOMAIN;
     }
     let d = domain_of(chart, t, chart::anchors_of(chart, t));
     d.0 as u16
 }
 
-pub fn routes_of(chart: &[u64]) -> Routes
+pub fn fixed_domains(chart: &[u64]) -> FixedDomains
     requires { ⌜ Ready (now chart) ⌝ }
-    ensures { λ r. ⌜ Routed (chartOf (now (chart .entry))) (r .domains) ⌝ }
+    ensures { λ r. ⌜ DomainsFixed (chartOf (now (chart .entry))) (r .domains) ⌝ }
 {
     let n = tables::transition_count(chart) as usize;
-    let mut domains = [NO_ROUTE; 512];
+    let mut domains = [NO_DOMAIN; 512];
     let mut t: usize = 0;
     while t < n {
-        domains[t] = route_of(chart, Transition(t as u16));
+        domains[t] = fixed_domain(chart, Transition(t as u16));
         t += 1;
     }
-    Routes { domains: domains }
+    FixedDomains { domains: domains }
 }
 
 // ---- the exit set
@@ -207,13 +192,13 @@ pub fn exit_set(
     history: &[u64],
     t: Transition,
 ) -> RowSet
-    requires { ⌜ RouteReady (now chart) (now domains) (now history) (t .0) ⌝ }
+    requires { ⌜ FixedReady (now chart) (now domains) (now history) (t .0) ⌝ }
     ensures { λ r. ⌜ rowsOf r ≡ exitSet (chartOf (now (chart .entry))) (rowsOf conf) (storedAt (now (history .entry))) (transitionAt (now (chart .entry)) (t .0)) ⌝ }
 {
     let at = t.0 as usize;
-    let route = domains[at];
-    if route < NO_ROUTE {
-        return conf.intersection(chart::descendants_of(chart, Row(route as u8)));
+    let fixed = domains[at];
+    if fixed < NO_DOMAIN {
+        return conf.intersection(chart::descendants_of(chart, Row(fixed as u8)));
     }
     if tables::targets_of(chart, t).len() == 0 {
         return RowSet::empty();
@@ -344,7 +329,7 @@ fn admit(
     kept: Selected,
     t: Transition,
 ) -> Selected
-    requires { ⌜ RouteReady (now chart) (now domains) (now history) (t .0) × Selects (chartOf (now chart)) (rowsOf conf) (storedAt (now history)) (now items) kept × (kept .len < 256) ⌝ }
+    requires { ⌜ FixedReady (now chart) (now domains) (now history) (t .0) × Selects (chartOf (now chart)) (rowsOf conf) (storedAt (now history)) (now items) kept × (kept .len < 256) ⌝ }
     ensures { λ r. ⌜ Admits (chartOf (now (chart .entry))) (rowsOf conf) (storedAt (now (history .entry))) (admit (chartOf (now (chart .entry))) (rowsOf conf) (storedAt (now (history .entry))) (listOf (now (items .entry)) (kept .len)) (t .0)) (now (items .entry)) (kept .len) (now (items .exit)) r ⌝ }
 {
     let own = exit_set(chart, domains, conf, history, t);
@@ -369,7 +354,7 @@ fn without_conflicts(
     items: &mut [u16],
     n: usize,
 ) -> Selected
-    requires { ⌜ HistoryReady (now chart) (now history) × Routed (chartOf (now chart)) (now domains) × ChosenIn (transitionCount (now chart)) (now items) n ⌝ }
+    requires { ⌜ HistoryReady (now chart) (now history) × DomainsFixed (chartOf (now chart)) (now domains) × ChosenIn (transitionCount (now chart)) (now items) n ⌝ }
     ensures { λ r. ⌜ IsSelected (chartOf (now (chart .entry))) (rowsOf conf) (storedAt (now (history .entry))) (withoutConflicts (chartOf (now (chart .entry))) (rowsOf conf) (storedAt (now (history .entry))) (listOf (now (items .entry)) n)) (now (items .exit)) r ⌝ }
 {
     let mut kept = Selected {

@@ -119,8 +119,8 @@ fn history_holds(chart: &[u64], history: &[u64]) -> bool
     true
 }
 
-// The same test over a session's parts, which a call lends so that no session is copied.
-pub fn parts_hold<'a>(
+// The same test over a session's parts, which are lent for it.
+fn parts_hold<'a>(
     chart: &[u64],
     configuration: &'a [u64],
     history: &'a [u64],
@@ -208,7 +208,7 @@ impl Session {
         }
     }
 
-    pub fn is_session(self, chart: &[u64]) -> bool
+    fn is_session(self, chart: &[u64]) -> bool
         requires { ⌜ Ready (now chart) ⌝ }
         ensures { λ b. ⌜ b ≡ isSession (chartOf (now (chart .entry))) self ⌝ }
     {

@@ -1,4 +1,4 @@
-// Readers of the lent chart. Where a number stands is known in this crate alone; rule 1 and the compiler name columns.
+// Readers of the lent chart. Where a number stands is known in this crate, and where a set stands in crate chart; rule 1 and the compiler name columns.
 ghost use mathlib.Core.Path.{_≡_};
 ghost use mathlib.Core.Bool.{true};
 ghost use Prim.Native.Nat.{_+_, _*_, _<_};

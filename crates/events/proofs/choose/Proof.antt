@@ -5,7 +5,7 @@ use Rattle.events.proofs.choose.Statement.{statement}
 use Rattle.events.proofs.choose.Tie as tie
 
 select-eventless-requires : tie.Need-select-eventless-requires
-select-eventless-requires c κs = let p = c .before .before .before .before .before .before .before .before .before .before .pre .0 .prepared in (record { prepared = p; routed = c .before .before .before .before .before .before .before .before .before .before .pre .0 .routed; inside = conf-within _ _ (p .compiled) _ _ _ _ _ (c .before .before .before .before .before .before .before .before .before .before .pre .1); room = history-size _ _ (p .compiled) _ _ _ _ _ (c .before .before .before .before .before .before .before .before .before .before .pre .1); places = c .before .before .before .before .before .before .before .before .before .before .pre .2 }, c .before .before .before .before .before .before .before .before .before .before .pre .0 .sources)
+select-eventless-requires c κs = let p = c .before .before .before .before .before .before .before .before .before .before .pre .0 .prepared in (record { prepared = p; fixed = c .before .before .before .before .before .before .before .before .before .before .pre .0 .fixed; inside = conf-within _ _ (p .compiled) _ _ _ _ _ (c .before .before .before .before .before .before .before .before .before .before .pre .1); room = history-size _ _ (p .compiled) _ _ _ _ _ (c .before .before .before .before .before .before .before .before .before .before .pre .1); places = c .before .before .before .before .before .before .before .before .before .before .pre .2 }, c .before .before .before .before .before .before .before .before .before .before .pre .0 .sources)
 
 same-length : tie.Need-same-length
 same-length c = c .before .before .before .before .select-eventless .ensures .fits .room ∙ sym (c .before .before .before .before .before .before .before .before .before .before .before .before .before .before .before .pre .2)
@@ -18,7 +18,7 @@ first-name-requires c κs = let e = internal-size _ _ (c .before .before .before
     let f = external-size _ _ (c .before .before .before .before .before .before .before .before .before .before .before .before .before .before .before .before .before .pre .0 .prepared .compiled) _ _ _ _ _ (c .before .before .before .before .before .before .before .before .before .before .before .before .before .before .before .before .before .pre .1) in record { inside = omega arith }
 
 select-requires : tie.Need-select-requires
-select-requires c κs = let p = c .before .before .before .before .before .before .before .before .before .before .before .before .before .before .before .before .before .before .before .pre .0 .prepared in record { prepared = p; routed = c .before .before .before .before .before .before .before .before .before .before .before .before .before .before .before .before .before .before .before .pre .0 .routed; inside = conf-within _ _ (p .compiled) _ _ _ _ _ (c .before .before .before .before .before .before .before .before .before .before .before .before .before .before .before .before .before .before .before .pre .1); room = history-size _ _ (p .compiled) _ _ _ _ _ (c .before .before .before .before .before .before .before .before .before .before .before .before .before .before .before .before .before .before .before .pre .1); places = c .before .before .before .before .before .before .before .before .select-eventless .ensures .fits .room }
+select-requires c κs = let p = c .before .before .before .before .before .before .before .before .before .before .before .before .before .before .before .before .before .before .before .pre .0 .prepared in record { prepared = p; fixed = c .before .before .before .before .before .before .before .before .before .before .before .before .before .before .before .before .before .before .before .pre .0 .fixed; inside = conf-within _ _ (p .compiled) _ _ _ _ _ (c .before .before .before .before .before .before .before .before .before .before .before .before .before .before .before .before .before .before .before .pre .1); room = history-size _ _ (p .compiled) _ _ _ _ _ (c .before .before .before .before .before .before .before .before .before .before .before .before .before .before .before .before .before .before .before .pre .1); places = c .before .before .before .before .before .before .before .before .select-eventless .ensures .fits .room }
 
 same-length-2 : tie.Need-same-length-2
 same-length-2 c = c .before .before .select .ensures .fits .room ∙ sym (c .before .before .before .before .before .before .before .before .before .before .before .before .before .before .before .before .before .before .before .before .before .before .pre .2)
@@ -31,7 +31,7 @@ first-name-requires-2 c κs = let e = internal-size _ _ (c .before .before .befo
     let f = external-size _ _ (c .before .before .before .before .before .before .before .before .before .before .before .before .before .before .before .before .before .before .before .pre .0 .prepared .compiled) _ _ _ _ _ (c .before .before .before .before .before .before .before .before .before .before .before .before .before .before .before .before .before .before .before .pre .1) in record { inside = omega arith }
 
 select-requires-2 : tie.Need-select-requires-2
-select-requires-2 c κs = let p = c .before .before .before .before .before .before .before .before .before .before .before .before .before .before .before .before .before .before .before .before .before .pre .0 .prepared in record { prepared = p; routed = c .before .before .before .before .before .before .before .before .before .before .before .before .before .before .before .before .before .before .before .before .before .pre .0 .routed; inside = conf-within _ _ (p .compiled) _ _ _ _ _ (c .before .before .before .before .before .before .before .before .before .before .before .before .before .before .before .before .before .before .before .before .before .pre .1); room = history-size _ _ (p .compiled) _ _ _ _ _ (c .before .before .before .before .before .before .before .before .before .before .before .before .before .before .before .before .before .before .before .before .before .pre .1); places = c .before .before .before .before .before .before .before .before .before .before .select-eventless .ensures .fits .room }
+select-requires-2 c κs = let p = c .before .before .before .before .before .before .before .before .before .before .before .before .before .before .before .before .before .before .before .before .before .pre .0 .prepared in record { prepared = p; fixed = c .before .before .before .before .before .before .before .before .before .before .before .before .before .before .before .before .before .before .before .before .before .pre .0 .fixed; inside = conf-within _ _ (p .compiled) _ _ _ _ _ (c .before .before .before .before .before .before .before .before .before .before .before .before .before .before .before .before .before .before .before .before .before .pre .1); room = history-size _ _ (p .compiled) _ _ _ _ _ (c .before .before .before .before .before .before .before .before .before .before .before .before .before .before .before .before .before .before .before .before .before .pre .1); places = c .before .before .before .before .before .before .before .before .before .before .select-eventless .ensures .fits .room }
 
 same-length-3 : tie.Need-same-length-3
 same-length-3 c = c .before .before .select2 .ensures .fits .room ∙ sym (c .before .before .before .before .before .before .before .before .before .before .before .before .before .before .before .before .before .before .before .before .before .before .before .before .pre .2)

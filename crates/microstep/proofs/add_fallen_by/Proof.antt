@@ -1,7 +1,7 @@
 use borrow.Author.Needs.{needs}
 use native.Mathlib.Omega.{arith}
 use Rattle.selection.specs.History.{storedAt}
-use Rattle.microstep.specs.Targets.{routed-fallen}
+use Rattle.microstep.specs.Targets.{fixed-fallen}
 use Rattle.microstep.proofs.add_fallen_by.Statement.{statement}
 use Rattle.microstep.proofs.add_fallen_by.Tie as tie
 
@@ -15,7 +15,7 @@ shared-slice-read-if1 : tie.Need-shared-slice-read-if1
 shared-slice-read-if1 c = let s = c .before .before .before .before .before .pre .0 .size in let l = c .before .before .before .before .before .pre .1 .inside in let m = c .before .before .before .before .before .pre .1 .round .store .ready .tables .sized .counts .transitions in omega arith
 
 returns : tie.Need-returns
-returns c = routed-fallen _ (storedAt (c .before .before .before .before .before .before .args .history .now)) _ _ _ _ (c .before .before .before .before .before .before .pre .0 .at _ (c .before .before .before .before .before .before .pre .1 .inside)) (c .if1 .taken)
+returns c = fixed-fallen _ (storedAt (c .before .before .before .before .before .before .args .history .now)) _ _ _ _ (c .before .before .before .before .before .before .pre .0 .at _ (c .before .before .before .before .before .before .pre .1 .inside)) (c .if1 .taken)
 
 add-fallen-requires : tie.Need-add-fallen-requires
 add-fallen-requires c κs = search needs

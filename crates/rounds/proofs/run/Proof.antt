@@ -9,10 +9,10 @@ use Rattle.rounds.proofs.run.Statement.{statement}
 use Rattle.rounds.proofs.run.Tie as tie
 
 abbrev Inv-loop : tie.InvT-loop
-Inv-loop chart names history₀ internal₀ external₀ rounds trace₀ index atoms histories eventless routes items₀ draft₀ s₀ done₀ count₀ history internal external trace items draft s done count = (length items ≡ 256) × (length draft ≡ 512) × RunsOn chart names s₀ history₀ internal₀ external₀ rounds trace₀ history internal external trace s done count
+Inv-loop chart names history₀ internal₀ external₀ rounds trace₀ index atoms histories eventless fixed items₀ draft₀ s₀ done₀ count₀ history internal external trace items draft s done count = (length items ≡ 256) × (length draft ≡ 512) × RunsOn chart names s₀ history₀ internal₀ external₀ rounds trace₀ history internal external trace s done count
 
 abbrev μ-loop : tie.MeasureT-loop
-μ-loop chart names history₀ internal₀ external₀ rounds trace₀ index atoms histories eventless routes items₀ draft₀ s₀ done₀ count₀ history internal external trace items draft s done count = rounds - done
+μ-loop chart names history₀ internal₀ external₀ rounds trace₀ index atoms histories eventless fixed items₀ draft₀ s₀ done₀ count₀ history internal external trace items draft s done count = rounds - done
 
 index-of-requires : tie.Need-index-of-requires Inv-loop μ-loop
 index-of-requires c κs = c .before .before .before .before .before .before .pre .0 .ready
@@ -26,8 +26,8 @@ history-rows-requires c κs = c .before .before .before .before .before .before 
 eventless-rows-requires : tie.Need-eventless-rows-requires Inv-loop μ-loop
 eventless-rows-requires c κs = c .before .before .before .before .before .before .before .before .before .pre .0 .ready
 
-routes-of-requires : tie.Need-routes-of-requires Inv-loop μ-loop
-routes-of-requires c κs = c .before .before .before .before .before .before .before .before .before .before .pre .0 .ready
+fixed-domains-requires : tie.Need-fixed-domains-requires Inv-loop μ-loop
+fixed-domains-requires c κs = c .before .before .before .before .before .before .before .before .before .before .pre .0 .ready
 
 loop-holds : tie.Need-loop-holds Inv-loop μ-loop
 loop-holds c = (refl, refl, runs-begin _ _ _ _ _ _ _ _ (c .before .before .before .before .before .before .before .before .before .before .before .pre .1))
@@ -51,7 +51,7 @@ part-round-end : tie.Need-part-round-end Inv-loop μ-loop
 part-round-end c = let n = c .before .before .before .before .before .before .before .before .before .before .before .before .loop .inv .2 .room in search needs
 
 round-requires : tie.Need-round-requires Inv-loop μ-loop
-round-requires c κs = (record { looked = record { prepared = record { compiled = c .before .before .before .before .before .before .before .before .before .before .before .before .before .before .before .before .before .before .before .before .before .before .before .before .before .pre .0; indexed = c .before .before .before .before .before .before .before .before .before .before .before .before .before .before .before .before .before .before .index-of .ensures; atomic = c .before .before .before .before .before .before .before .before .before .before .before .before .before .before .before .before .before .atomic-rows .ensures }; routed = c .before .before .before .before .before .before .before .before .before .before .before .before .before .before .routes-of .ensures; sources = c .before .before .before .before .before .before .before .before .before .before .before .before .before .before .before .eventless-rows .ensures }; stores = c .before .before .before .before .before .before .before .before .before .before .before .before .before .before .before .before .history-rows .ensures }, c .before .before .before .before .before .before .before .before .before .before .before .before .before .loop .inv .2 .holds, c .before .before .before .before .before .before .before .before .before .before .before .before .before .loop .inv .0)
+round-requires c κs = (record { looked = record { prepared = record { compiled = c .before .before .before .before .before .before .before .before .before .before .before .before .before .before .before .before .before .before .before .before .before .before .before .before .before .pre .0; indexed = c .before .before .before .before .before .before .before .before .before .before .before .before .before .before .before .before .before .before .index-of .ensures; atomic = c .before .before .before .before .before .before .before .before .before .before .before .before .before .before .before .before .before .atomic-rows .ensures }; fixed = c .before .before .before .before .before .before .before .before .before .before .before .before .before .before .fixed-domains .ensures; sources = c .before .before .before .before .before .before .before .before .before .before .before .before .before .before .before .eventless-rows .ensures }; stores = c .before .before .before .before .before .before .before .before .before .before .before .before .before .before .before .before .history-rows .ensures }, c .before .before .before .before .before .before .before .before .before .before .before .before .before .loop .inv .2 .holds, c .before .before .before .before .before .before .before .before .before .before .before .before .before .loop .inv .0)
 
 add-count : tie.Need-add-count Inv-loop μ-loop
 add-count c = let n = count-fits _ _ (c .before .before .before .before .before .before .before .before .before .before .before .before .before .before .before .before .before .before .before .before .before .before .before .before .before .before .before .before .before .before .before .before .before .before .before .before .before .before .pre .0) _ _ _ _ _ _ _ _ _ _ _ _ _ (c .before .before .before .before .before .before .before .before .before .before .before .before .before .before .before .before .before .before .before .before .before .before .before .before .before .before .loop .inv .2) _ _ _ _ _ (c .before .before .before .before .before .before .before .before .before .before .before .before .round .ensures) in let m = c .before .before .before .before .before .before .before .before .before .before .before .before .before .before .before .before .before .before .before .before .before .before .before .before .before .before .loop .inv .2 .size in let l = c .before .before .before .before .before .before .before .before .before .before .before .before .before .before .before .before .before .before .before .before .before .before .before .before .before .before .before .before .before .before .before .before .before .before .before .before .before .before .good .1 .1 .1 .1 .1 .1 .1 .0 .0 in record { fits = omega arith }
@@ -90,7 +90,7 @@ slice-aggregate-rest-status : tie.Need-slice-aggregate-rest-status Inv-loop μ-l
 slice-aggregate-rest-status c = sym (c .before .before .before .before .before .before .before .before .before .before .before .loop .inv .0)
 
 rest-status-requires : tie.Need-rest-status-requires Inv-loop μ-loop
-rest-status-requires c κs = (record { prepared = record { compiled = c .before .before .before .before .before .before .before .before .before .before .before .before .before .before .before .before .before .before .before .before .before .before .before .pre .0; indexed = c .before .before .before .before .before .before .before .before .before .before .before .before .before .before .before .before .index-of .ensures; atomic = c .before .before .before .before .before .before .before .before .before .before .before .before .before .before .before .atomic-rows .ensures }; routed = c .before .before .before .before .before .before .before .before .before .before .before .before .routes-of .ensures; sources = c .before .before .before .before .before .before .before .before .before .before .before .before .before .eventless-rows .ensures }, c .before .before .before .before .before .before .before .before .before .before .before .loop .inv .2 .holds, c .before .before .before .before .before .before .before .before .before .before .before .loop .inv .0)
+rest-status-requires c κs = (record { prepared = record { compiled = c .before .before .before .before .before .before .before .before .before .before .before .before .before .before .before .before .before .before .before .before .before .before .before .pre .0; indexed = c .before .before .before .before .before .before .before .before .before .before .before .before .before .before .before .before .index-of .ensures; atomic = c .before .before .before .before .before .before .before .before .before .before .before .before .before .before .before .atomic-rows .ensures }; fixed = c .before .before .before .before .before .before .before .before .before .before .before .before .fixed-domains .ensures; sources = c .before .before .before .before .before .before .before .before .before .before .before .before .before .eventless-rows .ensures }, c .before .before .before .before .before .before .before .before .before .before .before .loop .inv .2 .holds, c .before .before .before .before .before .before .before .before .before .before .before .loop .inv .0)
 
 same-length-5 : tie.Need-same-length-5 Inv-loop μ-loop
 same-length-5 c = same-sizes _ _ (c .before .before .before .before .before .before .before .before .before .before .before .before .before .before .before .before .before .before .before .before .before .before .before .before .before .pre .0) _ _ _ _ _ _ _ _ _ _ _ _ _ (c .before .before .before .before .before .before .before .before .before .before .before .before .before .loop .inv .2) (c .before .before .before .before .before .before .before .before .before .before .before .before .before .before .before .before .before .before .before .before .before .before .before .before .before .pre .1) .0
@@ -117,7 +117,7 @@ run-spec =
     atomic-rows-requires
     history-rows-requires
     eventless-rows-requires
-    routes-of-requires
+    fixed-domains-requires
     loop-holds
     slice-aggregate-round
     slice-aggregate-round-2

@@ -40,7 +40,7 @@ slice-aggregate-carry-out c = sym (list-length _ _ (let r = c .before .before .b
 
 carry-out-requires : tie.Need-carry-out-requires
 unfolding listOf
-carry-out-requires c κs = has-chosen _ _ _ _ _ _ _ _ _ _ _ (c .before .before .before .before .before .before .before .before .before .before .before .before .before .before .before .before .before .before .before .before .before .before .before .before .before .pre .0) (c .before .before .before .before .before .before .before .before .before .before .before .before .before .before .before .before .before .before .before .before .before .before .before .before .before .pre .1) _ _ (c .before .before .before .before .before .before .before .before .before .before .choose .ensures) (not-nothing _ (c .before .before .before .before .before .before .before .match .keys2))
+carry-out-requires c κs = (c .before .before .before .before .before .before .before .before .before .before .before .before .before .before .before .before .before .before .before .before .before .before .before .before .before .pre .0 .looked .fixed, has-chosen _ _ _ _ _ _ _ _ _ _ _ (c .before .before .before .before .before .before .before .before .before .before .before .before .before .before .before .before .before .before .before .before .before .before .before .before .before .pre .0) (c .before .before .before .before .before .before .before .before .before .before .before .before .before .before .before .before .before .before .before .before .before .before .before .before .before .pre .1) _ _ (c .before .before .before .before .before .before .before .before .before .before .choose .ensures) (not-nothing _ (c .before .before .before .before .before .before .before .match .keys2)))
 
 same-length-5 : tie.Need-same-length-5
 same-length-5 c = c .before .before .before .before .before .before .before .before .before .before .carry-out .kept .1 .1 .1 .1 .1 .1 .1 .1 .0

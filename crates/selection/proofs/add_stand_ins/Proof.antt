@@ -25,11 +25,11 @@ enum-told c = search needs
 list-of-requires : tie.Need-list-of-requires
 list-of-requires c κs = search needs
 
-add-all-requires : tie.Need-add-all-requires
-add-all-requires c κs = c .list-of .ensures .within
+with-rows-requires : tie.Need-with-rows-requires
+with-rows-requires c κs = c .list-of .ensures .within
 
 returns-2 : tie.Need-returns-2
-returns-2 c = c .add-all .ensures ∙ add-default _ _ _ _ _ _ _ (c .before .before .before .before .before .before .kind-of .ensures) (c .before .before .before .before .before .is-history .ensures) (c .before .before .before .before .if1 .left) (c .before .before .enum-told .given .1) (c .before .list-of .ensures .is)
+returns-2 c = c .with-rows .ensures ∙ add-default _ _ _ _ _ _ _ (c .before .before .before .before .before .before .kind-of .ensures) (c .before .before .before .before .before .is-history .ensures) (c .before .before .before .before .if1 .left) (c .before .before .enum-told .given .1) (c .before .list-of .ensures .is)
 
 union-requires : tie.Need-union-requires
 union-requires c κs = search needs
@@ -48,7 +48,7 @@ add-stand-ins-spec =
     enum-known-kept
     enum-told
     list-of-requires
-    add-all-requires
+    with-rows-requires
     returns-2
     union-requires
     returns-3)

@@ -1,7 +1,7 @@
 use borrow.Author.Needs.{needs}
 use mathlib.Core.Path.{_≡_, _∙_}
 use native.Mathlib.Omega.{arith}
-use Rattle.selection.specs.Routes.{route-exits}
+use Rattle.selection.specs.FixedDomains.{fixed-exits}
 use Rattle.selection.specs.Domain.{exit-none, exit-some}
 use Rattle.selection.proofs.exit_set.Statement.{statement}
 use Rattle.selection.proofs.exit_set.Tie as tie
@@ -9,23 +9,23 @@ use Rattle.selection.proofs.exit_set.Tie as tie
 cast-at : tie.Need-cast-at
 cast-at c = search needs
 
-mul-route : tie.Need-mul-route
-mul-route c = search needs
+mul-fixed : tie.Need-mul-fixed
+mul-fixed c = search needs
 
-shared-slice-read-route : tie.Need-shared-slice-read-route
-shared-slice-read-route c = let s = c .before .before .before .before .before .pre .routed .size in let l = c .before .before .before .before .before .pre .move .inside in let m = c .before .before .before .before .before .pre .move .ready .tables .sized .counts .transitions in omega arith
+shared-slice-read-fixed : tie.Need-shared-slice-read-fixed
+shared-slice-read-fixed c = let s = c .before .before .before .before .before .pre .fixed .size in let l = c .before .before .before .before .before .pre .move .inside in let m = c .before .before .before .before .before .pre .move .ready .tables .sized .counts .transitions in omega arith
 
 cast-t13 : tie.Need-cast-t13
 cast-t13 c = search needs
 
 descendants-of-requires : tie.Need-descendants-of-requires
-descendants-of-requires c κs = record { ready = c .before .before .before .before .before .before .pre .move .ready; inside = c .before .before .before .before .before .before .pre .routed .at _ (c .before .before .before .before .before .before .pre .move .inside) .row (c .if1 .taken) }
+descendants-of-requires c κs = record { ready = c .before .before .before .before .before .before .pre .move .ready; inside = c .before .before .before .before .before .before .pre .fixed .at _ (c .before .before .before .before .before .before .pre .move .inside) .row (c .if1 .taken) }
 
 intersection-requires : tie.Need-intersection-requires
 intersection-requires c κs = search needs
 
 returns : tie.Need-returns
-returns c = route-exits _ _ _ _ (c .before .before .before .before .before .before .before .before .pre .routed .at _ (c .before .before .before .before .before .before .before .before .pre .move .inside)) (c .before .before .if1 .taken) _ _ _ (c .before .descendants-of .ensures) (c .intersection .ensures)
+returns c = fixed-exits _ _ _ _ (c .before .before .before .before .before .before .before .before .pre .fixed .at _ (c .before .before .before .before .before .before .before .before .pre .move .inside)) (c .before .before .if1 .taken) _ _ _ (c .before .descendants-of .ensures) (c .intersection .ensures)
 
 targets-of-requires : tie.Need-targets-of-requires
 targets-of-requires c κs = record { tables = c .before .before .before .before .before .before .pre .move .ready .tables; below = c .before .before .before .before .before .before .pre .move .inside }
@@ -53,8 +53,8 @@ exit-set-spec =
     tie.close
     (tie.spec
     cast-at
-    mul-route
-    shared-slice-read-route
+    mul-fixed
+    shared-slice-read-fixed
     cast-t13
     descendants-of-requires
     intersection-requires

@@ -7,7 +7,7 @@ use Rattle.selection.proofs.keep_beside.Statement.{statement}
 use Rattle.selection.proofs.keep_beside.Tie as tie
 
 exit-set-requires : tie.Need-exit-set-requires
-exit-set-requires c κs = let p = c .before .before .before .before .pre .0 .move in record { move = record { ready = p .move .ready; room = p .move .room; inside = c .before .before .before .before .pre .1 }; routed = p .routed }
+exit-set-requires c κs = let p = c .before .before .before .before .pre .0 .move in record { move = record { ready = p .move .ready; room = p .move .room; inside = c .before .before .before .before .pre .1 }; fixed = p .fixed }
 
 meets-requires : tie.Need-meets-requires
 meets-requires c κs = search needs

@@ -8,7 +8,7 @@ candidates-requires : tie.Need-candidates-requires
 candidates-requires c κs = (c .before .before .before .before .before .before .before .before .pre .prepared, c .before .before .before .before .before .before .before .before .pre .inside, c .before .before .before .before .before .before .before .before .pre .places)
 
 without-conflicts-requires : tie.Need-without-conflicts-requires
-without-conflicts-requires c κs = (record { ready = c .before .before .before .before .before .before .before .before .before .before .before .before .pre .prepared .compiled .ready; room = c .before .before .before .before .before .before .before .before .before .before .before .before .pre .room }, c .before .before .before .before .before .before .before .before .before .before .before .before .pre .routed, c .before .before .before .candidates .ensures .fits)
+without-conflicts-requires c κs = (record { ready = c .before .before .before .before .before .before .before .before .before .before .before .before .pre .prepared .compiled .ready; room = c .before .before .before .before .before .before .before .before .before .before .before .before .pre .room }, c .before .before .before .before .before .before .before .before .before .before .before .before .pre .fixed, c .before .before .before .candidates .ensures .fits)
 
 same-length : tie.Need-same-length
 same-length c = c .before .before .without-conflicts .ensures .fits .room ∙ sym (c .before .before .before .before .before .before .before .before .before .before .before .before .before .before .before .pre .places)

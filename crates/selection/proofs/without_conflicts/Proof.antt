@@ -35,7 +35,7 @@ admit-requires c κs = let v = c .before .before .before .loop .inv in
     let b = v .most in
     let m = v .small in
     let l = c .before .before .loop-test .taken in
-    (record { move = record { ready = p .0 .ready; room = p .0 .room; inside = sift-low _ _ _ _ _ _ _ _ _ v (p .2) l }; routed = p .1 }, v .selects, omega arith)
+    (record { move = record { ready = p .0 .ready; room = p .0 .room; inside = sift-low _ _ _ _ _ _ _ _ _ v (p .2) l }; fixed = p .1 }, v .selects, omega arith)
 
 add-i : tie.Need-add-i Inv-loop μ-loop
 add-i c = search needs

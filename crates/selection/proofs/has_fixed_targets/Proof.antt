@@ -5,9 +5,9 @@ use native.Mathlib.Omega.{arith}
 use lib.ListN.{length}
 use Rattle.definition.specs.Tables.{chartOf}
 use Rattle.laws.specs.Loops.{Failing, failing-begin, failing-read-turn, failing-read-leave, failing-done}
-use Rattle.selection.specs.Routes.{isHistoryRow, plain-not, plain-if, history-row}
-use Rattle.selection.proofs.is_plain.Statement.{statement}
-use Rattle.selection.proofs.is_plain.Tie as tie
+use Rattle.selection.specs.FixedDomains.{isHistoryRow, targets-not, targets-if, history-row}
+use Rattle.selection.proofs.has_fixed_targets.Statement.{statement}
+use Rattle.selection.proofs.has_fixed_targets.Tie as tie
 
 abbrev Inv-loop : tie.InvT-loop
 Inv-loop chart targets i₀ i = Failing (isHistoryRow (chartOf chart)) targets (length targets) i
@@ -31,7 +31,7 @@ is-history-requires : tie.Need-is-history-requires Inv-loop μ-loop
 is-history-requires c κs = search needs
 
 returns : tie.Need-returns Inv-loop μ-loop
-returns c = plain-not _ _ _ (c .before .before .before .before .before .before .targets-of .ensures .is) (failing-read-leave _ _ _ _ _ _ _ (c .before .before .before .before .before .loop .inv) (c .before .before .before .before .loop-test .taken) refl (c .before .before .before .row-at .ensures .is) (history-row _ _ _ _ (c .before .before .kind-of .ensures) (c .before .is-history .ensures)) (c .if1 .taken))
+returns c = targets-not _ _ _ (c .before .before .before .before .before .before .targets-of .ensures .is) (failing-read-leave _ _ _ _ _ _ _ (c .before .before .before .before .before .loop .inv) (c .before .before .before .before .loop-test .taken) refl (c .before .before .before .row-at .ensures .is) (history-row _ _ _ _ (c .before .before .kind-of .ensures) (c .before .is-history .ensures)) (c .if1 .taken))
 
 add-i : tie.Need-add-i Inv-loop μ-loop
 add-i c = search needs
@@ -43,10 +43,10 @@ loop-again : tie.Need-loop-again Inv-loop μ-loop
 loop-again c = failing-read-turn _ _ _ _ _ _ (c .before .before .before .before .before .loop .inv) (c .before .before .before .before .loop-test .taken) (c .before .before .before .row-at .ensures .is) (history-row _ _ _ _ (c .before .before .kind-of .ensures) (c .before .is-history .ensures)) (c .if1 .left)
 
 returns-2 : tie.Need-returns-2 Inv-loop μ-loop
-returns-2 c = let v = c .before .loop .inv in let m = v .most in let l = c .loop-test .left in plain-if _ _ _ (c .before .before .targets-of .ensures .is) (c .before .loop .i) (omega arith) (failing-done _ _ _ _ _ v l refl)
+returns-2 c = let v = c .before .loop .inv in let m = v .most in let l = c .loop-test .left in targets-if _ _ _ (c .before .before .targets-of .ensures .is) (c .before .loop .i) (omega arith) (failing-done _ _ _ _ _ v l refl)
 
-pub is-plain-spec : {M : Type 1} → statement M
-is-plain-spec =
+pub has-fixed-targets-spec : {M : Type 1} → statement M
+has-fixed-targets-spec =
     tie.close
     (tie.spec
     Inv-loop

@@ -3,12 +3,12 @@ use mathlib.Core.Path.{_≡_, refl}
 use Prim.Native.Nat.{_-_, _≤_}
 use native.Mathlib.Omega.{arith}
 use Rattle.definition.specs.Tables.{transitionCount, chartOf}
-use Rattle.selection.specs.Routes.{Routing, routing-begin, routing-turn, routing-done}
-use Rattle.selection.proofs.routes_of.Statement.{statement}
-use Rattle.selection.proofs.routes_of.Tie as tie
+use Rattle.selection.specs.FixedDomains.{Fixing, fixing-begin, fixing-turn, fixing-done}
+use Rattle.selection.proofs.fixed_domains.Statement.{statement}
+use Rattle.selection.proofs.fixed_domains.Tie as tie
 
 abbrev Inv-loop : tie.InvT-loop
-Inv-loop chart n domains₀ t₀ domains t = (n ≡ transitionCount chart) × (n ≤ 512) × Routing (chartOf chart) domains t
+Inv-loop chart n domains₀ t₀ domains t = (n ≡ transitionCount chart) × (n ≤ 512) × Fixing (chartOf chart) domains t
 
 abbrev μ-loop : tie.MeasureT-loop
 μ-loop chart n domains₀ t₀ domains t = n - t
@@ -17,13 +17,13 @@ transition-count-requires : tie.Need-transition-count-requires Inv-loop μ-loop
 transition-count-requires c κs = search needs
 
 loop-holds : tie.Need-loop-holds Inv-loop μ-loop
-loop-holds c = (c .transition-count .ensures, let e = c .transition-count .ensures in let m = c .before .before .pre .tables .sized .counts .transitions in omega arith, routing-begin _ _ refl)
+loop-holds c = (c .transition-count .ensures, let e = c .transition-count .ensures in let m = c .before .before .pre .tables .sized .counts .transitions in omega arith, fixing-begin _ _ refl)
 
 cast-t8 : tie.Need-cast-t8 Inv-loop μ-loop
 cast-t8 c = search needs
 
-route-of-requires : tie.Need-route-of-requires Inv-loop μ-loop
-route-of-requires c κs = record { ready = c .before .before .before .before .pre; inside = let e = c .before .loop .inv .0 in let l = c .loop-test .taken in omega arith }
+fixed-domain-requires : tie.Need-fixed-domain-requires Inv-loop μ-loop
+fixed-domain-requires c κs = record { ready = c .before .before .before .before .pre; inside = let e = c .before .loop .inv .0 in let l = c .loop-test .taken in omega arith }
 
 mul-domains : tie.Need-mul-domains Inv-loop μ-loop
 mul-domains c = search needs
@@ -38,13 +38,13 @@ loop-less : tie.Need-loop-less Inv-loop μ-loop
 loop-less c = search needs
 
 loop-again : tie.Need-loop-again Inv-loop μ-loop
-loop-again c = let v = c .before .before .loop .inv in let m = v .1 in let l = c .before .loop-test .taken in (v .0, v .1, routing-turn _ _ _ _ (omega arith) (v .2) (c .route-of .ensures))
+loop-again c = let v = c .before .before .loop .inv in let m = v .1 in let l = c .before .loop-test .taken in (v .0, v .1, fixing-turn _ _ _ _ (omega arith) (v .2) (c .fixed-domain .ensures))
 
 returns : tie.Need-returns Inv-loop μ-loop
-returns c = let v = c .before .loop .inv in routing-done _ _ _ _ (v .0) (c .loop-test .left) (v .2)
+returns c = let v = c .before .loop .inv in fixing-done _ _ _ _ (v .0) (c .loop-test .left) (v .2)
 
-pub routes-of-spec : {M : Type 1} → statement M
-routes-of-spec =
+pub fixed-domains-spec : {M : Type 1} → statement M
+fixed-domains-spec =
     tie.close
     (tie.spec
     Inv-loop
@@ -52,7 +52,7 @@ routes-of-spec =
     transition-count-requires
     loop-holds
     cast-t8
-    route-of-requires
+    fixed-domain-requires
     mul-domains
     array-write-domains
     add-t
