@@ -1,7 +1,7 @@
 # make demo    a container's day as a C program plays it, and a picture of its chart (build/lifecycle.svg) where Graphviz is installed
 # make test    proves every crate, tries every must-fail edit, runs the second program, the tests in C and every check of this repository
-# make lib     build/libauttervil.a, the static library for C
-# make install PREFIX=..   header, library and auttervil.pc; make uninstall PREFIX=.. takes them away
+# make lib     build/libauttervil.a, the static library for C; so does make alone
+# make install PREFIX=/..  header, library and auttervil.pc; make uninstall PREFIX=/.. takes them away
 # make test-c  the tests in C alone
 # make chart-a   plays chart A by the second program and prints its trace in words
 # make bench   how long the library and the second program take (docs/bench.md)
