@@ -1,7 +1,7 @@
 # make demo    a container's day as a C program plays it, and a picture of its chart (build/lifecycle.svg) where Graphviz is installed
 # make test    proves every crate, tries every must-fail edit, runs the second program, the tests in C and every check of this repository
-# make lib     build/libauttervil.a, the static library for C
-# make install PREFIX=..   header, library and auttervil.pc; make uninstall PREFIX=.. takes them away
+# make lib     build/libauttervil.a, the static library for C; so does make alone
+# make install PREFIX=/..  header, library and auttervil.pc; make uninstall PREFIX=/.. takes them away
 # make test-c  the tests in C alone
 # make chart-a   plays chart A by the second program and prints its trace in words
 # make bench   how long the library and the second program take (docs/bench.md)
@@ -17,10 +17,12 @@ BENCH = --release --manifest-path bench/Cargo.toml --target-dir build/bench --fe
 LIB = build/libauttervil.a
 PREFIX ?= /usr/local
 DESTDIR ?=
+PLACE = $(DESTDIR)$(PREFIX)
 VERSION = $(shell sed -n 's/^\#define AUTTERVIL_VERSION "\(.*\)"/\1/p' include/auttervil.h)
 LIFECYCLE = examples/lifecycle
 
-.PHONY: test demo lib bench agree examples cases manifest second linked clean lifecycle picture chart-a test-c expected install uninstall
+.DEFAULT_GOAL := lib
+.PHONY: test demo lib bench agree examples cases manifest second linked clean lifecycle picture chart-a test-c expected absolute install uninstall
 
 test:
 	@bash tests/run
@@ -62,15 +64,19 @@ expected: build/lifecycle
 test-c:
 	@bash tests/c/run
 
-install: $(LIB)
-	install -d $(DESTDIR)$(PREFIX)/include $(DESTDIR)$(PREFIX)/lib/pkgconfig
-	install -m 644 include/auttervil.h $(DESTDIR)$(PREFIX)/include/auttervil.h
-	install -m 644 $(LIB) $(DESTDIR)$(PREFIX)/lib/libauttervil.a
-	sed -e 's|@PREFIX@|$(PREFIX)|' -e 's|@VERSION@|$(VERSION)|' auttervil.pc.in > $(DESTDIR)$(PREFIX)/lib/pkgconfig/auttervil.pc
-	chmod 644 $(DESTDIR)$(PREFIX)/lib/pkgconfig/auttervil.pc
+# auttervil.pc has the prefix in it, which would mean nothing from another directory.
+absolute:
+	@case '$(PREFIX)' in /*) ;; *) echo 'PREFIX has to begin with /: $(PREFIX)'; exit 1;; esac
 
-uninstall:
-	rm -f $(DESTDIR)$(PREFIX)/include/auttervil.h $(DESTDIR)$(PREFIX)/lib/libauttervil.a $(DESTDIR)$(PREFIX)/lib/pkgconfig/auttervil.pc
+install: absolute $(LIB)
+	install -d '$(PLACE)/include' '$(PLACE)/lib/pkgconfig'
+	install -m 644 include/auttervil.h '$(PLACE)/include/auttervil.h'
+	install -m 644 '$(LIB)' '$(PLACE)/lib/libauttervil.a'
+	sed -e 's|@PREFIX@|$(PREFIX)|' -e 's|@VERSION@|$(VERSION)|' auttervil.pc.in > '$(PLACE)/lib/pkgconfig/auttervil.pc'
+	chmod 644 '$(PLACE)/lib/pkgconfig/auttervil.pc'
+
+uninstall: absolute
+	rm -f '$(PLACE)/include/auttervil.h' '$(PLACE)/lib/libauttervil.a' '$(PLACE)/lib/pkgconfig/auttervil.pc'
 
 linked: lib
 	@$(CARGO) --release $(LINKED) --bin linked

@@ -32,7 +32,7 @@ enum host_action {
 };
 
 /* Rows, transitions, references, descriptors, actions, names. */
-AUTTERVIL_PLACES(lifecycle, 24, 24, 40, 32, 24, 64);
+AUTTERVIL_PLACES(lifecycle, 24, 28, 40, 40, 24, 64);
 
 static void add_rows(auttervil_builder *b, const char *mounted)
 {
@@ -74,6 +74,8 @@ static void add_volumes(auttervil_builder *b, const char *mounted)
     auttervil_add_transition(b, mounted, NULL, "unmounting");
     auttervil_set_condition(b, "dead");
     auttervil_add_transition(b, "unmounting", "unmount.done", "released");
+    /* Leaves unmounting and enters it again, which asks for the same once more. */
+    auttervil_add_transition(b, "unmounting", "unmount.failed", "unmounting");
 }
 
 static void add_process(auttervil_builder *b, const char *mounted)
@@ -85,8 +87,9 @@ static void add_process(auttervil_builder *b, const char *mounted)
     auttervil_add_transition(b, "waiting", "start", "wanted");
     auttervil_add_transition(b, "wanted", "volumes.ready", "booting");
     auttervil_add_host(b, EXEC_PROCESS);
-    auttervil_add_transition(b, "waiting", "cancel done.state.volumes", "dead");
-    auttervil_add_transition(b, "wanted", "cancel done.state.volumes", "dead");
+    /* Nothing runs yet, so there is nothing to ask or to kill; as dead, it lets the volumes be unmounted. */
+    auttervil_add_transition(b, "waiting", "cancel stop kill done.state.volumes", "dead");
+    auttervil_add_transition(b, "wanted", "cancel stop kill done.state.volumes", "dead");
 
     auttervil_add_list(b, "last", "booting");
     auttervil_add_transition(b, "booting", "ready", "up");

@@ -140,17 +140,19 @@ static int start_container(const auttervil_chart *chart, int quiet)
     return started.answer == AUTTERVIL_DONE && run_to_idle(chart, quiet);
 }
 
-/* The next line without its end; what does not fit is left out. */
-static int read_line(char *line, int size)
+/* The next line without its end; what does not fit is left out. A zero byte stands as '?', which is in no name, so that it cannot cut a line to one. */
+static int read_line(char *line, size_t size)
 {
-    if (fgets(line, size, stdin) == NULL)
+    size_t length = 0;
+    int c = getchar();
+    if (c == EOF)
         return 0;
-    if (strchr(line, '\n') == NULL) {
-        int c = 0;
-        while (c != '\n' && c != EOF)
-            c = getchar();
-    }
-    line[strcspn(line, "\r\n")] = 0;
+    for (; c != '\n' && c != EOF; c = getchar())
+        if (length + 1 < size)
+            line[length++] = c == 0 ? '?' : (char)c;
+    if (length > 0 && line[length - 1] == '\r')
+        length--;
+    line[length] = 0;
     return 1;
 }
 
@@ -159,7 +161,7 @@ static int play(const auttervil_chart *chart, int quiet)
     char line[256];
     if (!start_container(chart, quiet))
         return 0;
-    while (read_line(line, (int)sizeof line)) {
+    while (read_line(line, sizeof line)) {
         uint32_t answer;
         if (line[0] == '#' && !quiet)
             printf("\n%s\n", line);

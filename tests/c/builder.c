@@ -128,6 +128,12 @@ static void mistakes(void)
     small_chart(most);
     auttervil_add_list(&b, "", "two");
     CHECK(ends_with(AUTTERVIL_FAULT_TWICE, ""));
+    /* An empty list's block has an action, which a second list would leave in no block. */
+    small_chart(most);
+    auttervil_add_list(&b, "two", "");
+    auttervil_add_host(&b, 1);
+    auttervil_add_list(&b, "two", "one");
+    CHECK(ends_with(AUTTERVIL_FAULT_TWICE, "two"));
     small_chart(most);
     CHECK(ends_with(AUTTERVIL_FAULT_NONE, NULL));
     auttervil_add_host(&b, 1);
@@ -142,6 +148,24 @@ static void mistakes(void)
     begin_with(most);
     auttervil_add_row(&b, AUTTERVIL_KIND_STATE, NULL, longest + 20);
     CHECK(ends_with(AUTTERVIL_FAULT_NONE, NULL) && compile() == AUTTERVIL_DONE);
+}
+
+/* The white space of XML separates events and targets. */
+static void white_space(void)
+{
+    const auttervil_counts most = counts(8, 8, 8, 8, 8, 8);
+    small_chart(most);
+    CHECK(ends_with(AUTTERVIL_FAULT_NONE, NULL));
+    memcpy(place, numbers, 8 * tables.cells);
+    begin_with(most);
+    auttervil_add_row(&b, AUTTERVIL_KIND_STATE, NULL, "one");
+    auttervil_add_row(&b, AUTTERVIL_KIND_STATE, NULL, "two");
+    auttervil_add_list(&b, NULL, "\r\none\t");
+    auttervil_add_entry(&b, "one");
+    auttervil_add_host(&b, 65535);
+    auttervil_add_transition(&b, "one", "go\taway.*\n", "\ttwo");
+    auttervil_add_raise(&b, "gone");
+    CHECK(ends_with(AUTTERVIL_FAULT_NONE, NULL) && memcmp(place, numbers, 8 * tables.cells) == 0);
 }
 
 /* Rules 2 to 5, each broken through the builder, which does not judge them. */
@@ -167,6 +191,12 @@ static void rules(void)
     small_chart(most);
     for (i = 0; i < 8; i++)
         auttervil_add_host(&b, 1);
+    CHECK(ends_with(AUTTERVIL_FAULT_NONE, NULL) && compile() == AUTTERVIL_SIZE);
+    small_chart(most);
+    auttervil_add_host(&b, 65536);
+    CHECK(ends_with(AUTTERVIL_FAULT_NONE, NULL) && compile() == AUTTERVIL_SIZE);
+    small_chart(most);
+    auttervil_add_host(&b, UINT64_MAX);
     CHECK(ends_with(AUTTERVIL_FAULT_NONE, NULL) && compile() == AUTTERVIL_SIZE);
     begin_with(most);
     CHECK(ends_with(AUTTERVIL_FAULT_NONE, NULL) && tables.bytes == 0 && compile() == AUTTERVIL_TREE);
@@ -206,6 +236,41 @@ static void arrays(void)
     CHECK(auttervil_finish(NULL, &tables) == AUTTERVIL_FAULT_ARRAYS && auttervil_finish(&b, NULL) == AUTTERVIL_FAULT_ARRAYS);
 }
 
+/* A builder that was never begun, and structs where they may not be. */
+static void unbegun(void)
+{
+    static const auttervil_builder zeros;
+    static const auttervil_tables empty;
+    b = zeros;
+    CHECK(ends_with(AUTTERVIL_FAULT_ARRAYS, NULL));
+    b = zeros;
+    auttervil_add_list(&b, NULL, NULL);
+    auttervil_add_entry(&b, NULL);
+    auttervil_add_host(&b, 1);
+    CHECK(ends_with(AUTTERVIL_FAULT_ARRAYS, NULL));
+    auttervil_begin((auttervil_builder *)((uintptr_t)&b + 4), counts(3, 1, 2, 2, 2, 5), numbers, COUNT(numbers), names, COUNT(names));
+    CHECK(auttervil_finish((auttervil_builder *)((uintptr_t)&b + 4), &tables) == AUTTERVIL_FAULT_ARRAYS);
+    CHECK(auttervil_finish(&b, (auttervil_tables *)((uintptr_t)&tables + 4)) == AUTTERVIL_FAULT_ARRAYS);
+    CHECK(auttervil_finish(&b, (auttervil_tables *)(UINTPTR_MAX - 7)) == AUTTERVIL_FAULT_ARRAYS);
+    CHECK(auttervil_finish((auttervil_builder *)(UINTPTR_MAX - 7), &tables) == AUTTERVIL_FAULT_ARRAYS);
+    small_chart(counts(3, 1, 2, 2, 2, 5));
+    CHECK(auttervil_finish(&b, (auttervil_tables *)(void *)numbers) == AUTTERVIL_FAULT_ARRAYS && b.fault == AUTTERVIL_FAULT_ARRAYS);
+    CHECK(memcmp(numbers, &empty, sizeof empty) == 0);
+    small_chart(counts(3, 1, 2, 2, 2, 5));
+    CHECK(auttervil_finish(&b, (auttervil_tables *)(void *)(numbers + AUTTERVIL_NUMBERS_CELLS(3, 1, 2, 2, 2) - 1)) == AUTTERVIL_FAULT_ARRAYS);
+    small_chart(counts(3, 1, 2, 2, 2, 5));
+    CHECK(auttervil_finish(&b, (auttervil_tables *)(void *)&b.most) == AUTTERVIL_FAULT_ARRAYS && b.most.rows == 3);
+    CHECK(ends_with(AUTTERVIL_FAULT_NONE, NULL) && compile() == AUTTERVIL_DONE);
+}
+
+/* A chart of nothing but its root has no names. */
+static void no_names(void)
+{
+    AUTTERVIL_PLACES(root, 1, 0, 0, 0, 0, 0);
+    AUTTERVIL_BEGIN(&b, root);
+    CHECK(ends_with(AUTTERVIL_FAULT_NONE, NULL) && AUTTERVIL_COMPILE(&tables, root).answer == AUTTERVIL_TREE);
+}
+
 /* As many rows and transitions as a chart may have. */
 static void at_the_limits(void)
 {
@@ -221,7 +286,7 @@ static void at_the_limits(void)
         snprintf(id, sizeof id, "s%d", i % 63 + 1);
         snprintf(next, sizeof next, "s%d", (i + 1) % 63 + 1);
         auttervil_add_transition(&b, id, "go", next);
-        auttervil_add_host(&b, (uint16_t)i);
+        auttervil_add_host(&b, (uint64_t)i);
     }
     CHECK(auttervil_finish(&b, &tables) == AUTTERVIL_FAULT_NONE);
     compiled = auttervil_compile(&tables, place, COUNT(place), name_place, COUNT(name_place));
@@ -241,8 +306,11 @@ int main(void)
     fits_exactly();
     does_not_fit();
     mistakes();
+    white_space();
     rules();
     arrays();
+    unbegun();
+    no_names();
     at_the_limits();
     return report();
 }

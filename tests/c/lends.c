@@ -49,6 +49,9 @@ static void tables(void)
     t.cells = 5;
     CHECK(auttervil_sizes(&t).answer == AUTTERVIL_SIZE);
     CHECK(auttervil_sizes((const auttervil_tables *)shifted(&t, 1)).answer == AUTTERVIL_SIZE);
+    CHECK(auttervil_sizes((const auttervil_tables *)(UINTPTR_MAX - 7)).answer == AUTTERVIL_SIZE);
+    CHECK(auttervil_sizes((const auttervil_tables *)(UINTPTR_MAX - 31)).answer == AUTTERVIL_SIZE);
+    CHECK(compile_into((const auttervil_tables *)(UINTPTR_MAX - 7), a.place, a.chart.cells, a.name_place, a.chart.bytes) == AUTTERVIL_SIZE);
     /* The header alone says the sizes. */
     t.cells = 6;
     CHECK(auttervil_sizes(&t).answer == AUTTERVIL_DONE && auttervil_sizes(&t).cells == a.chart.cells);
@@ -130,8 +133,8 @@ static int is_ended(const auttervil_session *session)
     return memcmp(&zero, session, sizeof zero) == 0;
 }
 
-/* What is at fault with a chart: its pointers, which is seen before the session's; its counts, past the end of memory, so that it cannot be told apart from
- * the session; or what it holds. */
+/* What is at fault with a chart: its pointers, which is seen before the session's; its counts or its own place, past the end of memory, so that it cannot be
+ * told apart from the session; or what it holds. */
 enum fault { POINTERS, COUNTS, CONTENTS };
 
 static void refused_chart(const auttervil_chart *chart, enum fault fault)
@@ -150,6 +153,9 @@ static void charts(void)
     auttervil_chart c = a.chart;
     refused_chart(NULL, POINTERS);
     refused_chart((const auttervil_chart *)shifted(&c, 1), POINTERS);
+    refused_chart((const auttervil_chart *)(UINTPTR_MAX - 7), COUNTS);
+    refused_chart((const auttervil_chart *)(UINTPTR_MAX - 31), COUNTS);
+    CHECK(auttervil_find_row((const auttervil_chart *)(UINTPTR_MAX - 7), "p") == AUTTERVIL_NONE);
     c.numbers = NULL;
     refused_chart(&c, POINTERS);
     c.cells = 0;

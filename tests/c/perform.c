@@ -128,15 +128,16 @@ static void ends_before(auttervil_call call, size_t room)
 
 static void what_is_no_call(void)
 {
-    auttervil_call call = auttervil_call_run(1, 0);
+    auttervil_call call;
     ends_before(auttervil_call_start(ROOM - 4), ROOM);
     ends_before(auttervil_call_run(1, SIZE_MAX), ROOM);
     ends_before(auttervil_call_run(1, 1), 5);
     ends_before(auttervil_call_post(0, sizeof text), ROOM);
     ends_before(auttervil_call_post(sizeof text, 0), ROOM);
     ends_before(auttervil_call_post(SIZE_MAX, SIZE_MAX), ROOM);
-    call.a = UINT64_C(1) << 32;
-    ends_before(call, ROOM);
+    ends_before(auttervil_call_run(UINT64_C(1) << 32, 0), ROOM);
+    ends_before(auttervil_call_run(UINT64_MAX, 0), ROOM);
+    call = auttervil_call_run(1, 0);
     call.kind = 3;
     ends_before(call, ROOM);
     call.kind = UINT64_MAX;
@@ -184,6 +185,9 @@ static void lends(void)
     refused(&s, &a.chart, calls, 2, text, 2, NULL, trace, ROOM, AUTTERVIL_SIZE);
     refused(&s, &a.chart, calls, 2, text, 2, (auttervil_result *)((uintptr_t)results + 4), trace, ROOM, AUTTERVIL_SIZE);
     refused(&s, &a.chart, calls, 2, NULL, 2, results, trace, ROOM, AUTTERVIL_NOT_A_NAME);
+    refused(&s, &a.chart, calls, 2, text, SIZE_MAX, results, trace, ROOM, AUTTERVIL_NOT_A_NAME);
+    refused(&s, &a.chart, calls, 2, (const char *)(UINTPTR_MAX - 3), 8, results, trace, ROOM, AUTTERVIL_NOT_A_NAME);
+    refused(&s, (const auttervil_chart *)(UINTPTR_MAX - 7), calls, 2, text, 2, results, trace, ROOM, AUTTERVIL_BAD_CHART);
     refused(&s, &a.chart, calls, 2, text, 2, results, NULL, ROOM, AUTTERVIL_NO_ROOM);
     refused(&s, &a.chart, calls, 2, text, 2, results, (uint32_t *)((uintptr_t)trace + 2), 4, AUTTERVIL_NO_ROOM);
     refused(&s, &a.chart, calls, 2, text, 2, results, trace, SIZE_MAX, AUTTERVIL_NO_ROOM);

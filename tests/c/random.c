@@ -1,5 +1,6 @@
 /* Random bytes as sessions, compiled charts and tables, and well-formed ones with single bytes changed: every answer is one that the call may give, what is refused
- * is left as it was, and nothing beside a lent place is written. The argument is how many random bytes to try; each changed byte counts for a hundred. */
+ * is left as it was, and nothing beside a lent place is written. The argument is how many random bytes to try as sessions, and how many as compiled
+ * charts; each changed byte counts for a hundred. */
 #include <stdlib.h>
 
 #include "test.h"
@@ -51,7 +52,7 @@ static int is_handled(auttervil_session *session, const auttervil_chart *chart, 
     return ran.status == 7 || ran.status == 8 || ran.status == 9 || ran.status == 10 || (ran.status >= 100 && ran.status <= 102);
 }
 
-static void random_sessions(size_t bytes)
+static size_t random_sessions(size_t bytes)
 {
     static auttervil_session session;
     size_t done;
@@ -65,11 +66,13 @@ static void random_sessions(size_t bytes)
         session.mode %= 3;
         TRY(is_handled(&session, &a.chart, 64));
     }
-    CHECK(tried > 0);
+    CHECK(tried > 0 && done >= bytes);
+    return done;
 }
 
-/* Random cells; every other time behind a header of small counts, so that the sizes are right. */
-static void random_charts(size_t bytes)
+/* Random cells, and the same behind a header of small counts, so that the sizes are right. Only the part of the places that is then handed over as a compiled
+ * chart is counted. */
+static size_t random_charts(size_t bytes)
 {
     static lent l;
     size_t done = 0;
@@ -100,9 +103,10 @@ static void random_charts(size_t bytes)
         TRY(auttervil_start(&l.session, &chart, fenced.trace, 64).answer == AUTTERVIL_BAD_CHART);
         for (i = 0; i < 1000; i += 7)
             (void)auttervil_row_id(&chart, i), (void)auttervil_transition_event(&chart, i, i % 5), (void)auttervil_find_row(&chart, "x");
-        done += sizeof l.numbers + sizeof l.names + sizeof l.place + sizeof l.name_place;
+        done += 8 * chart.cells + chart.bytes;
     }
-    CHECK(tried > 0);
+    CHECK(tried > 0 && done >= bytes);
+    return done;
 }
 
 /* One byte of a good session, or of a good chart, is another. */
@@ -138,15 +142,16 @@ static void changed_bytes(const lent *good, size_t tries)
 int main(int count, char **arguments)
 {
     size_t bytes = count > 1 ? (size_t)strtoul(arguments[1], NULL, 10) : 1000000;
+    size_t as_sessions, as_charts;
     make_chart_a(&a);
     make_door(&door);
     CHECK(auttervil_start(&a.session, &a.chart, a.trace, COUNT(a.trace)).answer == 0);
     CHECK(auttervil_start(&door.session, &door.chart, door.trace, COUNT(door.trace)).answer == 0);
     CHECK(auttervil_post_text(&door.session, &door.chart, "close") == 0);
-    random_sessions(bytes);
-    random_charts(bytes);
+    as_sessions = random_sessions(bytes);
+    as_charts = random_charts(bytes);
     changed_bytes(&a, bytes / 200);
     changed_bytes(&door, bytes / 200);
-    printf("%lu trials\n", (unsigned long)tried);
+    printf("%lu trials: %lu random bytes as sessions, %lu as compiled charts\n", (unsigned long)tried, (unsigned long)as_sessions, (unsigned long)as_charts);
     return report();
 }
