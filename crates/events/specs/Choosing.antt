@@ -100,7 +100,7 @@ module _ (chart slots : List ℕ) (g : CompiledWith chart slots) (f : Follower) 
   pub external-size : length external ≡ 2048
   external-size = ap length (h .spells .externalIs) ∙ queue-length (f .external)
 
-  history-read : storedAt history ≡ storedIn (f .history)
+  pub history-read : storedAt history ≡ storedIn (f .history)
   history-read = ap storedAt (h .spells .historyIs) ∙ history-is c t (let few = g .ready .tables .sized .counts .rows in omega arith) f (h .formed)
 
   -- what was selected for the event

@@ -37,7 +37,7 @@ pub struct Choice {
 }
 
 // What an eventless round selects: nothing, where no active row is at or below the source of an eventless transition.
-fn select_eventless(
+pub fn select_eventless(
     chart: &[u64],
     names: &[u8],
     starts: &[u16],

@@ -7,24 +7,18 @@ use lib.Dec.{ltb}
 use lib.ListN.{length, replicate}
 use Rattle.definition.specs.declared.Mode.{Mode}
 use Rattle.definition.specs.declared.Mode.the-variants.{Running, Closing, Ended}
-use Rattle.definition.specs.declared.Status.the-variants as status
 use Rattle.definition.specs.Tables.{rowCount, nameAt, chartOf}
 use Rattle.definition.specs.Microstep.{exiting}
-use Rattle.definition.specs.Follower.{Follower, Round, closingRound, roundIn, round, refusalIf, refusal, restStatus}
+use Rattle.definition.specs.Follower.{Follower, Round, closingRound, roundIn, round, refusalIf, refusal}
 use Rattle.theory.specs.Runs.{not-refused}
 use Rattle.rowset.specs.Member.{rowsOf}
 use Rattle.chart.specs.Ready.{Ready, CompiledWith}
-use Rattle.matching.specs.Chosen.{listOf, Within}
-use Rattle.selection.specs.History.{storedAt}
+use Rattle.matching.specs.Chosen.{Within}
 use Rattle.effects.specs.declared.Tally.{Tally}
 use Rattle.effects.specs.Trace.{Wrote}
 use Rattle.queue.specs.Queues.{queueBytes, queue-none}
 use Rattle.state.specs.declared.State.{State}
 use Rattle.state.specs.State.{Spells, Holds}
-use Rattle.events.specs.declared.Source.{Source}
-use Rattle.events.specs.declared.Source.the-variants.{Nothing}
-use Rattle.events.specs.declared.Choice.{Choice}
-use Rattle.events.specs.Rounds.{roundBy, Chooses}
 use Rattle.events.specs.Choosing.{conf-within, internal-size, external-size}
 use Rattle.rounds.specs.declared.Outcome.{Outcome}
 use Rattle.rounds.specs.declared.Outcome.the-variants.{Over, Did}
@@ -32,7 +26,7 @@ use Rattle.rounds.specs.declared.Turn.{Turn}
 use Rattle.rounds.specs.Turns.{judged, judged-none, untouched, Turned, turned-over, turned-refused, turned-did}
 use Rattle.rounds.specs.Traces.{nothing, wrote-entries, wrote-trace}
 use Rattle.rounds.specs.Judging.{Counted}
-use Rattle.rounds.specs.Taking.{spelled, HoldsAt, round-did}
+use Rattle.rounds.specs.Taking.{spelled, HoldsAt}
 
 -- the parts by value of an ended session
 pub record IsEnded (s : State) : Type 0 where
@@ -102,7 +96,7 @@ module _ (chart names : List ℕ) (s : State) (history internal external : List 
   abbrev f : Follower
   f = spelled chart s history internal external
 
-  round-mode : (m : Mode) → s .mode ≡ m → roundIn m (chartOf chart) (nameAt names) f ≡ round (chartOf chart) (nameAt names) f
+  pub round-mode : (m : Mode) → s .mode ≡ m → roundIn m (chartOf chart) (nameAt names) f ≡ round (chartOf chart) (nameAt names) f
   unfolding round
   round-mode m e = ap (λ (x : Mode). roundIn x (chartOf chart) (nameAt names) f) (sym e ∙ h .spells .modeIs)
 
@@ -118,27 +112,3 @@ module _ (chart names : List ℕ) (s : State) (history internal external : List 
   pub round-over : (u : Turn) (old : List ℕ) → u ≡ untouched s Over → s .mode ≡ Ended → Turned (round (chartOf chart) (nameAt names) f) f u history internal external old old
   unfolding roundIn
   round-over u old y e = turned-over (round (chartOf chart) (nameAt names) f) f s u history internal external old (h .spells) y (sym (round-mode Ended e))
-
-  -- ---- the status of a run whose rounds are all done
-
-  pub rest-ended : s .mode ≡ Ended → status.Ended ≡ restStatus (round (chartOf chart) (nameAt names) f)
-  unfolding restStatus roundIn
-  rest-ended e = ap restStatus (round-mode Ended e)
-
-  pub rest-closing : s .mode ≡ Closing → status.More ≡ restStatus (round (chartOf chart) (nameAt names) f)
-  unfolding restStatus roundIn closingRound
-  rest-closing e = ap restStatus (round-mode Closing e)
-
-  module _ (m : s .mode ≡ Running) (items : List ℕ) (choice : Choice) (ch : Chooses (chartOf chart) (nameAt names) f (storedAt history) items choice) where
-    chosen-round : roundBy (choice .source) (chartOf chart) (nameAt names) f (listOf items (choice .selected .len)) ≡ round (chartOf chart) (nameAt names) f
-    chosen-round = sym (ch .is) ∙ round-mode Running m
-
-    pub rest-idle : choice .source ≡ Nothing → status.Idle ≡ restStatus (round (chartOf chart) (nameAt names) f)
-    unfolding restStatus roundBy
-    rest-idle e =
-        sym (ap (λ (x : Source). restStatus (roundBy x (chartOf chart) (nameAt names) f (listOf items (choice .selected .len)))) e) ∙ ap restStatus chosen-round
-
-    pub rest-more : (choice .source ≡ Nothing → ⊥) → status.More ≡ restStatus (round (chartOf chart) (nameAt names) f)
-    unfolding restStatus
-    rest-more z =
-        sym (ap restStatus (round-did (choice .source) (chartOf chart) (nameAt names) f (listOf items (choice .selected .len)) z)) ∙ ap restStatus chosen-round

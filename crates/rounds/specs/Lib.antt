@@ -5,6 +5,7 @@ pub mod Judging
 pub mod Taking
 pub mod Deciding
 pub mod Closing
+pub mod Resting
 pub mod Keeping
 pub mod Running
 pub mod Starting

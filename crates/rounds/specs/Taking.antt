@@ -39,14 +39,14 @@ use Rattle.queue.specs.Queues.{queueBytes, queueOf, queue-waits}
 use Rattle.state.specs.declared.State.{State}
 use Rattle.state.specs.State.{Holds, stateOf, historyWords}
 use Rattle.state.specs.Words as words
-use Rattle.state.specs.Found.{stored-set, queue-again, history-is}
+use Rattle.state.specs.Found.{stored-set, queue-again}
 use Rattle.events.specs.declared.Source.{Source}
 use Rattle.events.specs.declared.Source.the-variants.{Nothing, Eventless, Internal, External}
 use Rattle.events.specs.declared.Choice.{Choice}
 use Rattle.events.specs.Rounds.{Lookup, Chooses, Waits, internalAfter, externalAfter, internalBytes, externalBytes, roundBy, queuedNames, EntriesIn}
 use Rattle.events.specs.Left.{internalLeft, externalLeft, QueueIs, EventLeft, event-left}
 use Rattle.events.specs.Entries.{EntriesOf, round-entries}
-use Rattle.events.specs.Choosing.{conf-within, history-size}
+use Rattle.events.specs.Choosing.{conf-within, history-size, history-read}
 use Rattle.rounds.specs.declared.Outcome.the-variants.{Did}
 use Rattle.rounds.specs.Turns.{Turned, turned-did}
 use Rattle.rounds.specs.Traces.{nothing, Drafted, wrote-entries, wrote-trace, wrote-fit, wrote-front, wrote-size}
@@ -132,7 +132,7 @@ module _ (chart names : List ℕ) (k : CompiledWith chart names) (f : Follower) 
   tree = k .ready .sound .tree
 
   stored-reads : storedAt history ≡ storedIn (f .history)
-  stored-reads = ap storedAt (h .spells .historyIs) ∙ history-is (chartOf chart) tree (let few = k .ready .tables .sized .counts .rows in omega arith) f (h .formed)
+  stored-reads = history-read chart names k f s history internal external h
 
   pub round-ready : (atoms : RowSet) → rowsOf atoms ≡ atomicRows (chartOf chart) → RoundReady chart history atoms (s .configuration)
   round-ready atoms e = record {

@@ -2,13 +2,15 @@
 // are written. A refused round changes none of them, since none of them was written.
 ghost use mathlib.Core.Path.{_≡_};
 ghost use mathlib.Core.List.{[], _++_};
+ghost use mathlib.Core.Option.{none};
 ghost use Prim.Native.Nat.{_+_, _≤_};
 ghost use lib.Dec.{ltb};
 ghost use lib.ListN.{length, take, drop, replicate};
 ghost use Rattle.definition.specs.declared.Mode.the-variants.{Running};
 ghost use Rattle.definition.specs.Tables.{rowCount, transitionCount, nameAt, chartOf};
 ghost use Rattle.definition.specs.Microstep.{exiting, entering};
-ghost use Rattle.definition.specs.Follower.{modeOf, roundIn, round, refusalIf, restStatus, start, run};
+ghost use Rattle.definition.specs.Selection.{selected};
+ghost use Rattle.definition.specs.Follower.{modeOf, roundIn, round, refusalIf, start, run};
 ghost use Rattle.rowset.specs.Member.{rowsOf};
 ghost use Rattle.chart.specs.Ready.{Ready, CompiledWith};
 ghost use Rattle.matching.specs.Chosen.{Within, Taken};
@@ -17,14 +19,18 @@ ghost use Rattle.microstep.specs.Entry.{enteredAs};
 ghost use Rattle.microstep.specs.Plan.{PlanReady, planEffects};
 ghost use Rattle.legality.specs.Rows.{RowsReady};
 ghost use Rattle.state.specs.State.{stateOf, Holds};
+ghost use Rattle.matching.specs.Eventless.{eventlessRows};
 ghost use Rattle.selection.specs.FixedDomains.{DomainsFixed};
-ghost use Rattle.events.specs.Rounds.{Lookup, roundBy};
+ghost use Rattle.selection.specs.History.{storedAt};
+ghost use Rattle.selection.specs.Ready.{SelectReady};
+ghost use Rattle.events.specs.Rounds.{roundBy};
 ghost use Rattle.events.specs.Left.{internalLeft, externalLeft};
 ghost use Rattle.rounds.specs.Calls.{RunDone, StartDone};
 ghost use Rattle.rounds.specs.Turns.{judged, statusOf, untouched, Turned};
 ghost use Rattle.rounds.specs.Judging.{Counted, LeavesInternal, LeavesExternal};
 ghost use Rattle.rounds.specs.Taking.{spelled, HoldsAt, Given, HasChosen, Decided};
 ghost use Rattle.rounds.specs.Traces.{nothing, Drafted, EntriesFit};
+ghost use Rattle.rounds.specs.Resting.{restBy};
 ghost use Rattle.rounds.specs.Closing.{IsEnded, Closed};
 use definition::Answer;
 use definition::Mode;
@@ -459,7 +465,8 @@ fn status_of(outcome: Outcome) -> Status
     }
 }
 
-// The status of a run whose rounds are all done: "ended; else idle if running with nothing left to choose; (..) else more".
+// The status of a run whose rounds are all done: "ended; else idle if running with nothing left to choose; (..) else more". Where a name
+// waits there is something to choose, whatever it selects.
 fn rest_status(
     chart: &[u64],
     names: &[u8],
@@ -469,36 +476,35 @@ fn rest_status(
     eventless: RowSet,
     state: State,
     history: &[u64],
-    internal: &[u8],
-    external: &[u8],
     items: &mut [u16],
 ) -> Status
-    requires { ⌜ Lookup (now chart) (now names) (now starts) (now domains) atoms eventless × HoldsAt (now chart) state (now history) (now internal) (now external) × (length (now items) ≡ 256) ⌝ }
-    ensures { λ s. ⌜ s ≡ restStatus (round (chartOf (now (chart .entry))) (nameAt (now (names .entry))) (spelled (now (chart .entry)) state (now (history .entry)) (now (internal .entry)) (now (external .entry)))) ⌝ }
+    requires { ⌜ SelectReady (now chart) (now names) (now starts) (now domains) atoms (state .configuration) (now history) (now items) × (rowsOf eventless ≡ eventlessRows (chartOf (now chart))) ⌝ }
+    ensures { λ s. ⌜ s ≡ restBy (state .mode) (state .internal) (state .external) (selected (chartOf (now (chart .entry))) (nameAt (now (names .entry))) (rowsOf (state .configuration)) (storedAt (now (history .entry))) none) ⌝ }
 {
     let mode = state.mode;
     match mode {
         Mode::Ended => Status::Ended,
         Mode::Closing => Status::More,
         Mode::Running => {
-            let choice = events::choose(
+            if (0 < state.internal) | (0 < state.external) {
+                return Status::More;
+            }
+            let conf = state.configuration;
+            let first = events::select_eventless(
                 chart,
                 names,
                 starts,
                 domains,
                 atoms,
                 eventless,
-                state,
+                conf,
                 history,
-                internal,
-                external,
                 items,
             );
-            let source = choice.source;
-            if let Source::Nothing = source {
-                return Status::Idle;
+            if 0 < first.len {
+                return Status::More;
             }
-            Status::More
+            Status::Idle
         }
     }
 }
@@ -566,8 +572,6 @@ pub fn run(
         eventless,
         s,
         history,
-        internal,
-        external,
         &mut items,
     );
     Progress {
