@@ -2,6 +2,7 @@
 
 use super::script::{making, Line};
 use crate::at_limits;
+use crate::builder::{Builder, Do};
 use crate::by_hand;
 use crate::cells::INTERNAL;
 use crate::compiled::{compile, CompiledChart};
@@ -11,7 +12,7 @@ use crate::generate::{self, CallMaker, Flavour};
 use crate::limits::SLOT_BYTES;
 use crate::near_misses::Lent;
 use crate::random::Random;
-use crate::readings;
+use crate::readings::{self, post, run, run_in, start};
 use crate::session::{watch_nothing, Session};
 use crate::session_damage;
 use crate::story;
@@ -24,8 +25,13 @@ const FIRST_SEED: u64 = 10_000_000;
 const REFUSED_SEED: u64 = 11_000_000;
 const REFUSED: u64 = 40;
 
+/// Regions, and actions of the parallel above them, so that the round that enters them has 512 entries,
+/// 513 and 551: as many as the library drafts, and more.
+const LONG: [(usize, usize); 3] = [(56, 5), (56, 6), (60, 8)];
+
 pub fn lists() -> Vec<Line> {
     let mut lines = story();
+    lines.extend(LONG.into_iter().flat_map(|(regions, more)| long_round(regions, more)));
     lines.extend(examples().into_iter().flat_map(played));
     lines.extend((FIRST_SEED..FIRST_SEED + LARGE).flat_map(of_any_size));
     lines.extend((REFUSED_SEED..REFUSED_SEED + REFUSED).flat_map(refused));
@@ -55,6 +61,25 @@ fn story() -> Vec<Line> {
     let mut lines = vec![Line::About("a region with an id of 52 bytes ends".to_string()), chart, Line::Zeros];
     lines.extend(story::before().into_iter().map(Line::Call));
     lines.extend([slots.clone(), Line::Call(story::last()), slots, Line::Call(story::last())]);
+    lines
+}
+
+/// A parallel whose regions each do eight host actions is entered with one place too few in the trace,
+/// then with just enough, and left again.
+fn long_round(regions: usize, more: usize) -> Vec<Line> {
+    let eight: Vec<Do> = (0..8).map(Do::Host).collect();
+    let mut b = Builder::new();
+    b.state("", "s").parallel("", "p").on_entry("p", &eight[..more]);
+    for region in 0..regions {
+        let id = format!("r{region}");
+        b.state("p", &id).on_entry(&id, &eight);
+    }
+    b.on("s", "go", "p").on("p", "back", "s");
+    let entries = 3 + more + 9 * regions;
+    let about = format!("a round of {entries} entries");
+    let mut lines = vec![Line::About(about), Line::Chart(Lent::of(&b.chart(), Layout::Plain)), Line::Zeros];
+    let calls = [start(), post("go"), run_in(1, entries - 1), run_in(1, entries), post("back"), run(1)];
+    lines.extend(calls.map(Line::Call));
     lines
 }
 
