@@ -91,10 +91,12 @@ fn judge(kept: u64, tally: Tally, room: usize) -> Outcome
     requires { ⌜ kept ≤ 32 ⌝ }
     ensures { λ r. ⌜ r ≡ judged (refusalIf (ltb 32 (kept + tally .names)) (ltb room (tally .entries))) ⌝ }
 {
-    if queue::MOST_QUEUED - kept < tally.names {
+    let free = queue::MOST_QUEUED - kept;
+    let left = room as u64;
+    if free < tally.names {
         return Outcome::Refused(Answer::Full);
     }
-    if (room as u64) < tally.entries {
+    if left < tally.entries {
         return Outcome::Refused(Answer::NoRoom);
     }
     Outcome::Did

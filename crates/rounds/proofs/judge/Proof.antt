@@ -3,8 +3,8 @@ use Rattle.rounds.specs.Judging.{judged-full, judged-room, judged-did}
 use Rattle.rounds.proofs.judge.Statement.{statement}
 use Rattle.rounds.proofs.judge.Tie as tie
 
-sub-if1 : tie.Need-sub-if1
-sub-if1 c = search needs
+sub-free : tie.Need-sub-free
+sub-free c = search needs
 
 returns : tie.Need-returns
 returns c = judged-full (c .before .before .args .kept) (c .before .before .args .room) (c .before .before .args .tally) (c .before .before .pre) (c .if1 .taken)
@@ -16,4 +16,4 @@ returns-3 : tie.Need-returns-3
 returns-3 c = judged-did (c .before .before .before .before .args .kept) (c .before .before .before .before .args .room) (c .before .before .before .before .args .tally) (c .before .before .before .before .pre) (c .before .before .if1 .left) (c .if2 .left)
 
 pub judge-spec : {M : Type 1} → statement M
-judge-spec = tie.close (tie.spec sub-if1 returns returns-2 returns-3)
+judge-spec = tie.close (tie.spec sub-free returns returns-2 returns-3)
