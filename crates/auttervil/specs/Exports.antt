@@ -8,7 +8,7 @@ use lib.ListN.{length}
 use Rattle.definition.specs.declared.Answer.{Answer}
 use Rattle.definition.specs.declared.Answer.the-variants.{Done, BadChart}
 use Rattle.definition.specs.Rules.{verdict}
-use Rattle.definition.specs.Follower.{answerNo, statusNo}
+use Rattle.definition.specs.Answers.{answerNo, statusNo}
 use Rattle.definition.specs.Compiled.{compiled, isCompiled}
 use Rattle.compiler.specs.Results.{Compiles}
 use Rattle.session.specs.declared.Started.{Started}

@@ -7,7 +7,7 @@ ghost use Prim.Native.Nat.{_*_};
 ghost use lib.ListN.{length};
 ghost use Rattle.definition.specs.Tables.{nameCount, slotSize};
 ghost use Rattle.definition.specs.Rules.{countsFit, compiledSize};
-ghost use Rattle.definition.specs.Follower.{answerNo};
+ghost use Rattle.definition.specs.Answers.{answerNo};
 ghost use Rattle.state.specs.State.{traceWith};
 ghost use Rattle.session.specs.Sessions.{startOf, startEffects, postOf, runOf, runEffects};
 ghost use Rattle.calls.specs.Performing.{Performs};

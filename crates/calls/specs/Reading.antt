@@ -8,7 +8,8 @@ use lib.Dec.{eqb, leb}
 use lib.ListN.{length, getD, take, drop, set}
 use lib.Seq.{drop-cons}
 use borrow.Author.Tests.{leb-true, le-leb, lt-leb, ne-eqb}
-use Rattle.definition.specs.Follower.{answerNo, statusNo, Call}
+use Rattle.definition.specs.Answers.{answerNo, statusNo}
+use Rattle.definition.specs.Calls.{Call}
 use Rattle.laws.specs.Bools.{and-left, and-right}
 use Rattle.session.specs.declared.Session.{Session}
 use Rattle.session.specs.declared.Started.{Started}

@@ -3,7 +3,7 @@ ghost use mathlib.Core.Path.{_≡_};
 ghost use mathlib.Core.Bool.{true};
 ghost use mathlib.Core.List.{[], _∷_};
 ghost use lib.ListN.{length};
-ghost use Rattle.definition.specs.Follower.{answerNo, statusNo};
+ghost use Rattle.definition.specs.Answers.{answerNo, statusNo};
 ghost use Rattle.faithful.specs.Program.{startStep, postStep, runStep, call};
 ghost use Rattle.calls.specs.Calls.{isKind, isCall, callOf};
 ghost use Rattle.calls.specs.Performing.{Told, Did, Performs};

@@ -16,7 +16,7 @@ use Rattle.definition.specs.Chart.{Chart}
 use Rattle.definition.specs.Tables.{slotSize, rowCount, transitionCount, nameCount, tablesSize, chartOf}
 use Rattle.definition.specs.Tree.{ancestors, isDescendant, isChild, descendants, children, defaultTargets, anchor, anchors}
 use Rattle.definition.specs.Rules.{compiledSize, sizesFit, countsFit, rule1, rule2, verdict}
-use Rattle.definition.specs.Follower.{answerNo}
+use Rattle.definition.specs.Answers.{answerNo}
 use Rattle.definition.specs.Compiled.{column, columns, compiled, ownNumbers, isCompiled}
 use Rattle.laws.specs.Bools.{and-left, and-right, and4, and7}
 use Rattle.laws.specs.Sets.{ascends-those, ascends-union}

@@ -6,7 +6,7 @@ use types.Run.{OneOf, miss}
 use denote.Enum.Declared.{tagOf}
 use Rattle.definition.proofs.Answer
 use Rattle.definition.specs.declared.Answer.the-variants.{Done, Size, Names, Tree, Lists, Transitions, NotAName, Full, BadChart, BadSession, NoRoom, SessionEnded}
-use Rattle.definition.specs.Follower.{answerNo}
+use Rattle.definition.specs.Answers.{answerNo}
 use Rattle.compiler.specs.Results.{isDone}
 
 pub not-done : (a : Rattle.definition.specs.declared.Answer.Answer) → OneOf (1 ∷ 2 ∷ 3 ∷ 4 ∷ 5 ∷ 6 ∷ 7 ∷ 8 ∷ 9 ∷ 10 ∷ 11 ∷ []) (tagOf Answer.the-type a) → isDone a ≡ false

@@ -13,7 +13,7 @@ use Rattle.definition.specs.declared.Answer.the-variants.{Done}
 use Rattle.definition.specs.Rows.{same}
 use Rattle.definition.specs.Tables.{tablesSize, chartOf}
 use Rattle.definition.specs.Rules.{countsFit, compiledSize, verdict}
-use Rattle.definition.specs.Follower.{answerNo}
+use Rattle.definition.specs.Answers.{answerNo}
 use Rattle.definition.specs.Compiled.{columns, compiled, ownNumbers, isCompiled}
 use Rattle.laws.specs.Bools.{clash, not-so}
 use Rattle.laws.specs.Passes.{drop-end}

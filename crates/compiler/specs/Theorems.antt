@@ -15,7 +15,7 @@ use Rattle.definition.specs.Chart.{Chart}
 use Rattle.definition.specs.Tables.{tablesSize, chartOf}
 use Rattle.definition.specs.Tree.{ancestors, descendants, children, defaultTargets, anchors}
 use Rattle.definition.specs.Rules.{compiledSize, verdict}
-use Rattle.definition.specs.Follower.{answerNo}
+use Rattle.definition.specs.Answers.{answerNo}
 use Rattle.definition.specs.Compiled.{columns, compiled, ownNumbers, isCompiled}
 use Rattle.laws.specs.Bools.{and-left, and-right}
 use Rattle.laws.specs.Lists.{same-eq, same-self}

@@ -10,7 +10,8 @@ use Rattle.definition.specs.declared.Action.{Action}
 use Rattle.definition.specs.Rows.{flat, from, mem, backwards}
 use Rattle.definition.specs.Chart.{kind, parent, isRoot, isFinal}
 use Rattle.definition.specs.Tables.{mostActions, rowCount, transitionCount, rowCell, transitionCell, blockAt, entryAt, exitAt, listBlockAt, transitionBlockAt, chartOf}
-use Rattle.definition.specs.Microstep.{done, performed, exitEffects, exiting, transitionEffects, Entry, initialBlock, defaultBlock, isDoneAbove, doneEffects, entryEffects, entering}
+use Rattle.definition.specs.Blocks.{done, performed}
+use Rattle.definition.specs.Microstep.{exitEffects, exiting, transitionEffects, Entry, initialBlock, defaultBlock, isDoneAbove, doneEffects, entryEffects, entering}
 use Rattle.laws.specs.Orders.{mem-backwards}
 use Rattle.laws.specs.Folds.{flat-length, backwards-length, ascends-length}
 use Rattle.theory.specs.Round.{length-from}

@@ -13,7 +13,8 @@ use Rattle.definition.specs.Rows.{fold, from, keep, mem, isIn, any, flat, inser
 use Rattle.definition.specs.Chart.{Chart, kind, parent, isRoot, isParallel, isFinal, isHistory}
 use Rattle.definition.specs.Tables.{rowCount, kindAt, chartOf}
 use Rattle.definition.specs.Tree.{isDescendant, descendants, children, isCompound}
-use Rattle.definition.specs.Microstep.{Effect, entered, done, perform, performed, Entry, initialBlock, defaultBlock, isActiveFinal, isInFinal, addInFinal, inFinal, isDoneAbove, doneEffects, isUpTo, entryEffects}
+use Rattle.definition.specs.Blocks.{Effect, entered, done, perform, performed}
+use Rattle.definition.specs.Microstep.{Entry, initialBlock, defaultBlock, isActiveFinal, isInFinal, addInFinal, inFinal, isDoneAbove, doneEffects, isUpTo, entryEffects}
 use Rattle.laws.specs.Bools.{no, both-ways, and-left, and-right, and-true, or-false, not-so, clash}
 use Rattle.laws.specs.Sets.{mem-intersection, mem-insert, mem-from}
 use Rattle.laws.specs.Lists.{mem-subset, subset-mem, keep-cong}

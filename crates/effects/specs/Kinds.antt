@@ -8,7 +8,7 @@ use lib.Dec.{leb}
 use borrow.Author.Tests.{le-leb}
 use Rattle.definition.specs.declared.Action.{Action}
 use Rattle.definition.specs.declared.Action.the-variants.{Raise, Host}
-use Rattle.definition.specs.Microstep.{Effect, exited, taken, entered, acted, raised, done, traceNo, perform}
+use Rattle.definition.specs.Blocks.{Effect, exited, taken, entered, acted, raised, done, traceNo, perform}
 use lib.ListN.{length, set}
 use lib.Seq.{set-out}
 use Rattle.effects.specs.declared.Tally.{Tally}

@@ -15,7 +15,8 @@ use Rattle.definition.specs.Chart.{Chart, kindNo, kind, parent, isRoot, isParal
 use Rattle.definition.specs.Tables.{noNumber, rowCount, transitionCount, actionCount, nameCount, rowCell, transitionCell, actionAt, blockAt, entryAt, exitAt, idAt, listBlockAt, transitionBlockAt, nameAt, chartOf}
 use Rattle.definition.specs.Rules.{each, argumentFits, slotFits, idDiffers, idFits, actionNamed, rule2}
 use Rattle.definition.specs.Selection.{History}
-use Rattle.definition.specs.Microstep.{Effect, exited, taken, entered, acted, raised, done, traceNo, queued, perform, performed, exits, exitEffects, exiting, transitionEffects, targeted, Entry, initialBlock, defaultBlock, isDoneAbove, doneEffects, entryEffects, entering, storedIn, staying, historyAfter, entryOf, fallen, effects}
+use Rattle.definition.specs.Blocks.{Effect, exited, taken, entered, acted, raised, done, traceNo, queued, perform, performed}
+use Rattle.definition.specs.Microstep.{exits, exitEffects, exiting, transitionEffects, targeted, Entry, initialBlock, defaultBlock, isDoneAbove, doneEffects, entryEffects, entering, storedIn, staying, historyAfter, entryOf, fallen, effects}
 use Rattle.definition.specs.Follower.{firstEntry, firstEffects}
 use Rattle.definition.specs.Compiled.{ownNumbers}
 use Rattle.laws.specs.Bools.{clash, not-so, and3, and-left, and-right, and-true}

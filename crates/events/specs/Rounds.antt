@@ -11,7 +11,7 @@ use Rattle.definition.specs.Names.{Name}
 use Rattle.definition.specs.Chart.{Chart, Names}
 use Rattle.definition.specs.Tables.{rowCount, nameCount, idAt, chartOf}
 use Rattle.definition.specs.Selection.{History}
-use Rattle.definition.specs.Microstep.{Effect, exited, taken, entered, acted, raised, done, queued}
+use Rattle.definition.specs.Blocks.{Effect, exited, taken, entered, acted, raised, done, queued}
 use Rattle.definition.specs.Follower.{Follower, Round, idle, taking, roundIn}
 use Rattle.rowset.specs.declared.RowSet.{RowSet}
 use Rattle.rowset.specs.Member.{rowsOf}

@@ -5,7 +5,7 @@ ghost use mathlib.Core.List.{_++_};
 ghost use Prim.Native.Nat.{_+_, _≤_};
 ghost use lib.ListN.{length};
 ghost use Rattle.definition.specs.Tables.{rowCount, nameAt, chartOf};
-ghost use Rattle.definition.specs.Microstep.{queued};
+ghost use Rattle.definition.specs.Blocks.{queued};
 ghost use Rattle.chart.specs.Ready.{CompiledWith};
 ghost use Rattle.matching.specs.Eventless.{eventlessRows};
 ghost use Rattle.rowset.specs.Member.{rowsOf};

@@ -7,7 +7,8 @@ use Rattle.definition.specs.Rows.{same}
 use Rattle.definition.specs.declared.Mode.{Mode}
 use Rattle.definition.specs.declared.Mode.the-variants.{Running, Closing, Ended}
 use Rattle.definition.specs.Marked.{slotOf}
-use Rattle.definition.specs.Follower.{Follower, starts, posts, runs}
+use Rattle.definition.specs.Follower.{Follower}
+use Rattle.definition.specs.Calls.{starts, posts, runs}
 use Rattle.definition.specs.Open.{everything}
 use Rattle.examples.specs.Play.{joined, historyShown, queueShown, shown, playedIf, played, judged, countsKept, compiledSets, opens, fits, alike}
 

@@ -5,7 +5,7 @@ use lib.ListN.{length}
 use Rattle.definition.specs.declared.Answer.the-variants.{Done}
 use Rattle.definition.specs.Marked.{numbersA, namesA}
 use Rattle.definition.specs.Rules.{compiledSize, verdict, keepsRules}
-use Rattle.definition.specs.Follower.{answerNo}
+use Rattle.definition.specs.Answers.{answerNo}
 use Rattle.definition.specs.Compiled.{compiled}
 use Rattle.theory.specs.MarkedRuns.{chart-a-accepted}
 use Rattle.compiler.specs.Results.{Compiles}

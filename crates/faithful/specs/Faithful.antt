@@ -9,8 +9,10 @@ use Rattle.definition.specs.Names.{Name}
 use Rattle.definition.specs.Chart.{Chart}
 use Rattle.definition.specs.Tables.{rowCount, chartOf, nameAt}
 use Rattle.definition.specs.Rules.{keepsRules}
-use Rattle.definition.specs.Microstep.{Effect, traceNo}
-use Rattle.definition.specs.Follower.{answerNo, Follower, endedFollower, Started, Ran, start, startedOutcome, ranOutcome, post, postAnswer, run, Call, starts, posts, runs, follow, followAll}
+use Rattle.definition.specs.Blocks.{Effect, traceNo}
+use Rattle.definition.specs.Answers.{answerNo}
+use Rattle.definition.specs.Follower.{Follower, endedFollower, Started, Ran, start, post, postAnswer, run}
+use Rattle.definition.specs.Calls.{startedOutcome, ranOutcome, Call, starts, posts, runs, follow, followAll}
 use Rattle.definition.specs.Legal.{WellFormed}
 use Rattle.definition.specs.Compiled.{ownNumbers, isCompiled}
 use Rattle.theory.specs.Accepted.{Sound, accepted-sound}

@@ -8,7 +8,9 @@ use lib.Seq.{take-at}
 use Rattle.definition.specs.Names.{Name, matches}
 use Rattle.definition.specs.Tables.{rowCount, chartOf, nameAt}
 use Rattle.definition.specs.Rules.{compiledSize, verdict, keepsRules}
-use Rattle.definition.specs.Follower.{answerNo, Follower, Call, starts, posts, runs, Outcome, endedFollower, follow, followAll}
+use Rattle.definition.specs.Answers.{answerNo}
+use Rattle.definition.specs.Follower.{Follower, endedFollower}
+use Rattle.definition.specs.Calls.{Call, starts, posts, runs, Outcome, follow, followAll}
 use Rattle.definition.specs.Compiled.{compiled}
 use Rattle.definition.specs.Marked.{numbersA, e1, e2, e4, namesWith, namesA, playA, lastOf, lastA, traceA, sumA, test, marked, expected}
 use Rattle.theory.specs.MarkedRuns.{marked-runs}

@@ -1,7 +1,8 @@
 -- The program's side: what the contracts of start, post and run say over a lent compiled chart, call after call, the session handed on.
 use mathlib.Core.List.{List, [], _∷_}
 use Prim.Native.Nat.{ℕ}
-use Rattle.definition.specs.Follower.{answerNo, statusNo, Call, starts, posts, runs}
+use Rattle.definition.specs.Answers.{answerNo, statusNo}
+use Rattle.definition.specs.Calls.{Call, starts, posts, runs}
 use Rattle.state.specs.State.{traceWith}
 use Rattle.session.specs.declared.Session.{Session}
 use Rattle.session.specs.Sessions.{startOf, startEffects, postOf, runOf, runEffects}

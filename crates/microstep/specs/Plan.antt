@@ -9,7 +9,8 @@ use Rattle.definition.specs.Chart.{Chart, isHistory}
 use Rattle.definition.specs.Tables.{rowCount, transitionCount, kindAt, chartOf}
 use Rattle.definition.specs.Tree.{descendants, defaultTargets}
 use Rattle.definition.specs.Selection.{History, effectiveTargets, domain, exitSet}
-use Rattle.definition.specs.Microstep.{Effect, stored, addExits, exits, historyAfter, storedIn, staying, exiting, transitionEffects, pathsBelow, addTargets, targeted, Entry, entrySet, entryOf, fellToDefault, addFallen, fallen, entering, configurationAfter, effects}
+use Rattle.definition.specs.Blocks.{Effect}
+use Rattle.definition.specs.Microstep.{stored, addExits, exits, historyAfter, storedIn, staying, exiting, transitionEffects, pathsBelow, addTargets, targeted, Entry, entrySet, entryOf, fellToDefault, addFallen, fallen, entering, configurationAfter, effects}
 use Rattle.definition.specs.Follower.{firstEntry, firstEffects}
 use Rattle.laws.specs.Bools.{no, and-left, or-elim}
 use Rattle.laws.specs.Sets.{mem-union, mem-intersection, mem-minus}

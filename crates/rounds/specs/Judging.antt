@@ -10,7 +10,7 @@ use Rattle.definition.specs.declared.Answer.the-variants.{Full, NoRoom}
 use Rattle.definition.specs.Rows.{flat}
 use Rattle.definition.specs.Names.{Name}
 use Rattle.definition.specs.Chart.{Chart, Names}
-use Rattle.definition.specs.Microstep.{Effect, queued}
+use Rattle.definition.specs.Blocks.{Effect, queued}
 use Rattle.definition.specs.Follower.{Follower, refusalIf, refusal}
 use Rattle.effects.specs.declared.Tally.{Tally}
 use Rattle.effects.specs.Trace.{allQueues, queues-all}

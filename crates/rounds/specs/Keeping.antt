@@ -13,7 +13,7 @@ use Rattle.definition.specs.Chart.{Chart}
 use Rattle.definition.specs.Tables.{mostRows, mostTransitions, mostNames, mostDescriptors, mostTargets, mostActions, slotSize, rowCount, transitionCount, referenceCount, descriptorCount, actionCount, nameCount, tablesSize, nameAt, chartOf}
 use Rattle.definition.specs.Rules.{compiledSize, countsFit, sizesFit, rowInRange, transitionInRange, referenceInRange, descriptorInRange, actionInRange, rule1}
 use Rattle.definition.specs.Compiled.{ownNumbers}
-use Rattle.definition.specs.Microstep.{Effect}
+use Rattle.definition.specs.Blocks.{Effect}
 use Rattle.definition.specs.Follower.{Follower, did, round, refusal}
 use Rattle.definition.specs.Legal.{WellFormed}
 use Rattle.laws.specs.Loops.{below-each}

@@ -16,7 +16,8 @@ use Rattle.definition.specs.Names.{Name}
 use Rattle.definition.specs.Chart.{Chart, Names}
 use Rattle.definition.specs.Tables.{rowCount, nameAt, chartOf}
 use Rattle.definition.specs.Selection.{History}
-use Rattle.definition.specs.Microstep.{Effect, traceNo, queued, exits, storing, storedIn, historyAfter, configurationAfter, effects}
+use Rattle.definition.specs.Blocks.{Effect, traceNo, queued}
+use Rattle.definition.specs.Microstep.{exits, storing, storedIn, historyAfter, configurationAfter, effects}
 use Rattle.definition.specs.Follower.{Follower, did, roundIn, isFinalUnderRoot, modeOf, taking, refusal}
 use Rattle.laws.specs.Bools.{bool-case}
 use Rattle.laws.specs.Lists.{set-below}

@@ -9,7 +9,8 @@ use Rattle.definition.specs.declared.Answer.the-variants.{BadChart, BadSession}
 use Rattle.definition.specs.declared.Status.{Status}
 use Rattle.definition.specs.Tables.{rowCount, chartOf, nameAt}
 use Rattle.definition.specs.Follower as follower
-use Rattle.definition.specs.Follower.{modeNo, Follower, startOr, start, run}
+use Rattle.definition.specs.Answers.{modeNo}
+use Rattle.definition.specs.Follower.{Follower, startOr, start, run}
 use Rattle.definition.specs.Compiled.{words, ownNumbers, isCompiled}
 use Rattle.theory.specs.Accepted.{Sound}
 use Rattle.rowset.specs.Member.{rowsOf}

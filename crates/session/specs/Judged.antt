@@ -10,7 +10,8 @@ use lib.ListN.{length}
 use borrow.Author.Tests.{eq-eqb, ne-eqb, ltb-true, ltb-false}
 use Rattle.definition.specs.Rows.{from, any, all, same, isEmpty}
 use Rattle.definition.specs.Chart.{Chart, kind, isHistory}
-use Rattle.definition.specs.Follower.{modeNo, Follower, isFinalUnderRoot}
+use Rattle.definition.specs.Answers.{modeNo}
+use Rattle.definition.specs.Follower.{Follower, isFinalUnderRoot}
 use Rattle.definition.specs.Legal.{isLegal, isStorable, placeFits, historyFits, queueFits, modeFits, isWellFormed}
 use Rattle.definition.specs.Compiled.{words}
 use Rattle.laws.specs.Bools.{no, both-ways, bool-case, or-elim, and4, and7, and-left, and-right, and-true}

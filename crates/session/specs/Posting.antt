@@ -13,7 +13,8 @@ use Rattle.definition.specs.Names.{Name, isName}
 use Rattle.definition.specs.Chart.{Chart}
 use Rattle.definition.specs.Tables.{rowCount, chartOf}
 use Rattle.definition.specs.Marked.{slotOf}
-use Rattle.definition.specs.Follower.{answerNo, Follower, isEnded, postAnswer, withExternal, post}
+use Rattle.definition.specs.Answers.{answerNo}
+use Rattle.definition.specs.Follower.{Follower, isEnded, postAnswer, withExternal, post}
 use Rattle.definition.specs.Legal.{WellFormed}
 use Rattle.definition.specs.Compiled.{ownNumbers, isCompiled}
 use Rattle.theory.specs.Accepted.{Sound}

@@ -7,7 +7,8 @@ use native.Mathlib.Nat.{zero-add}
 use borrow.Author.Tests.{eqb-true, eq-eqb}
 use Rattle.definition.specs.Rows.{from}
 use Rattle.definition.specs.Chart.{Chart}
-use Rattle.definition.specs.Follower.{modeNo, Follower, noHistory, endedFollower}
+use Rattle.definition.specs.Answers.{modeNo}
+use Rattle.definition.specs.Follower.{Follower, noHistory, endedFollower}
 use Rattle.definition.specs.Legal.{WellFormed, isWellFormed}
 use Rattle.laws.specs.Bools.{and7, and-left, and-right, and-true}
 use Rattle.laws.specs.Lists.{same-eq, same-self}

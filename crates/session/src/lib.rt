@@ -12,7 +12,7 @@ ghost use Rattle.session.specs.Sessions.{session, endedSession, isSessio
 ghost use Rattle.session.specs.Calling.{Taken};
 ghost use Rattle.state.specs.State.{traceWith};
 ghost use Rattle.definition.specs.Compiled.{words};
-ghost use Rattle.definition.specs.Follower.{modeNo};
+ghost use Rattle.definition.specs.Answers.{modeNo};
 ghost use Rattle.session.specs.Judged.{Lengths, holdsPlace, modeHolds};
 use definition::Answer;
 use definition::Status;

@@ -13,7 +13,8 @@ use Rattle.definition.specs.Rows.{all, isEmpty, isSet}
 use Rattle.definition.specs.Names.{Name, isName}
 use Rattle.definition.specs.Chart.{Chart}
 use Rattle.definition.specs.Microstep.{storedIn, wouldStore}
-use Rattle.definition.specs.Follower.{modeNo, Follower, mostQueued}
+use Rattle.definition.specs.Answers.{modeNo}
+use Rattle.definition.specs.Follower.{Follower, mostQueued}
 use Rattle.definition.specs.Legal.{isLegal, rowFits, childrenFit, StoredFrom, WellFormed, queueFits}
 use Rattle.definition.specs.Compiled.{words}
 use Rattle.laws.specs.Bools.{bool-case, and3, and-true}

@@ -6,7 +6,7 @@ use lib.ListN.{length, take, drop, replicate}
 use Rattle.definition.specs.declared.Mode.{Mode}
 use Rattle.definition.specs.declared.Mode.the-variants.{Running, Closing, Ended}
 use Rattle.definition.specs.Rows.{from, flat}
-use Rattle.definition.specs.Microstep.{Effect, traceNo}
+use Rattle.definition.specs.Blocks.{Effect, traceNo}
 use Rattle.definition.specs.Chart.{Chart}
 use Rattle.definition.specs.Follower.{Follower}
 use Rattle.definition.specs.Legal.{WellFormed}

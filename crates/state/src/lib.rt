@@ -1,7 +1,7 @@
 // The parts of a session that are handed on by value while a call works, and their numbers.
 ghost use mathlib.Core.Path.{_≡_};
 ghost use Rattle.definition.specs.Compiled.{words};
-ghost use Rattle.definition.specs.Follower.{modeNo};
+ghost use Rattle.definition.specs.Answers.{modeNo};
 ghost use Rattle.rowset.specs.Member.{rowsOf};
 ghost use Rattle.state.specs.State.{modeFrom};
 use definition::Mode;

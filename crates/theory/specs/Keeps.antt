@@ -15,7 +15,8 @@ use Rattle.definition.specs.Chart.{Chart, Names, kind, isHistory}
 use Rattle.definition.specs.Tree.{defaultTargets}
 use Rattle.definition.specs.Selection.{selected}
 use Rattle.definition.specs.Microstep.{storedIn, historyAfter, configurationAfter, targeted, entryOf}
-use Rattle.definition.specs.Follower.{Follower, nothingAt, noHistory, endedFollower, modeOf, Round, idle, over, did, taking, selectedBy, closingRound, round, refusal, firstEffects, firstFollower, startOr, start, isEnded, answerNo, postAnswer, withExternal, post, run}
+use Rattle.definition.specs.Answers.{answerNo}
+use Rattle.definition.specs.Follower.{Follower, nothingAt, noHistory, endedFollower, modeOf, Round, idle, over, did, taking, selectedBy, closingRound, round, refusal, firstEffects, firstFollower, startOr, start, isEnded, postAnswer, withExternal, post, run}
 use Rattle.definition.specs.Legal.{isLegal, StoredFrom}
 use Rattle.laws.specs.Bools.{clash, bool-case}
 use Rattle.laws.specs.Lists.{empty-list, full-list, list-full, set-eq, eq-set}

@@ -10,7 +10,8 @@ use Rattle.definition.specs.Rows.{mem, meets, flat, backwards}
 use Rattle.definition.specs.Names.{Name}
 use Rattle.definition.specs.Chart.{Chart, Names, kind, parent, isRoot, isFinal}
 use Rattle.definition.specs.Selection.{History, exitSet}
-use Rattle.definition.specs.Microstep.{Effect, exited, taken, entered, acted, raised, done, perform, performed, exits, exitEffects, exiting, transitionEffects, Entry, isDoneAbove, doneEffects, entryEffects, entering, storedIn, effects}
+use Rattle.definition.specs.Blocks.{Effect, exited, taken, entered, acted, raised, done, perform, performed}
+use Rattle.definition.specs.Microstep.{exits, exitEffects, exiting, transitionEffects, Entry, isDoneAbove, doneEffects, entryEffects, entering, storedIn, effects}
 use Rattle.definition.specs.Follower.{Follower, Round, idle, over, did, taking, selectedBy, closingRound, round}
 use Rattle.laws.specs.Bools.{no}
 use Rattle.laws.specs.Sets.{NoTwice}

@@ -3,7 +3,7 @@ use borrow.Author.Needs.{needs}
 use mathlib.Core.Path.{sym, ap, _∙_}
 use mathlib.Core.Bool.{Bool, cond}
 use Rattle.definition.specs.declared.Answer.the-variants.{Done, BadChart}
-use Rattle.definition.specs.Follower.{answerNo}
+use Rattle.definition.specs.Answers.{answerNo}
 use Rattle.auttervil.proofs.auttervil_raw_check.Statement.{statement}
 use Rattle.auttervil.proofs.auttervil_raw_check.Tie as tie
 

@@ -1,7 +1,7 @@
 -- `answer_number`: each case has the definition's number.
 use borrow.Author.Needs.{needs}
 use mathlib.Core.Path.{sym, ap}
-use Rattle.definition.specs.Follower.{answerNo}
+use Rattle.definition.specs.Answers.{answerNo}
 use Rattle.calls.proofs.answer_number.Statement.{statement}
 use Rattle.calls.proofs.answer_number.Tie as tie
 

@@ -1,6 +1,6 @@
 use borrow.Author.Needs.{needs}
 use mathlib.Core.Path.{sym, ap, _∙_}
-use Rattle.definition.specs.Follower.{statusNo}
+use Rattle.definition.specs.Answers.{statusNo}
 use Rattle.calls.proofs.status_number.Statement.{statement}
 use Rattle.calls.proofs.status_number.Tie as tie
 

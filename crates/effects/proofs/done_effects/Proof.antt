@@ -3,7 +3,8 @@ use mathlib.Core.Path.{_≡_, sym, subst}
 use native.Mathlib.Omega.{arith}
 use borrow.Author.Tests.{not-true, not-false}
 use borrow.Author.Needs.{needs}
-use Rattle.definition.specs.Microstep.{done, doneEffects}
+use Rattle.definition.specs.Blocks.{done}
+use Rattle.definition.specs.Microstep.{doneEffects}
 use Rattle.definition.specs.Tables.{chartOf}
 use Rattle.definition.specs.Chart.{isFinal, isRoot}
 use Rattle.rowset.specs.Member.{rowsOf}

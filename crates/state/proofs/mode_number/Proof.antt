@@ -1,5 +1,5 @@
 use borrow.Author.Needs.{needs}
-use Rattle.definition.specs.Follower.{modeNo}
+use Rattle.definition.specs.Answers.{modeNo}
 use Rattle.state.proofs.mode_number.Statement.{statement}
 use Rattle.state.proofs.mode_number.Tie as tie
 

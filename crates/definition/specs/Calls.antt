@@ -1,0 +1,37 @@
+-- Whole lists of calls.
+use mathlib.Core.List.{List, [], _∷_, map}
+use Prim.Native.Nat.{ℕ}
+use Rattle.definition.specs.Names.{Name}
+use Rattle.definition.specs.Chart.{Chart, Names as NameTable}
+use Rattle.definition.specs.Answers.{answerNo, statusNo}
+use Rattle.definition.specs.Blocks.{traceNo}
+use Rattle.definition.specs.Follower.{Follower, Started, start, postAnswer, post, Ran, run}
+
+-- ---- whole lists of calls (89, 90): each call with its arguments and the trace room left
+
+pub data Call : Type 0 where
+  starts : ℕ → Call
+  posts : Name → Call
+  runs : ℕ → ℕ → Call
+
+-- what a call answers: the number of its answer or status, the rounds done, its trace entries, the state after it
+pub record Outcome : Type 0 where
+  pub number : ℕ
+  pub rounds : ℕ
+  pub trace : List ℕ
+  pub after : Follower
+
+unfoldable pub startedOutcome : Started → Outcome
+startedOutcome r = record { number = answerNo (r .answer); rounds = 0; trace = map traceNo (r .effects); after = r .follower }
+
+unfoldable pub ranOutcome : Ran → Outcome
+ranOutcome r = record { number = statusNo (r .status); rounds = r .rounds; trace = map traceNo (r .effects); after = r .follower }
+
+unfoldable pub follow : Chart → NameTable → Follower → Call → Outcome
+follow c names s (starts room) = startedOutcome (start c names room)
+follow c names s (posts name) = record { number = answerNo (postAnswer s name); rounds = 0; trace = []; after = post s name }
+follow c names s (runs k room) = ranOutcome (run c names k s room)
+
+unfoldable pub followAll : Chart → NameTable → Follower → List Call → List Outcome
+followAll c names s [] = []
+followAll c names s (x ∷ xs) = follow c names s x ∷ followAll c names ((follow c names s x) .after) xs
