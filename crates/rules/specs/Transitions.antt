@@ -1,15 +1,15 @@
 -- Rule 5: the source, use and condition of a transition, as they were read.
-use mathlib.Core.Path.{_≡_, refl, sym}
+use mathlib.Core.Path.{_≡_, refl, sym, _∙_}
 use mathlib.Core.Bool.{Bool, true, false, not, _&&_, _||_}
 use mathlib.Core.List.{List}
 use Prim.Native.Nat.{ℕ, zero, suc, _-_}
 use native.Mathlib.Omega.{arith}
 use lib.Dec.{leb}
 use lib.ListN.{length}
-use Rattle.definition.specs.Rows.{isEmpty}
+use Rattle.definition.specs.Rows.{isEmpty, mem}
 use Rattle.definition.specs.Chart.{isState, isParallel, isFinal}
 use Rattle.definition.specs.Tables.{kindAt, sourceAt, eventsAt, targetsAt, conditionAt, transitionAt, chartOf}
-use Rattle.definition.specs.Rules.{isInOrder, isEmptyOption, hasUse, conditionFits}
+use Rattle.definition.specs.Rules.{isInOrder, isEmptyOption, hasUse, conditionFits, spins}
 use Rattle.numbers.specs.declared.Row.{Row}
 use Rattle.tables.specs.declared.Condition.{Condition}
 use Rattle.tables.specs.declared.Condition.the-variants.{Always, In}
@@ -50,6 +50,25 @@ module _ (numbers : List ℕ) (t : ℕ) where
       pub use-condition : (k : Condition) (r : Row) → length m ≡ 0 → ConditionIn numbers t k → k ≡ In r → true ≡ hasUse (transitionAt numbers t)
       unfolding hasUse isEmptyOption
       use-condition k r n c a = sym (rw (read-none (eventsAt numbers t) l e h, read-none (targetsAt numbers t) m f n, ← c .is, a))
+
+  module _ (l : List ℕ) (e : l ≡ eventsAt numbers t) where
+    pub spins-events : (length l ≡ 0 → ⊥) → false ≡ spins (transitionAt numbers t)
+    unfolding spins
+    spins-events h = sym (rw (read-some (eventsAt numbers t) l e h))
+
+    module _ (h : length l ≡ 0) (m : List ℕ) (f : m ≡ targetsAt numbers t) where
+      pub spins-nowhere : length m ≡ 0 → true ≡ spins (transitionAt numbers t)
+      unfolding spins
+      spins-nowhere n = sym (rw (read-none (eventsAt numbers t) l e h, read-none (targetsAt numbers t) m f n))
+
+      module _ (n : length m ≡ 0 → ⊥) (k : Condition) (c : ConditionIn numbers t k) where
+        pub spins-condition : (r : Row) → k ≡ In r → false ≡ spins (transitionAt numbers t)
+        unfolding spins isEmptyOption
+        spins-condition r a = sym (rw (read-none (eventsAt numbers t) l e h, read-some (targetsAt numbers t) m f n, ← c .is, a))
+
+        pub spins-source : (s : ℕ) (b : Bool) → k ≡ Always → s ≡ sourceAt numbers t → b ≡ mem s m → b ≡ spins (transitionAt numbers t)
+        unfolding spins isEmptyOption
+        spins-source s b a p q = q ∙ sym (rw (read-none (eventsAt numbers t) l e h, read-some (targetsAt numbers t) m f n, ← c .is, a, ← p, ← f))
 
   module _ (k : Condition) (c : ConditionIn numbers t k) where
     pub condition-none : k ≡ Always → true ≡ conditionFits (chartOf numbers) (conditionAt numbers t)

@@ -1,11 +1,11 @@
 // Whether a lent chart is well formed: rules 4 and 5, and the verdict over all five.
 ghost use mathlib.Core.Path.{_≡_};
 ghost use mathlib.Core.Bool.{true};
-ghost use Rattle.definition.specs.Rows.{all, from};
+ghost use Rattle.definition.specs.Rows.{all, from, mem};
 ghost use Rattle.definition.specs.Chart.{isHistory};
 ghost use Rattle.definition.specs.Tables.{rowCount, transitionCount, kindAt, sourceAt, conditionAt, transitionAt, chartOf};
 ghost use Rattle.definition.specs.Tree.{isDescendant, isChild, isDomainKind, anchor};
-ghost use Rattle.definition.specs.Rules.{isApart, areApart, initialFits, defaultFits, listFits, blocksFit, rowListsFit, isNoRoot, targetsFit, rule4, isInOrder, isSourceKind, hasUse, conditionFits, transitionFits, rule5, verdict, keepsRules};
+ghost use Rattle.definition.specs.Rules.{isApart, areApart, initialFits, defaultFits, listFits, blocksFit, rowListsFit, isNoRoot, targetsFit, rule4, isInOrder, isSourceKind, hasUse, conditionFits, spins, transitionFits, rule5, verdict, keepsRules};
 ghost use Rattle.rowset.specs.Member.{rowsOf};
 ghost use Rattle.tables.specs.Ranges.{InTables, RowIn, TransitionIn, RowsIn};
 ghost use Rattle.tables.specs.Parts.{RowOf};
@@ -338,6 +338,39 @@ fn condition_fits(numbers: &[u64], t: Transition) -> bool
     }
 }
 
+// Whether row r is in the list.
+fn has_row(list: &[u64], r: Row) -> bool
+    ensures { λ b. ⌜ b ≡ mem (r .0) (now (list .entry)) ⌝ }
+{
+    let mut k = 0;
+    while k < list.len() {
+        if r.0 as u64 == list[k] {
+            return true;
+        }
+        k += 1;
+    }
+    false
+}
+
+// Whether a transition is eventless and either has no targets, or has no condition and its own source among them.
+fn spins(numbers: &[u64], t: Transition) -> bool
+    requires { ⌜ TransitionIn (now numbers) (t .0) ⌝ }
+    ensures { λ b. ⌜ b ≡ spins (transitionAt (now (numbers .entry)) (t .0)) ⌝ }
+{
+    let descriptors = tables::descriptors_of(numbers, t);
+    if descriptors.len() != 0 {
+        return false;
+    }
+    let targets = tables::targets_of(numbers, t);
+    if targets.len() == 0 {
+        return true;
+    }
+    match tables::condition_of(numbers, t) {
+        Condition::Always => has_row(targets, tables::source_of(numbers, t)),
+        Condition::In(_) => false,
+    }
+}
+
 fn transition_fits(numbers: &[u64], t: Transition) -> bool
     requires { ⌜ TransitionIn (now numbers) (t .0) ⌝ }
     ensures { λ b. ⌜ b ≡ transitionFits (chartOf (now (numbers .entry))) (t .0) ⌝ }
@@ -346,6 +379,7 @@ fn transition_fits(numbers: &[u64], t: Transition) -> bool
         & has_source(numbers, t)
         & has_use(numbers, t)
         & condition_fits(numbers, t)
+        & !spins(numbers, t)
 }
 
 fn keeps_transitions(numbers: &[u64]) -> bool

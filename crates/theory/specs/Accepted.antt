@@ -15,7 +15,7 @@ use Rattle.definition.specs.Rows.{those, mem, isIn, all, isEmpty, firstOf, inte
 use Rattle.definition.specs.Chart.{Chart, kind, parent, isRoot, isState, isShallow, isHistory}
 use Rattle.definition.specs.Tables.{mostRows, mostTransitions, mostNames, mostTargets, rowCount, transitionCount, referenceCount, nameCount, rowCell, transitionCell, referenceCell, referenceBase, part, referencesAt, kindAt, parentAt, listAt, sourceAt, targetsAt, chartOf}
 use Rattle.definition.specs.Tree.{isDescendant, isChild, descendants, children, isCompound, isAtomic, isDomainKind, listed, defaultTargets, anchor}
-use Rattle.definition.specs.Rules.{inside, each, countsFit, sizesFit, rowInRange, transitionInRange, referenceInRange, compiledSize, rule1, rule2, rule3, rule4, rule5, firstBroken, verdict, keepsRules, needsChild, areApart, initialFits, defaultFits, listFits, blocksFit, rowListsFit, isNoRoot, targetsFit, isInOrder, isSourceKind, hasUse, conditionFits, transitionFits}
+use Rattle.definition.specs.Rules.{inside, each, countsFit, sizesFit, rowInRange, transitionInRange, referenceInRange, compiledSize, rule1, rule2, rule3, rule4, rule5, firstBroken, verdict, keepsRules, needsChild, areApart, initialFits, defaultFits, listFits, blocksFit, rowListsFit, isNoRoot, targetsFit, isInOrder, isSourceKind, hasUse, conditionFits, spins, transitionFits}
 use Rattle.definition.specs.Selection.{History, atomicStates, orDefault, standIns}
 use Rattle.definition.specs.Microstep.{wouldStore}
 use Rattle.laws.specs.Bools.{no, and3, and4, clash, or-elim, bool-case, and-left, and-right, and-true, and7}
@@ -237,7 +237,16 @@ module _ (c : Chart) (g : Sound c) where
   unfolding rule5 transitionFits
   transition5 t l =
       and4 (isInOrder c t) (isSourceKind (kind c ((c .transition) t .source))) (hasUse ((c .transition) t)) (conditionFits c ((c .transition) t .condition))
-      (each-below (transitionFits c) (c .transitions) (g .transitionRule) t l)
+      (and-left (isInOrder c t && isSourceKind (kind c ((c .transition) t .source)) && hasUse ((c .transition) t) && conditionFits c ((c .transition) t .condition)) _
+      (each-below (transitionFits c) (c .transitions) (g .transitionRule) t l))
+
+  -- no transition spins
+  pub not-spins : (t : ℕ) → t < c .transitions → spins ((c .transition) t) ≡ false
+  unfolding rule5 transitionFits
+  not-spins t l =
+      not-true _
+      (and-right (isInOrder c t && isSourceKind (kind c ((c .transition) t .source)) && hasUse ((c .transition) t) && conditionFits c ((c .transition) t .condition)) _
+      (each-below (transitionFits c) (c .transitions) (g .transitionRule) t l))
 
   pub sources-in-order : (t : ℕ) → t < c .transitions → isInOrder c t ≡ true
   sources-in-order t l = transition5 t l .0

@@ -15,9 +15,12 @@ has-use-requires c κs = search needs
 condition-fits-requires : tie.Need-condition-fits-requires
 condition-fits-requires c κs = search needs
 
+spins-requires : tie.Need-spins-requires
+spins-requires c κs = search needs
+
 returns : tie.Need-returns
 unfolding transitionFits
-returns c = rw (c .condition-fits .ensures, c .before .has-use .ensures, c .before .before .has-source .ensures, c .before .before .before .is-in-order .ensures)
+returns c = rw (c .spins .ensures, c .before .condition-fits .ensures, c .before .before .has-use .ensures, c .before .before .before .has-source .ensures, c .before .before .before .before .is-in-order .ensures)
 
 pub transition-fits-spec : {M : Type 1} → statement M
 transition-fits-spec =
@@ -27,4 +30,5 @@ transition-fits-spec =
     has-source-requires
     has-use-requires
     condition-fits-requires
+    spins-requires
     returns)
