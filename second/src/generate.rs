@@ -388,7 +388,12 @@ impl Generator {
         let descriptors = if eventless { Vec::new() } else { self.descriptors(tree, source) };
         let conditioned = if eventless { !free } else { self.random.chance(15) };
         let no_targets = self.random.chance(if eventless { 3 } else { 10 });
-        let targets = if no_targets && !free { Vec::new() } else { self.targets(tree, source) };
+        let targets = if no_targets && !eventless { Vec::new() } else { self.targets(tree, source) };
+        let descriptors = match eventless && targets.is_empty() {
+            true => self.descriptors(tree, source),
+            false => descriptors,
+        };
+        let conditioned = conditioned || (descriptors.is_empty() && targets.contains(&source));
         Transition {
             source,
             descriptors,

@@ -251,6 +251,14 @@ fn default_list_is_good(chart: &Chart, tree: &Tree, history: RowNumber) -> bool 
 
 // Rule 5
 
+/// "an eventless transition that has no targets, and an eventless one without condition whose
+/// target list holds its own source" (R-7).
+fn spins(transition: &crate::tables::Transition) -> bool {
+    transition.descriptors.is_empty()
+        && (transition.targets.is_empty()
+            || (transition.condition.is_none() && transition.targets.contains(&transition.source)))
+}
+
 /// "no source number is below the one before it; the source is a state or parallel; at least one
 /// of descriptor, condition, target is there; In names a state, parallel or final."
 fn transitions_are_good(chart: &Chart, tree: &Tree) -> bool {
@@ -261,6 +269,7 @@ fn transitions_are_good(chart: &Chart, tree: &Tree) -> bool {
                 && !(transition.descriptors.is_empty()
                     && transition.condition.is_none()
                     && transition.targets.is_empty())
+                && !spins(transition)
                 && transition.condition.is_none_or(|row| tree.is_real_state(row))
         })
 }
