@@ -1,9 +1,9 @@
 // The limits of rule 1, as the definition has them.
-pub const MOST_ROWS: u64 = 64;
+pub const MOST_ROWS: u64 = 256;
 
-pub const MOST_TRANSITIONS: u64 = 128;
+pub const MOST_TRANSITIONS: u64 = 512;
 
-pub const MOST_NAMES: u64 = 192;
+pub const MOST_NAMES: u64 = 768;
 
 pub const MOST_DESCRIPTORS: u64 = 4;
 
