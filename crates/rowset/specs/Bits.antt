@@ -197,6 +197,15 @@ low-from w k r t e l m u at = record {
       ap (bit w) (sym s) ∙ sym (bit-shr w k (j - k)) ∙ trailing-below 64 (w / 2 ^ k) (j - k) (omega arith);
 }
 
+-- a word of no bits
+pub none-set : (w k : ℕ) → w ≡ 0 → k < 64 → LowFrom w k 64
+none-set w k e h = record {
+  most = omega arith;
+  least = omega arith;
+  set = λ l. absurd (omega arith);
+  clear = λ j a b. ap (λ (x : ℕ). bit x j) e ∙ bit-zero j;
+}
+
 -- ---- the highest set bit
 
 pub leading-small : (v : ℕ) → 0 < v → v < 2 ^ 64 → leadingZeros 64 v ≤ 63

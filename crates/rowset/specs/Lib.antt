@@ -4,3 +4,4 @@ pub mod Words
 pub mod Rows
 pub mod Search
 pub mod Visits
+pub mod Setting

@@ -85,10 +85,41 @@ impl RowSet {
         (w >> (k % 64)) % 2 == 1
     }
 
+    // One word changes: the word is chosen by branches, and no other is touched.
     pub fn with(self, r: Row) -> RowSet
         ensures { λ s. ⌜ rowsOf s ≡ insert (r .0) (rowsOf self) ⌝ }
     {
-        self.union(RowSet::single(r))
+        let k = r.0;
+        if k < 64 {
+            return RowSet {
+                w0: self.w0 | (1u64 << k),
+                w1: self.w1,
+                w2: self.w2,
+                w3: self.w3,
+            };
+        }
+        if k < 128 {
+            return RowSet {
+                w0: self.w0,
+                w1: self.w1 | (1u64 << (k - 64)),
+                w2: self.w2,
+                w3: self.w3,
+            };
+        }
+        if k < 192 {
+            return RowSet {
+                w0: self.w0,
+                w1: self.w1,
+                w2: self.w2 | (1u64 << (k - 128)),
+                w3: self.w3,
+            };
+        }
+        RowSet {
+            w0: self.w0,
+            w1: self.w1,
+            w2: self.w2,
+            w3: self.w3 | (1u64 << (k - 192)),
+        }
     }
 
     pub fn without(self, r: Row) -> RowSet
@@ -259,11 +290,14 @@ fn ones_below(k: u16) -> u64
     18446744073709551615
 }
 
-// The lowest set bit of w at or above k, and 64 where there is none.
+// The lowest set bit of w at or above k, and 64 where there is none. Most words of a set are empty: these are told first.
 fn low_from(w: u64, k: u16) -> u16
     requires { ⌜ k < 64 ⌝ }
     ensures { λ r. ⌜ LowFrom w k r ⌝ }
 {
+    if w == 0 {
+        return 64;
+    }
     let t = u64::trailing_zeros(w >> k) as u16;
     if k + t < 64 {
         return k + t;
