@@ -1,23 +1,28 @@
 -- The entry set's targets: paths, effective targets and fallen histories hang on the members and on what is stored for the targets alone.
 use mathlib.Core.Path.{_≡_, refl, ap, sym, _∙_}
-use mathlib.Core.Bool.{Bool, true, false, _&&_, cond}
+use mathlib.Core.Bool.{Bool, true, false, not, _&&_, _||_, cond}
 use mathlib.Core.List.{List, [], _∷_}
-use Prim.Native.Nat.{ℕ, _<_}
-use Rattle.definition.specs.Rows.{fold, keep, any, mem, isEmpty, insert, union}
-use Rattle.definition.specs.Chart.{Chart, Transition, kind, isHistory}
-use Rattle.definition.specs.Tree.{ancestors, descendants, listed, defaultTargets, anchors}
+use Prim.Native.Nat.{ℕ, zero, suc, _<_, _≤_}
+use native.Mathlib.Omega.{arith}
+use borrow.Author.Tests.{eqb-true, eq-eqb}
+use lib.Dec.{eqb}
+use lib.ListN.{length, getD}
+use Rattle.definition.specs.Rows.{fold, keep, any, mem, isEmpty, insert, union, with}
+use Rattle.definition.specs.Chart.{Chart, Transition, kind, parent, isRoot, isHistory}
+use Rattle.definition.specs.Tree.{ancestors, isDescendant, descendants, listed, defaultTargets, anchor, anchors}
 use Rattle.definition.specs.Selection.{History, orDefault, standIns, addStandIns, effectiveTargets, domain}
 use Rattle.definition.specs.Microstep.{addPath, pathsBelow, addTargets, targeted, fellToDefault, addFallen, fallen}
-use Rattle.laws.specs.Bools.{no, not-so, or-left, or-right}
+use Rattle.laws.specs.Bools.{no, clash, not-so, or-left, or-right, or-elim, or-false, and-left, and-right, and-true, both-ways}
 use Rattle.laws.specs.Sets.{Ascends, ascends-ext, ascends-insert, mem-union, mem-one, union-set}
 use Rattle.laws.specs.Lists.{keep-cong}
 use Rattle.laws.specs.Folds.{fold-same, fold-kept, any-same}
-use Rattle.theory.specs.Accepted.{Sound}
+use Rattle.theory.specs.Accepted.{Sound, mem-descendants, descendants-mem, target-not-root}
+use Rattle.theory.specs.Tree.{root-kind, low, ancestors-on, ancestor-low}
 use Rattle.theory.specs.Domain.{effective-of}
 use Rattle.theory.specs.Entry.{isOnPath, mem-paths, ascends-paths}
-use Rattle.chart.specs.Inside.{default-inside}
+use Rattle.chart.specs.Inside.{default-inside, anchors-inside}
 use Rattle.matching.specs.Chosen.{Within}
-use Rattle.selection.specs.FixedDomains.{isHistoryRow, FixedDomain, none-history, anchors-stand, fixed-targets, fixed-is-domain}
+use Rattle.selection.specs.FixedDomains.{hasFixedTargets, isHistoryRow, FixedDomain, none-history, anchors-stand, fixed-targets, fixed-is-domain}
 
 -- the order of the list does not matter
 pub paths-same : (c : Chart) (d : ℕ) (xs ys : List ℕ) → ((a : ℕ) → mem a xs ≡ mem a ys) → pathsBelow c d xs ≡ pathsBelow c d ys
@@ -100,6 +105,74 @@ module _ (c : Chart) (before after : History) (set : List ℕ) (t d : ℕ) (r : 
   pub fixed-aim : (to paths all : List ℕ) → to ≡ anchors c t → paths ≡ pathsBelow c d to → all ≡ union set paths → all ≡ addTargets c before after set t
   unfolding addTargets
   fixed-aim to paths all e f h = h ∙ ap (union set) (f ∙ ap (pathsBelow c d) (fixed-anchors to e) ∙ ap (λ (a : ℕ). pathsBelow c a (effectiveTargets c after ((c .transition) t))) (fixed-is-domain c before t d r known))
+
+-- ---- a transition whose only target is a child of its domain aims at that child alone
+
+module _ (c : Chart) (g : Sound c) (t x d : ℕ) (l : t < c .transitions) (p : hasFixedTargets c t ≡ true) (e : (c .transition) t .targets ≡ x ∷ []) (q : parent c x ≡ d) where
+  among : mem x ((c .transition) t .targets) ≡ true
+  unfolding mem
+  among = rw (e, eq-eqb x x refl)
+
+  plain : isHistory (kind c x) ≡ false
+  unfolding any isHistoryRow
+  plain = not-so (isHistory (kind c x)) (λ h. no (sym (none-history c (λ i. []) t p) ∙ rw (e, h)))
+
+  later : d < x
+  later = go x (target-not-root c g t l x among) q
+    where
+      go : (y : ℕ) → isRoot (kind c y) ≡ false → parent c y ≡ d → d < y
+      go zero h r = absurd (clash _ (root-kind c (g .tree)) h)
+      go (suc i) h r = let k = low c (g .tree) i in omega arith
+
+  only-anchor : anchors c t ≡ x ∷ []
+  unfolding anchors union fold with insert anchor
+  only-anchor = rw (e, plain)
+
+  above : ancestors c x ≡ d ∷ ancestors c d
+  above = ancestors-on c x (let k = later in omega arith) ∙ rw q
+
+  -- what is on the way to the child and below the domain
+  on-way : (j : ℕ) → (eqb j x || mem j (ancestors c x)) ≡ true → mem j (descendants c d) ≡ true → eqb j x ≡ true
+  unfolding isDescendant mem
+  on-way j m n =
+      or-elim (eqb j x) (mem j (ancestors c x)) (λ h. h) (λ h. absurd (not-above (rw above at h))) m
+    where
+      under : d < j
+      under = ancestor-low c j d (and-right (not (isHistory (kind c j))) _ (mem-descendants c d j n .1))
+
+      not-above : mem j (d ∷ ancestors c d) ≡ true → ⊥
+      not-above h = or-elim (eqb j d) (mem j (ancestors c d)) (λ r. let s = eqb-true j d r in let u = under in omega arith) (λ r. let s = ancestor-low c d j r in let u = under in omega arith) h
+
+  child-below : mem x (descendants c d) ≡ true
+  unfolding isDescendant mem
+  child-below = descendants-mem c d x (g .targetInside t l x among) (rw (plain, above, eq-eqb d d refl))
+
+  child-alone : x ∷ [] ≡ pathsBelow c d (anchors c t)
+  unfolding any mem
+  child-alone =
+      sym (ap (pathsBelow c d) only-anchor ∙
+      ascends-ext 0 0 (pathsBelow c d (x ∷ [])) (x ∷ []) (ascends-paths c d (x ∷ [])) (omega arith, tt)
+      (λ j. mem-paths c d (x ∷ []) j ∙ same-members j))
+    where
+      same-members : (j : ℕ) → (any (isOnPath c j) (x ∷ []) && mem j (descendants c d)) ≡ mem j (x ∷ [])
+      same-members j =
+          rw (or-false (eqb j x || mem j (ancestors c x)), or-false (eqb j x))
+          (both-ways ((eqb j x || mem j (ancestors c x)) && mem j (descendants c d)) (eqb j x)
+          (λ h. on-way j (and-left _ _ h) (and-right (eqb j x || mem j (ancestors c x)) _ h))
+          (λ h. and-true (eqb j x || mem j (ancestors c x)) (mem j (descendants c d)) (or-left (eqb j x) _ h) (rw (eqb-true j x h) child-below)))
+
+only-one : (l : List ℕ) (x : ℕ) → length l ≡ 1 → x ≡ getD l 0 0 → l ≡ x ∷ []
+only-one [] x h e = absurd (omega arith)
+only-one (y ∷ []) x h e = ap (λ (z : ℕ). z ∷ []) (sym e)
+only-one (y ∷ z ∷ l) x h e = absurd (omega arith)
+
+-- as the code finds it: a list of one target, and its parent
+pub child-aim : (c : Chart) → Sound c → (t x d : ℕ) → t < c .transitions → hasFixedTargets c t ≡ true → (targets : List ℕ) → targets ≡ (c .transition) t .targets →
+    length targets ≡ 1 → x ≡ getD targets 0 0 → (p : ℕ) → p ≡ parent c x → p ≡ d → (set : List ℕ) → set ≡ x ∷ [] → set ≡ pathsBelow c d (anchors c t)
+child-aim c g t x d l h targets e n v p q r set s = s ∙ child-alone c g t x d l h (sym e ∙ only-one targets x n v) (sym q ∙ r)
+
+pub anchors-within : (c : Chart) → Sound c → (t : ℕ) → t < c .transitions → (to : List ℕ) → to ≡ anchors c t → Within (c .rows) to
+anchors-within c g t l to e = record { at = λ a m. anchors-inside c g t l a (sym (ap (mem a) e) ∙ m) }
 
 -- ---- what is aimed at lies inside the chart
 

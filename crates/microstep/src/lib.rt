@@ -6,15 +6,15 @@ ghost use Prim.Native.Nat.{_+_, _<_, _≤_};
 ghost use lib.ListN.{length};
 ghost use Rattle.definition.specs.Rows.{mem, union};
 ghost use Rattle.definition.specs.Tables.{rowCount, transitionCount, transitionAt, chartOf};
-ghost use Rattle.definition.specs.Tree.{defaultTargets};
+ghost use Rattle.definition.specs.Tree.{defaultTargets, anchors};
 ghost use Rattle.definition.specs.Selection.{effectiveTargets};
 ghost use Rattle.definition.specs.Microstep.{exits, exiting, wouldStore, stored, addPath, pathsBelow, addTargets, targeted, complete, entrySet, addFallen, fallen, entering};
 ghost use Rattle.definition.specs.Follower.{firstEntry};
 ghost use Rattle.rowset.specs.Member.{rowsOf};
-ghost use Rattle.chart.specs.Ready.{Ready, RowReady};
+ghost use Rattle.chart.specs.Ready.{Ready, RowReady, TransitionReady};
 ghost use Rattle.matching.specs.Chosen.{Within, Taken};
 ghost use Rattle.selection.specs.History.{storedAt};
-ghost use Rattle.selection.specs.FixedDomains.{DomainsFixed};
+ghost use Rattle.selection.specs.FixedDomains.{hasFixedTargets, DomainsFixed};
 ghost use Rattle.effects.specs.Trace.{Wrote};
 ghost use Rattle.effects.specs.Entering.{HistoryRow};
 ghost use Rattle.microstep.specs.Stored.{StoreReady, RoundReady, TakenReady, StoredIs};
@@ -48,6 +48,7 @@ use tables::is_history;
 use tables::is_parallel;
 use tables::is_shallow;
 use tables::kind_of;
+use tables::parent_of;
 use tables::row_at;
 use tables::row_count;
 use tables::targets_of;
@@ -266,6 +267,21 @@ fn add_targets(
     set.union(paths_below(chart, d, to))
 }
 
+// What a transition whose domain is fixed aims at: its anchors and their ancestors below the domain. Where its only target is a child of the domain, that is all.
+fn fixed_aim(chart: &[u64], d: Row, t: Transition) -> RowSet
+    requires { ⌜ TransitionReady (now chart) (t .0) × RowReady (now chart) (d .0) × (hasFixedTargets (chartOf (now chart)) (t .0) ≡ true) ⌝ }
+    ensures { λ s. ⌜ rowsOf s ≡ pathsBelow (chartOf (now (chart .entry))) (d .0) (anchors (chartOf (now (chart .entry))) (t .0)) ⌝ }
+{
+    let targets = targets_of(chart, t);
+    if targets.len() == 1 {
+        let x = row_at(chart, targets, 0);
+        if parent_of(chart, x) == d.0 as u64 {
+            return RowSet::single(x);
+        }
+    }
+    paths_below(chart, d, anchors_of(chart, t))
+}
+
 // The same; a transition whose domain is fixed aims at its anchors whatever is stored.
 fn add_targets_by(
     chart: &[u64],
@@ -283,7 +299,7 @@ fn add_targets_by(
     let at = t.0 as usize;
     let fixed = domains[at];
     if fixed < NO_DOMAIN {
-        return set.union(paths_below(chart, Row(fixed as u8), anchors_of(chart, t)));
+        return set.union(fixed_aim(chart, Row(fixed as u8), t));
     }
     add_targets(chart, atoms, conf, history, out, set, t)
 }

@@ -1,9 +1,9 @@
 use borrow.Author.Needs.{needs}
+use mathlib.Core.Path.{refl}
 use mathlib.Core.List.{[]}
 use native.Mathlib.Omega.{arith}
-use Rattle.microstep.specs.Stored.{stored-within}
-use Rattle.microstep.specs.Targets.{effective-within, fixed-anchors, fixed-aim}
-use Rattle.selection.specs.History.{storedAt}
+use Rattle.microstep.specs.Targets.{fixed-aim}
+use Rattle.selection.specs.FixedDomains.{fixed-targets}
 use Rattle.microstep.proofs.add_targets_by.Statement.{statement}
 use Rattle.microstep.proofs.add_targets_by.Tie as tie
 
@@ -19,20 +19,18 @@ shared-slice-read-fixed c = let s = c .before .before .before .before .before .p
 cast-t16 : tie.Need-cast-t16
 cast-t16 c = search needs
 
-anchors-of-requires : tie.Need-anchors-of-requires
-anchors-of-requires c κs = record { ready = c .before .before .before .before .before .before .pre .1 .round .store .ready; inside = c .before .before .before .before .before .before .pre .1 .inside }
-
-paths-below-requires : tie.Need-paths-below-requires
-paths-below-requires c κs = (
-  record { ready = c .before .before .before .before .before .before .before .pre .1 .round .store .ready; inside = c .before .before .before .before .before .before .before .pre .0 .at _ (c .before .before .before .before .before .before .before .pre .1 .inside) .row (c .before .if1 .taken) },
-  effective-within _ (c .before .before .before .before .before .before .before .pre .1 .round .store .ready .sound) _ (stored-within _ _ _ _ (c .before .before .before .before .before .before .before .args .out) (c .before .before .before .before .before .before .before .pre .1 .round)) _ (c .before .before .before .before .before .before .before .pre .1 .inside) _ (fixed-anchors _ (storedAt (c .before .before .before .before .before .before .before .args .history .now)) _ [] _ _ (c .before .before .before .before .before .before .before .pre .0 .at _ (c .before .before .before .before .before .before .before .pre .1 .inside)) (c .before .if1 .taken) _ (c .anchors-of .ensures)),
-)
+fixed-aim-requires : tie.Need-fixed-aim-requires
+fixed-aim-requires c κs =
+    let pre = c .before .before .before .before .before .before .pre in
+    let ready = pre .1 .round .store .ready in
+    let at = pre .0 .at _ (pre .1 .inside) in
+    (record { ready = ready; inside = pre .1 .inside }, record { ready = ready; inside = at .row (c .if1 .taken) }, fixed-targets _ (λ i. []) _ _ at (c .if1 .taken))
 
 union-requires : tie.Need-union-requires
 union-requires c κs = search needs
 
 returns : tie.Need-returns
-returns c = fixed-aim _ _ _ _ _ _ (c .before .before .before .before .before .before .before .before .before .pre .0 .at _ (c .before .before .before .before .before .before .before .before .before .pre .1 .inside)) (c .before .before .before .if1 .taken) _ _ _ (c .before .before .anchors-of .ensures) (c .before .paths-below .ensures) (c .union .ensures)
+returns c = let pre = c .before .before .before .before .before .before .before .before .pre in fixed-aim _ _ _ _ _ _ (pre .0 .at _ (pre .1 .inside)) (c .before .before .if1 .taken) _ _ _ refl (c .before .fixed-aim .ensures) (c .union .ensures)
 
 add-targets-requires : tie.Need-add-targets-requires
 add-targets-requires c κs = search needs
@@ -48,8 +46,7 @@ add-targets-by-spec =
     mul-fixed
     shared-slice-read-fixed
     cast-t16
-    anchors-of-requires
-    paths-below-requires
+    fixed-aim-requires
     union-requires
     returns
     add-targets-requires
