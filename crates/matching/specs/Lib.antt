@@ -4,3 +4,4 @@ pub mod Climb
 pub mod Chosen
 pub mod Eventless
 pub mod Ready
+pub mod Seen

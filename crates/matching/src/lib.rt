@@ -1,6 +1,5 @@
 // Which transitions match an event, and which of them the active atomic states choose.
 ghost use mathlib.Core.Path.{_≡_};
-ghost use Prim.Native.Nat.{_<_};
 ghost use lib.ListN.{length};
 ghost use Rattle.definition.specs.Tables.{rowCount, transitionCount, eventsAt, nameAt, chartOf};
 ghost use Rattle.definition.specs.Selection.{matchesAt, isTriggered, isTrue, isMatch, choice, candidates};
@@ -13,7 +12,8 @@ ghost use Rattle.matching.specs.Sources.{startsBefore, Indexed};
 ghost use Rattle.matching.specs.Climb.{choiceOf};
 ghost use Rattle.matching.specs.Chosen.{Within, AreChosen, atomicRows};
 ghost use Rattle.matching.specs.Eventless.{addEventless, eventlessRows};
-ghost use Rattle.matching.specs.Ready.{TransitionWith, ClimbReady, Prepared, AddedOnce};
+ghost use Rattle.matching.specs.Ready.{TransitionWith, ClimbReady, Prepared};
+ghost use Rattle.matching.specs.Seen.{OnceReady, OnceDone};
 use numbers::NameNumber;
 use numbers::Row;
 use numbers::Transition;
@@ -169,23 +169,31 @@ pub fn atomic_rows(chart: &[u64]) -> RowSet
     set
 }
 
-// The first len items with the choice, unless it is there: how many they are then.
-fn add_once(items: &mut [u16], len: usize, choice: Choice) -> usize
-    requires { ⌜ len < length (now items) ⌝ }
-    ensures { λ n. ⌜ AddedOnce (now (items .entry)) len (choiceOf choice) (now (items .exit)) n ⌝ }
+// The first len items, and the sources of the transitions among them. Every climb finds the same first match of a row, so that a transition is among them exactly if its source is.
+struct Kept {
+    len: usize,
+    seen: RowSet,
+}
+
+// The kept items with the choice of row i, unless it is there.
+fn add_once(chart: &[u64], names: &[u8], conf: RowSet, event: &[u8], items: &mut [u16], kept: Kept, i: Row, choice: Choice) -> Kept
+    requires { ⌜ OnceReady (now chart) (now names) conf (now event) (now items) kept (i .0) choice ⌝ }
+    ensures { λ r. ⌜ OnceDone (now (chart .entry)) (now (names .entry)) conf (now (event .entry)) (now (items .entry)) kept choice (now (items .exit)) r ⌝ }
 {
     let Choice::Of(t) = choice else {
-        return len;
+        return kept;
     };
-    let mut i = 0;
-    while i < len {
-        if t.0 == items[i] {
-            return len;
-        }
-        i += 1;
+    let source = tables::source_of(chart, t);
+    let seen = kept.seen;
+    if seen.has(source) {
+        return kept;
     }
+    let len = kept.len;
     items[len] = t.0;
-    len + 1
+    Kept {
+        len: len + 1,
+        seen: seen.with(source),
+    }
 }
 
 // What each active atomic state chooses, in document order, each transition once, into the first of the lent items: how many they are.
@@ -202,14 +210,17 @@ pub fn candidates(
     ensures { λ n. ⌜ AreChosen (transitionCount (now (chart .entry))) (candidates (chartOf (now (chart .entry))) (nameAt (now (names .entry))) (rowsOf conf) (eventOf (now (event .entry)))) (now (items .exit)) n ⌝ }
 {
     let active = conf.intersection(atoms);
-    let mut len: usize = 0;
+    let mut kept = Kept {
+        len: 0,
+        seen: RowSet::empty(),
+    };
     let mut k: u16 = 0;
     loop {
         let Found::At(i) = active.next_from(k) else {
-            return len;
+            return kept.len;
         };
         let choice = choice_of(chart, names, starts, conf, event, i);
-        len = add_once(items, len, choice);
+        kept = add_once(chart, names, conf, event, items, kept, i, choice);
         k = i.0 as u16 + 1;
     }
 }

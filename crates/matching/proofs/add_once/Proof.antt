@@ -1,85 +1,81 @@
-use mathlib.Core.Path.{refl, ap}
-use Prim.Native.Nat.{_-_}
-use native.Mathlib.Omega.{arith}
-use lib.Dec.{eqb}
-use borrow.Author.Tests.{eq-eqb, ne-eqb}
 use borrow.Author.Needs.{needs}
-use Rattle.laws.specs.Loops.{failing-begin, failing-read-turn, failing-read-leave, failing-done, Failing}
+use mathlib.Core.Path.{_≡_, refl, sym, ap, subst, _∙_}
+use mathlib.Core.Bool.{true, false}
+use mathlib.Core.Logic.{⊎-elim}
+use Prim.Native.Nat.{ℕ, _+_, _-_, _≤_, _<_}
+use native.Mathlib.Omega.{arith}
+use lib.ListN.{length, getD}
 use Rattle.matching.specs.Climb.{choiceOf}
-use Rattle.matching.specs.Ready.{added-nothing, added-before, added-last}
-use Rattle.matching.specs.Chosen.{list-length, list-at, listOf}
+use Rattle.matching.specs.Seen.{once-nothing, once-inside, once-seen, once-fresh}
 use Rattle.matching.proofs.add_once.Statement.{statement}
 use Rattle.matching.proofs.add_once.Tie as tie
+use Rattle.matching.proofs.add_once.Reads as reads
+use Rattle.matching.proofs.add_once.Lts as lts
+use Rattle.rowset.proofs.RowSet.has.Reads as has-reads
+use Rattle.rowset.proofs.RowSet.with.Reads as with-reads
+use Rattle.tables.proofs.source_of.Reads as source-of-reads
 
-abbrev Inv-loop : tie.InvT-loop
-Inv-loop items len t i₀ i = Failing (eqb (t .0)) (listOf items len) len i
-
-abbrev μ-loop : tie.MeasureT-loop
-μ-loop items len t i₀ i = len - i
-
-enum-known-choice : tie.Need-enum-known-choice Inv-loop μ-loop
+-- src/lib.rt:183:20
+enum-known-choice : tie.Need-enum-known-choice
 enum-known-choice c = search needs
 
-enum-told : tie.Need-enum-told Inv-loop μ-loop
+-- src/lib.rt:184:9
+enum-told : tie.Need-enum-told
 enum-told c = search needs
 
-returns : tie.Need-returns Inv-loop μ-loop
-returns c = added-nothing _ _ _ (ap choiceOf (c .enum-told .given .1))
+-- src/lib.rt:184:9
+returns : tie.Need-returns
+returns c = once-nothing _ _ _ _ _ _ _ _ (c .before .before .before .before .before .before .pre) (ap choiceOf (c .enum-told .given .1))
 
-loop-holds : tie.Need-loop-holds Inv-loop μ-loop
-loop-holds c = failing-begin _ _ _ (list-length _ _ (omega arith))
+-- src/lib.rt:186:9
+source-of-requires : tie.Need-source-of-requires
+source-of-requires c κs = let pre = c .before .before .before .before .before .before .before .pre in record { tables = pre .compiled .ready .tables; below = once-inside _ _ _ _ _ _ _ _ pre _ (ap choiceOf (c .before .choice .given .1)) }
 
-mul-if1 : tie.Need-mul-if1 Inv-loop μ-loop
-mul-if1 c = search needs
+-- src/lib.rt:188:8
+has-requires : tie.Need-has-requires
+has-requires c κs = search needs
 
-slice-read-if1 : tie.Need-slice-read-if1 Inv-loop μ-loop
-slice-read-if1 c = search needs
+-- src/lib.rt:189:9
+returns-2 : tie.Need-returns-2
+returns-2 c = once-seen _ _ _ _ _ _ _ _ (c .before .before .before .before .before .before .before .before .before .before .before .pre) _ _ (ap choiceOf (c .before .before .before .before .before .choice .given .1)) (c .before .before .before .source-of .ensures .is) (sym (c .before .has .ensures) ∙ c .if1 .taken)
 
-returns-2 : tie.Need-returns-2 Inv-loop μ-loop
-returns-2 c = added-before _ _ _ _ (ap choiceOf (c .before .before .before .before .before .before .choice .given .1)) (failing-read-leave _ _ _ _ _ _ _ (c .before .before .before .before .loop .inv) (c .before .before .before .loop-test .taken) refl (list-at _ _ _ (c .before .before .before .loop-test .taken)) refl (eq-eqb _ _ (c .if1 .taken)))
-
-add-i : tie.Need-add-i Inv-loop μ-loop
-add-i c = search needs
-
-loop-less : tie.Need-loop-less Inv-loop μ-loop
-loop-less c = search needs
-
-loop-again : tie.Need-loop-again Inv-loop μ-loop
-loop-again c = failing-read-turn _ _ _ _ _ _ (c .before .before .before .before .loop .inv) (c .before .before .before .loop-test .taken) (list-at _ _ _ (c .before .before .before .loop-test .taken)) refl (ne-eqb _ _ (c .if1 .left))
-
-mul-items : tie.Need-mul-items Inv-loop μ-loop
+-- src/lib.rt:192:5
+mul-items : tie.Need-mul-items
 mul-items c = search needs
 
-slice-write-items : tie.Need-slice-write-items Inv-loop μ-loop
+-- src/lib.rt:192:5
+slice-write-items : tie.Need-slice-write-items
 slice-write-items c = search needs
 
-add-result : tie.Need-add-result Inv-loop μ-loop
-add-result c = search needs
+-- src/lib.rt:194:14
+add-t14 : tie.Need-add-t14
+add-t14 c = search needs
 
-same-length : tie.Need-same-length Inv-loop μ-loop
+-- src/lib.rt:195:15
+with-requires : tie.Need-with-requires
+with-requires c κs = search needs
+
+-- src/lib.rt:179:1
+same-length : tie.Need-same-length
 same-length c = search needs
 
-returns-3 : tie.Need-returns-3 Inv-loop μ-loop
-returns-3 c = added-last _ _ _ _ (ap choiceOf (c .before .before .before .choice .given .1)) (c .before .before .before .before .before .pre) (failing-done _ _ _ _ _ (c .before .loop .inv) (c .loop-test .left) refl)
+-- src/lib.rt:179:1
+returns-3 : tie.Need-returns-3
+returns-3 c = once-fresh _ _ _ _ _ _ _ _ (c .before .before .before .before .before .before .before .before .before .before .before .before .pre) _ _ _ (ap choiceOf (c .before .before .before .before .before .before .choice .given .1)) (c .before .before .before .before .source-of .ensures .is) (sym (c .before .before .has .ensures) ∙ c .before .if1 .left) (c .with .ensures)
 
 pub add-once-spec : {M : Type 1} → statement M
 add-once-spec =
     tie.close
     (tie.spec
-    Inv-loop
-    μ-loop
     enum-known-choice
     enum-told
     returns
-    loop-holds
-    mul-if1
-    slice-read-if1
+    source-of-requires
+    has-requires
     returns-2
-    add-i
-    loop-less
-    loop-again
     mul-items
     slice-write-items
-    add-result
+    add-t14
+    with-requires
     same-length
     returns-3)
