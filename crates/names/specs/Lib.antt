@@ -1,3 +1,4 @@
 pub mod Spelling
 pub mod Matching
 pub mod Slots
+pub mod Blank

@@ -194,18 +194,17 @@ pub fn slot_matches(slot: &[u8], event: &[u8]) -> bool
     matches(name_of(slot), event)
 }
 
-// Every byte is zero.
+// Every byte is zero. All are put together before any is judged: so many are read at a time as the machine takes.
 pub fn is_blank(s: &[u8]) -> bool
     ensures { λ r. ⌜ r ≡ all (eqb 0) (now (s .entry)) ⌝ }
 {
+    let mut any: u8 = 0;
     let mut i = 0;
     while i < s.len() {
-        if s[i] != 0 {
-            return false;
-        }
+        any = any | s[i];
         i += 1;
     }
-    true
+    any == 0
 }
 
 // Every byte from the first zero on is zero.

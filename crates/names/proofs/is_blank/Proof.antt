@@ -1,31 +1,27 @@
--- `is_blank`: as long as zeros were read, the rest decides.
+-- `is_blank`: what was put together is zero exactly if every byte was; the rest decides the rest.
 use borrow.Author.Needs.{needs}
-use mathlib.Core.Path.{refl, sym}
-use Prim.Native.Nat.{_-_}
+use mathlib.Core.Path.{_≡_, refl}
+use mathlib.Core.Bool.{_&&_}
+use Prim.Native.Nat.{_-_, _≤_}
 use native.Mathlib.Omega.{arith}
 use lib.Dec.{eqb}
-use lib.ListN.{length}
-use borrow.Author.Tests.{eq-eqb, ne-eqb}
-use Rattle.laws.specs.Loops.{Passing, passing-begin, passing-turn, passing-leave, passing-done}
+use lib.ListN.{length, drop}
+use Rattle.definition.specs.Rows.{all}
+use Rattle.names.specs.Blank.{blank-turn, blank-end}
 use Rattle.names.proofs.is_blank.Statement.{statement}
 use Rattle.names.proofs.is_blank.Tie as tie
 
 abbrev Inv-loop : tie.InvT-loop
-Inv-loop s i₀ i = Passing (eqb 0) s (length s) i
+Inv-loop s any₀ i₀ any i = (i ≤ length s) × (all (eqb 0) s ≡ (eqb any 0 && all (eqb 0) (drop i s)))
 
 abbrev μ-loop : tie.MeasureT-loop
-μ-loop s i₀ i = length s - i
+μ-loop s any₀ i₀ any i = length s - i
 
 loop-holds : tie.Need-loop-holds Inv-loop μ-loop
-loop-holds c = passing-begin _ _ _ refl
+loop-holds c = (omega arith, refl)
 
-shared-slice-read-if1 : tie.Need-shared-slice-read-if1 Inv-loop μ-loop
-shared-slice-read-if1 c = search needs
-
-returns : tie.Need-returns Inv-loop μ-loop
-returns c =
-    let l = c .before .before .before .loop in
-    passing-leave _ _ _ _ (l .i) (l .inv) (omega arith) refl (ne-eqb 0 _ (λ d. c .if1 .taken (sym d)))
+shared-slice-read-any : tie.Need-shared-slice-read-any Inv-loop μ-loop
+shared-slice-read-any c = search needs
 
 add-i : tie.Need-add-i Inv-loop μ-loop
 add-i c = search needs
@@ -34,25 +30,12 @@ loop-less : tie.Need-loop-less Inv-loop μ-loop
 loop-less c = search needs
 
 loop-again : tie.Need-loop-again Inv-loop μ-loop
-loop-again c =
-    let l = c .before .before .before .loop in
-    passing-turn _ _ _ (l .i) (l .inv) (omega arith) (eq-eqb 0 _ (sym (c .if1 .left)))
+loop-again c = let l = c .before .before .loop in (omega arith, blank-turn _ (l .any) (l .i) (c .before .loop-test .taken) (l .inv .1))
 
-returns-2 : tie.Need-returns-2 Inv-loop μ-loop
-returns-2 c =
-    let l = c .before .loop in
-    passing-done _ _ _ _ (l .i) (l .inv) (omega arith) refl
+returns : tie.Need-returns Inv-loop μ-loop
+returns c = let l = c .before .loop in blank-end _ (l .any) (l .i) (c .loop-test .left) (l .inv .1)
 
 pub is-blank-spec : {M : Type 1} → statement M
 is-blank-spec =
     tie.close
-    (tie.spec
-    Inv-loop
-    μ-loop
-    loop-holds
-    shared-slice-read-if1
-    returns
-    add-i
-    loop-less
-    loop-again
-    returns-2)
+    (tie.spec Inv-loop μ-loop loop-holds shared-slice-read-any add-i loop-less loop-again returns)
