@@ -67,7 +67,7 @@ module _ (numbers names : List ℕ) where
   unfolding idDiffers
   differs-self i = rw (eq-eqb i i refl) (or-left _ _ (or-right (eqb i 0) true refl))
 
-  differs-names : (i j : ℕ) → 0 < j → (i ≡ j → ⊥) → idDiffers numbers names i j ≡ not (same (nameOf i) (nameOf j))
+  pub differs-names : (i j : ℕ) → 0 < j → (i ≡ j → ⊥) → idDiffers numbers names i j ≡ not (same (nameOf i) (nameOf j))
   unfolding idDiffers
   differs-names i j l d = rw (ne-eqb j 0 (omega arith), ne-eqb i j d)
 

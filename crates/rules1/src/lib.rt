@@ -9,6 +9,7 @@ ghost use Rattle.definition.specs.Rules.{inside, optionalBelow, countsFit, size
 ghost use Rattle.tables.specs.Ranges.{Sized, InTables, RowIn, ActionIn, SlotsIn};
 ghost use Rattle.rules1.specs.Inside.{isShortList};
 ghost use Rattle.rules1.specs.Ids.{Slots, IdTurn, isIdOf, isNewId};
+ghost use Rattle.rules1.specs.Keys.{keyFrom, keyAt};
 use definition::Action;
 use numbers::NameNumber;
 use numbers::Row;
@@ -308,16 +309,64 @@ fn is_new_id(numbers: &[u64], names: &[u8], r: Row) -> bool
     true
 }
 
+const KEYS: usize = 4096;
+
+// Any function of the bytes serves: names of different keys differ.
+fn key_of(name: &[u8]) -> usize
+    ensures { λ k. ⌜ (k ≡ keyFrom 0 (now (name .entry))) × (k < 4096) ⌝ }
+{
+    let mut key = 0;
+    let mut i = 0;
+    while i < name.len() {
+        key = (key * 31 + name[i] as usize) % KEYS;
+        i += 1;
+    }
+    key
+}
+
+// The key of a row's id.
+fn row_key(numbers: &[u64], names: &[u8], r: Row) -> usize
+    requires { ⌜ Slots (now numbers) (now names) × (r .0 < rowCount (now numbers)) × (0 < r .0) × (isIdOf (now numbers) (now names) (r .0) ≡ true) ⌝ }
+    ensures { λ k. ⌜ (k ≡ keyAt (now (numbers .entry)) (now (names .entry)) (r .0)) × (k < 4096) ⌝ }
+{
+    key_of(names::name_of(tables::slot_of(names, tables::id_of(numbers, r))))
+}
+
+// Whether no row before it has the same id: none has the key, or each is asked.
+fn is_new_key(numbers: &[u64], names: &[u8], r: Row, taken: u8) -> bool
+    requires { ⌜ IdTurn (now numbers) (now names) (r .0) × (taken ≡ 0 → isNewId (now numbers) (now names) (r .0) ≡ true) ⌝ }
+    ensures { λ b. ⌜ b ≡ isNewId (now (numbers .entry)) (now (names .entry)) (r .0) ⌝ }
+{
+    if taken == 0 {
+        return true;
+    }
+    is_new_id(numbers, names, r)
+}
+
 fn ids_fit(numbers: &[u64], names: &[u8]) -> bool
     requires { ⌜ Slots (now numbers) (now names) ⌝ }
     ensures { λ b. ⌜ b ≡ all (idFits (now (numbers .entry)) (now (names .entry))) (from (rowCount (now (numbers .entry))) 0) ⌝ }
 {
     let n = tables::row_count(numbers);
-    let mut i = 0;
+    if n == 0 {
+        return true;
+    }
+    if !is_new_id(numbers, names, Row(0)) {
+        return false;
+    }
+    let mut seen = [0u8; 4096];
+    let mut i = 1;
     while i < n {
-        if !is_new_id(numbers, names, Row(i as u8)) {
+        let r = Row(i as u8);
+        if !is_id_of(numbers, names, r) {
             return false;
         }
+        let key = row_key(numbers, names, r);
+        let taken = seen[key];
+        if !is_new_key(numbers, names, r, taken) {
+            return false;
+        }
+        seen[key] = 1;
         i += 1;
     }
     true

@@ -1,45 +1,71 @@
 use borrow.Author.Needs.{needs}
-use mathlib.Core.Path.{_≡_}
+use mathlib.Core.Path.{_≡_, refl, sym}
 use mathlib.Core.Bool.{true}
-use Prim.Native.Nat.{_-_, _≤_}
+use Prim.Native.Nat.{_-_, _≤_, _<_}
+use native.Mathlib.Omega.{arith}
 use Rattle.definition.specs.Rows.{all, from}
-use Rattle.laws.specs.Loops.{below-laws, said-laws}
-use Rattle.rules1.specs.Ids.{isNewId, id-turn, ids-leave, ids-done}
+use Rattle.laws.specs.Loops.{all-begin, all-turn, said-not-yes, said-not-no}
+use Rattle.rules1.specs.Ids.{isNewId, id-turn, ids-leave, ids-done, new-no}
+use Rattle.rules1.specs.Keys.{Seen, seen-begin, seen-turn, key-free}
 use Rattle.rules1.proofs.ids_fit.Statement.{statement}
 use Rattle.rules1.proofs.ids_fit.Tie as tie
 
 abbrev Inv-loop : tie.InvT-loop
-Inv-loop numbers names n i₀ i = (i ≤ n) × (all (isNewId numbers names) (from i 0) ≡ true)
+Inv-loop numbers names n seen₀ i₀ seen i = (1 ≤ i) × (i ≤ n) × (all (isNewId numbers names) (from i 0) ≡ true) × Seen numbers names seen i
 
 abbrev μ-loop : tie.MeasureT-loop
-μ-loop numbers names n i₀ i = n - i
+μ-loop numbers names n seen₀ i₀ seen i = n - i
 
 row-count-requires : tie.Need-row-count-requires Inv-loop μ-loop
 row-count-requires c κs = search needs
 
-loop-holds : tie.Need-loop-holds Inv-loop μ-loop
-loop-holds c = search (needs, below-laws)
-
-cast-t6 : tie.Need-cast-t6 Inv-loop μ-loop
-cast-t6 c = search needs
+returns : tie.Need-returns Inv-loop μ-loop
+returns c = ids-done _ _ 0 (c .before .row-count .result) (omega arith) (omega (arith, c .if1 .taken)) (c .before .row-count .ensures) (all-begin _)
 
 is-new-id-requires : tie.Need-is-new-id-requires Inv-loop μ-loop
-is-new-id-requires c κs = search (needs, id-turn)
+is-new-id-requires c κs = let l : 0 < c .before .row-count .result = omega arith in id-turn _ _ 0 (c .before .row-count .result) (c .before .before .before .before .pre) l (c .before .row-count .ensures) (all-begin _)
 
-returns : tie.Need-returns Inv-loop μ-loop
-returns c = search (needs, said-laws, ids-leave)
+returns-2 : tie.Need-returns-2 Inv-loop μ-loop
+returns-2 c = let l : 0 < c .before .before .before .row-count .result = omega arith in ids-leave _ _ 0 (c .before .before .before .row-count .result) l (c .before .before .before .row-count .ensures) (said-not-yes _ _ (c .before .is-new-id .ensures) (c .if2 .taken))
+
+loop-holds : tie.Need-loop-holds Inv-loop μ-loop
+loop-holds c = let l : 1 ≤ c .before .before .before .row-count .result = omega arith in (omega arith, l, all-turn _ 0 (all-begin _) (said-not-no _ _ (c .before .is-new-id .ensures) (c .if2 .left)), seen-begin _ _ _ refl)
+
+cast-taken : tie.Need-cast-taken Inv-loop μ-loop
+cast-taken c = search needs
+
+is-id-of-requires : tie.Need-is-id-of-requires Inv-loop μ-loop
+is-id-of-requires c κs = let e = (c .before .before .before .before .before .row-count .ensures) in (c .before .before .before .before .before .before .before .before .pre, omega (arith, e))
+
+returns-3 : tie.Need-returns-3 Inv-loop μ-loop
+returns-3 c = let i = c .before .before .before .loop .i in let l : i < c .before .before .before .before .before .before .before .row-count .result = omega arith in ids-leave _ _ i (c .before .before .before .before .before .before .before .row-count .result) l (c .before .before .before .before .before .before .before .row-count .ensures) (sym (new-no _ _ i (said-not-yes _ _ (c .before .is-id-of .ensures) (c .if3 .taken))))
+
+row-key-requires : tie.Need-row-key-requires Inv-loop μ-loop
+row-key-requires c κs = let e = (c .before .before .before .before .before .before .before .row-count .ensures) in (c .before .before .before .before .before .before .before .before .before .before .pre, omega (arith, e), omega arith, said-not-no _ _ (c .before .is-id-of .ensures) (c .if3 .left))
+
+array-read-taken : tie.Need-array-read-taken Inv-loop μ-loop
+array-read-taken c = search needs
+
+is-new-key-requires : tie.Need-is-new-key-requires Inv-loop μ-loop
+is-new-key-requires c κs = let i = c .before .before .before .before .loop .i in let l : i < c .before .before .before .before .before .before .before .before .row-count .result = omega arith in let p : 0 < i = omega arith in let v = c .before .before .before .before .loop .inv in (id-turn _ _ i (c .before .before .before .before .before .before .before .before .row-count .result) (c .before .before .before .before .before .before .before .before .before .before .before .pre) l (c .before .before .before .before .before .before .before .before .row-count .ensures) (v .2), key-free _ _ _ i (v .3) p (said-not-no _ _ (c .before .before .is-id-of .ensures) (c .before .if3 .left)) _ (c .row-key .ensures .0))
+
+returns-4 : tie.Need-returns-4 Inv-loop μ-loop
+returns-4 c = let i = c .before .before .before .before .before .before .loop .i in let l : i < c .before .before .before .before .before .before .before .before .before .before .row-count .result = omega arith in ids-leave _ _ i (c .before .before .before .before .before .before .before .before .before .before .row-count .result) l (c .before .before .before .before .before .before .before .before .before .before .row-count .ensures) (said-not-yes _ _ (c .before .is-new-key .ensures) (c .if4 .taken))
+
+array-write-seen : tie.Need-array-write-seen Inv-loop μ-loop
+array-write-seen c = search needs
 
 add-i : tie.Need-add-i Inv-loop μ-loop
 add-i c = search needs
 
 loop-less : tie.Need-loop-less Inv-loop μ-loop
-loop-less c = search needs
+loop-less c = omega arith
 
 loop-again : tie.Need-loop-again Inv-loop μ-loop
-loop-again c = search (needs, below-laws, said-laws)
+loop-again c = let i = c .before .before .before .before .before .before .loop .i in let v = c .before .before .before .before .before .before .loop .inv in (omega arith, omega arith, all-turn _ i (v .2) (said-not-no _ _ (c .before .is-new-key .ensures) (c .if4 .left)), seen-turn _ _ _ i (v .3) _ (c .before .before .row-key .ensures .1) (c .before .before .row-key .ensures .0))
 
-returns-2 : tie.Need-returns-2 Inv-loop μ-loop
-returns-2 c = search (needs, ids-done)
+returns-5 : tie.Need-returns-5 Inv-loop μ-loop
+returns-5 c = let v = c .before .loop .inv in ids-done _ _ (c .before .loop .i) (c .before .before .before .before .before .row-count .result) (v .1) (omega arith) (c .before .before .before .before .before .row-count .ensures) (v .2)
 
 pub ids-fit-spec : {M : Type 1} → statement M
 ids-fit-spec =
@@ -48,11 +74,19 @@ ids-fit-spec =
     Inv-loop
     μ-loop
     row-count-requires
-    loop-holds
-    cast-t6
-    is-new-id-requires
     returns
+    is-new-id-requires
+    returns-2
+    loop-holds
+    cast-taken
+    is-id-of-requires
+    returns-3
+    row-key-requires
+    array-read-taken
+    is-new-key-requires
+    returns-4
+    array-write-seen
     add-i
     loop-less
     loop-again
-    returns-2)
+    returns-5)
