@@ -19,6 +19,13 @@ use Rattle.auttervil.specs.declared.PostResult.{PostResult}
 use Rattle.calls.specs.declared.Performed.{Performed}
 use Rattle.auttervil.specs.declared.RunResult.{RunResult}
 use Rattle.auttervil.specs.declared.PerformResult.{PerformResult}
+use Rattle.auttervil.specs.declared.LeftResult.{LeftResult}
+use Rattle.definition.specs.Names.{Name}
+use Rattle.state.specs.State.{traceWith}
+use Rattle.session.specs.declared.Session.{Session}
+use Rattle.session.specs.Sessions.{session, postOf, runOf, runEffects}
+use Rattle.lent.specs.declared.RanIn.{RanIn}
+use Rattle.lent.specs.Lent.{ranIn, Steps}
 
 -- compiling: the answer's number; and the two places afterwards, the compiled chart and its names, or what was there
 pub record CompilesTo (numbers names place namePlace : List ℕ) (answer : ℕ) (after namesAfter : List ℕ) : Type 0 where
@@ -68,3 +75,25 @@ run-result r n t e g =
 
 abbrev pub performedBy : PerformResult → Performed
 performedBy r = record { session = r .session; performed = r .performed }
+
+-- ---- a session lent in parts
+
+-- what a run hands back, with the parts that it leaves
+abbrev pub leftBy : List ℕ → List ℕ → List ℕ → List ℕ → LeftResult → RunResult
+leftBy configuration history internal external r =
+    record { session = session configuration history internal external (r .inner) (r .outer) (r .mode); status = r .status; rounds = r .rounds; count = r .count }
+
+-- a post and then a run, in numbers
+pub record StepsTo (s : Session) (chart names : List ℕ) (name : Name) (rounds : ℕ) (old : List ℕ) (answer : ℕ) (configuration history internal external : List ℕ) (r : LeftResult) (trace : List ℕ) : Type 0 where
+  pub answered : answer ≡ answerNo ((postOf s chart names name) .answer)
+  pub ran : leftBy configuration history internal external r ≡ runResult (runOf ((postOf s chart names name) .session) chart names rounds (length old))
+  pub written : trace ≡ traceWith old (runEffects ((postOf s chart names name) .session) chart names rounds (length old))
+
+pub steps-to : (s : Session) (chart names : List ℕ) (name : Name) (rounds : ℕ) (old : List ℕ) (a : Answer) (configuration history internal external : List ℕ) (r : RanIn) (trace : List ℕ) (n m : ℕ) →
+    Steps s chart names name rounds old a (ranIn configuration history internal external r) trace → n ≡ answerNo a → m ≡ statusNo (r .status) →
+    StepsTo s chart names name rounds old n configuration history internal external (record { inner = r .inner; outer = r .outer; mode = r .mode; status = m; rounds = r .rounds; count = r .count }) trace
+steps-to s chart names name rounds old a configuration history internal external r trace n m h e g = record {
+  answered = e ∙ ap answerNo (h .answered);
+  ran = run-result (ranIn configuration history internal external r) m _ (h .ran) g;
+  written = h .written;
+}

@@ -9,9 +9,9 @@ ghost use Rattle.definition.specs.Tables.{nameCount, slotSize};
 ghost use Rattle.definition.specs.Rules.{countsFit, compiledSize};
 ghost use Rattle.definition.specs.Answers.{answerNo};
 ghost use Rattle.state.specs.State.{traceWith};
-ghost use Rattle.session.specs.Sessions.{startOf, startEffects, postOf, runOf, runEffects};
+ghost use Rattle.session.specs.Sessions.{session, startOf, startEffects, postOf, runOf, runEffects};
 ghost use Rattle.calls.specs.Performing.{Performs};
-ghost use Rattle.auttervil.specs.Exports.{CompilesTo, chartAnswer, startResult, postResult, runResult, performedBy};
+ghost use Rattle.auttervil.specs.Exports.{CompilesTo, chartAnswer, startResult, postResult, runResult, performedBy, leftBy, StepsTo};
 use definition::Answer;
 use session::Session;
 
@@ -176,5 +176,132 @@ pub extern "C" fn auttervil_raw_perform(
     PerformResult {
         session: after,
         performed: performed,
+    }
+}
+
+// ---- a session lent in parts: configuration (4 words), history (1,024 words), internal and external queue (2,048 bytes each), changed where they lie. Three numbers go
+// with them, the names that wait in both queues and the mode, and come back. Parts of other lengths are refused with 9.
+
+#[repr(C)]
+pub struct PutResult {
+    pub outer: u64,
+    pub answer: u32,
+}
+
+// The name last in the external queue, or 8, 9, 6, 11, 7 and nothing changed.
+#[no_mangle]
+pub extern "C" fn auttervil_raw_post_in(
+    configuration: &[u64],
+    history: &[u64],
+    internal: &[u8],
+    external: &mut [u8],
+    inner: u64,
+    outer: u64,
+    mode: u64,
+    chart: &[u64],
+    names: &[u8],
+    name: &[u8],
+) -> PutResult
+    ensures { λ r. ⌜ record { session = session (now (configuration .entry)) (now (history .entry)) (now (internal .entry)) (now (external .exit)) inner (r .outer) mode; answer = r .answer } ≡ postResult (postOf (session (now (configuration .entry)) (now (history .entry)) (now (internal .entry)) (now (external .entry)) inner outer mode) (now (chart .entry)) (now (names .entry)) (now (name .entry))) ⌝ }
+{
+    let put = lent::post(configuration, history, internal, external, inner, outer, mode, chart, names, name);
+    let waiting = put.outer;
+    let answer = put.answer;
+    PutResult {
+        outer: waiting,
+        answer: calls::answer_number(answer),
+    }
+}
+
+#[repr(C)]
+pub struct LeftResult {
+    pub inner: u64,
+    pub outer: u64,
+    pub mode: u64,
+    pub status: u32,
+    pub rounds: u32,
+    pub count: usize,
+}
+
+// At most so many rounds. 8 or 9 changes nothing; 7 or 10 leaves what was before the round that it refuses.
+#[no_mangle]
+pub extern "C" fn auttervil_raw_run_in(
+    configuration: &mut [u64],
+    history: &mut [u64],
+    internal: &mut [u8],
+    external: &mut [u8],
+    inner: u64,
+    outer: u64,
+    mode: u64,
+    chart: &[u64],
+    names: &[u8],
+    rounds: u32,
+    trace: &mut [u32],
+) -> LeftResult
+    ensures { λ r. ⌜ (leftBy (now (configuration .exit)) (now (history .exit)) (now (internal .exit)) (now (external .exit)) r ≡ runResult (runOf (session (now (configuration .entry)) (now (history .entry)) (now (internal .entry)) (now (external .entry)) inner outer mode) (now (chart .entry)) (now (names .entry)) rounds (length (now (trace .entry))))) × (now (trace .exit) ≡ traceWith (now (trace .entry)) (runEffects (session (now (configuration .entry)) (now (history .entry)) (now (internal .entry)) (now (external .entry)) inner outer mode) (now (chart .entry)) (now (names .entry)) rounds (length (now (trace .entry))))) ⌝ }
+{
+    let ran = lent::run(configuration, history, internal, external, inner, outer, mode, chart, names, rounds, trace);
+    let left = ran.inner;
+    let waiting = ran.outer;
+    let next = ran.mode;
+    let status = ran.status;
+    let number = ran.rounds;
+    let count = ran.count;
+    LeftResult {
+        inner: left,
+        outer: waiting,
+        mode: next,
+        status: calls::status_number(status),
+        rounds: number,
+        count: count,
+    }
+}
+
+#[repr(C)]
+pub struct StepResult {
+    pub inner: u64,
+    pub outer: u64,
+    pub mode: u64,
+    pub status: u32,
+    pub rounds: u32,
+    pub count: usize,
+    pub answer: u32,
+}
+
+// A post and then a run, as the two calls do them, with one check of chart and session.
+#[no_mangle]
+pub extern "C" fn auttervil_raw_step(
+    configuration: &mut [u64],
+    history: &mut [u64],
+    internal: &mut [u8],
+    external: &mut [u8],
+    inner: u64,
+    outer: u64,
+    mode: u64,
+    chart: &[u64],
+    names: &[u8],
+    name: &[u8],
+    rounds: u32,
+    trace: &mut [u32],
+) -> StepResult
+    ensures { λ r. ⌜ StepsTo (session (now (configuration .entry)) (now (history .entry)) (now (internal .entry)) (now (external .entry)) inner outer mode) (now (chart .entry)) (now (names .entry)) (now (name .entry)) rounds (now (trace .entry)) (r .answer) (now (configuration .exit)) (now (history .exit)) (now (internal .exit)) (now (external .exit)) (record { inner = r .inner; outer = r .outer; mode = r .mode; status = r .status; rounds = r .rounds; count = r .count }) (now (trace .exit)) ⌝ }
+{
+    let stepped = lent::step(configuration, history, internal, external, inner, outer, mode, chart, names, name, rounds, trace);
+    let ran = stepped.ran;
+    let answer = stepped.answer;
+    let left = ran.inner;
+    let waiting = ran.outer;
+    let next = ran.mode;
+    let status = ran.status;
+    let number = ran.rounds;
+    let count = ran.count;
+    StepResult {
+        inner: left,
+        outer: waiting,
+        mode: next,
+        status: calls::status_number(status),
+        rounds: number,
+        count: count,
+        answer: calls::answer_number(answer),
     }
 }

@@ -66,7 +66,7 @@ const SET_WIDTH: usize = 4;
 const PLACES: usize = 256;
 
 // "is closing exactly if a final under root is active; is ended exactly if nothing is active, its queues then empty"; legal unless ended.
-fn mode_holds(chart: &[u64], conf: RowSet, internal: u64, external: u64, mode: u64) -> bool
+pub fn mode_holds(chart: &[u64], conf: RowSet, internal: u64, external: u64, mode: u64) -> bool
     requires { ⌜ Ready (now chart) ⌝ }
     ensures { λ b. ⌜ b ≡ modeHolds (chartOf (now (chart .entry))) (rowsOf conf) internal external mode ⌝ }
 {
@@ -105,7 +105,7 @@ fn place_holds(chart: &[u64], history: &[u64], h: usize) -> bool
     legality::is_storable(chart, r, set)
 }
 
-fn history_holds(chart: &[u64], history: &[u64]) -> bool
+pub fn history_holds(chart: &[u64], history: &[u64]) -> bool
     requires { ⌜ Ready (now chart) × (length (now history) ≡ 1024) ⌝ }
     ensures { λ b. ⌜ b ≡ all (holdsPlace (chartOf (now (chart .entry))) (now (history .entry))) (from 256 0) ⌝ }
 {
