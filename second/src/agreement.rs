@@ -9,7 +9,7 @@ use crate::encode::{encode, Layout, Spelt};
 use crate::generate::{self, CallMaker, Flavour};
 use crate::invariants::{ensure, run_splits, Found, Seen};
 use crate::legal::{can_be_stored, is_legal};
-use crate::limits::{HISTORY_PLACES, QUEUE_NAMES};
+use crate::limits::{HISTORY_PLACES, QUEUE_NAMES, ROW_SET_ROWS};
 use crate::numbers::RowNumber;
 use crate::random::Random;
 use crate::row_set::RowSet;
@@ -277,7 +277,7 @@ fn small_chart_agrees(
 
 fn flip_some(set: &mut RowSet, rows: usize, random: &mut Random) {
     for _ in 0..random.between(0, 2) {
-        let row = RowNumber(random.below(rows));
+        let row = RowNumber(random.below(rows.min(ROW_SET_ROWS)));
         match set.contains(row) {
             true => set.remove(row),
             false => set.insert(row),
@@ -319,9 +319,9 @@ fn damage(session: &mut Session, rows: usize, random: &mut Random) {
     match random.below(9) {
         0 => session.mode = random.below(4) as u64,
         1 => flip_some(&mut session.configuration, rows + 1, random),
-        2 => session.configuration.insert(RowNumber(255)),
+        2 => session.configuration.insert(RowNumber(ROW_SET_ROWS - 1)),
         3 => flip_some(&mut session.stored[random.below(rows)], rows, random),
-        4 => session.stored[random.between(rows, HISTORY_PLACES - 1)].insert(RowNumber(1)),
+        4 => session.stored[random.between(rows - 1, HISTORY_PLACES - 1)].insert(RowNumber(1)),
         5 => session.internal.count = random.between(0, 40) as u64,
         6 => session.external.slots[random.below(QUEUE_NAMES)][random.below(64)] = random.number() as u8,
         7 => session.configuration = RowSet::EMPTY,

@@ -1,25 +1,36 @@
 //! Charts exactly at the limits, one limit each, and headers at them and one past them.
 
 use crate::builder::{Builder, Do};
+use crate::calls::Call;
 use crate::encode::{encode_plainly, Spelt};
 use crate::examples::Example;
 use crate::limits::*;
 use crate::names::slot_of;
-use crate::readings::{post, run, start};
-use crate::tables::{Chart, Counts};
+use crate::numbers::NameNumber;
+use crate::readings::{post, run, run_in, start};
+use crate::tables::{Action, Chart, Counts};
+use std::iter;
 
-/// A chart with as many references or actions as may be takes the prover too long; headers show
-/// those limits.
-pub fn all() -> Vec<Example> {
+/// What the prover can compute; headers show the other limits there.
+pub fn small() -> Vec<Example> {
+    vec![most_of_a_transition(), long_list(LONG_LIST)]
+}
+
+/// Charts as large as may be, for the programs.
+pub fn large() -> Vec<Example> {
     vec![
         most_rows(),
         most_transitions(),
         most_slots(),
         most_descriptors(),
-        most_of_a_transition(),
-        long_list(),
+        most_regions(),
+        deepest(),
+        long_list(MAX_ROWS as usize - 2),
     ]
 }
+
+/// So many rows a list has that the prover computes.
+const LONG_LIST: usize = 20;
 
 /// The six counts, and whether "counts as above" holds of them.
 pub struct Header {
@@ -58,37 +69,78 @@ fn one_state() -> Chart {
     b.chart()
 }
 
-fn judged(name: &str, about: &str, chart: &Chart) -> Example {
-    Example::of_chart(name, about, chart, Vec::new())
-}
-
-/// "1 to 64 rows". All ids of so many take the prover too long: the first slot is no name, and 2
-/// is given, not 1.
+/// "Raise rows to 256": one beside the other, each leading to the next and the last to the first.
 fn most_rows() -> Example {
     let mut b = Builder::new();
     for row in 1..MAX_ROWS {
         b.state("", &format!("s{row}"));
     }
-    let mut chart = b.chart();
-    chart.names[0][0] = b' ';
-    judged("most_rows", "64 rows keep rule 1, a slot with a blank breaks rule 2", &chart)
+    let last = MAX_ROWS - 1;
+    for row in 1..last {
+        b.on(&format!("s{row}"), "e", &format!("s{}", row + 1));
+    }
+    b.on(&format!("s{last}"), "e", "s1");
+    b.list("", &format!("s{last}"), &[]);
+    let calls = vec![start(), post("e"), run(1), post("e"), run(1)];
+    Example::of_chart("most_rows", &format!("{MAX_ROWS} rows"), &b.chart(), calls)
 }
 
-/// "0 to 128 transitions".
+/// "transitions to 512". All but the last want another event.
 fn most_transitions() -> Example {
     let mut b = Builder::new();
-    b.state("", "s");
-    for _ in 0..MAX_TRANSITIONS {
-        b.on("s", "", "s");
+    b.state("", "s").state("", "z");
+    for _ in 1..MAX_TRANSITIONS {
+        b.on("s", "other", "z");
     }
-    judged("most_transitions", "128 transitions", &b.chart())
+    b.on("s", "e", "z").doing(&[Do::Host(1)]);
+    let calls = vec![start(), post("e"), run(1)];
+    Example::of_chart("most_transitions", &format!("{MAX_TRANSITIONS} transitions"), &b.chart(), calls)
 }
 
-/// "0 to 192 name slots".
+/// "name slots to 768". The last one is raised.
 fn most_slots() -> Example {
     let mut chart = one_state();
     chart.names.resize(MAX_SLOTS as usize, slot_of(b"u"));
-    judged("most_slots", "192 slots", &chart)
+    chart.rows[1].entry = vec![Action::Raise(NameNumber(MAX_SLOTS as usize - 1))];
+    let about = format!("{MAX_SLOTS} slots");
+    Example::of_chart("most_slots", &about, &chart, vec![start(), run(1)])
+}
+
+/// A start, and a round for each event, with room for all rows.
+fn in_turn(events: &[&str]) -> Vec<Call> {
+    let room = 4 * MAX_ROWS as usize;
+    let rounds = events.iter().flat_map(|event| [post(event), run_in(1, room)]);
+    iter::once(Call::Start { room }).chain(rounds).collect()
+}
+
+/// A parallel with as many regions as there is room for: all are entered, taken and left together.
+fn most_regions() -> Example {
+    let mut b = Builder::new();
+    b.parallel("", "p");
+    let count = MAX_ROWS - 3;
+    regions(&mut b, "p", count);
+    b.state("", "z");
+    for region in 0..count {
+        b.on(&format!("r{region}"), "all", "").doing(&[Do::Host(region as u16)]);
+    }
+    b.on("p", "out", "z").on("z", "in", "p");
+    let calls = in_turn(&["all", "out", "in"]);
+    Example::of_chart("most_regions", &format!("{count} regions"), &b.chart(), calls)
+}
+
+/// Each row below the one before it, a deep history at the top, which remembers the last row.
+fn deepest() -> Example {
+    let last = MAX_ROWS as usize - 3;
+    let mut b = Builder::new();
+    b.state("", "s1").deep("s1", "h");
+    for row in 2..=last {
+        b.state(&format!("s{}", row - 1), &format!("s{row}"));
+    }
+    b.state("", "z");
+    b.list("h", &format!("s{last}"), &[Do::Host(1)]);
+    b.on("s1", "out", "z").on(&format!("s{last}"), "again", "h").on("z", "in", "h");
+    let calls = in_turn(&["again", "out", "in"]);
+    Example::of_chart("deepest", &format!("{last} rows below each other"), &b.chart(), calls)
 }
 
 /// The table at its limit, with cells that no list uses.
@@ -96,7 +148,8 @@ fn most_descriptors() -> Example {
     let Spelt { mut numbers, names } = encode_plainly(&one_state());
     numbers[3] = MAX_DESCRIPTORS;
     numbers.extend(vec![0; MAX_DESCRIPTORS as usize]);
-    Example::of_tables("most_descriptors", "512 descriptors", Spelt { numbers, names }, Vec::new())
+    let about = format!("{MAX_DESCRIPTORS} descriptors");
+    Example::of_tables("most_descriptors", &about, Spelt { numbers, names }, Vec::new())
 }
 
 fn regions(b: &mut Builder, parallel: &str, count: u64) -> String {
@@ -118,23 +171,24 @@ fn most_of_a_transition() -> Example {
     Example::of_chart("most_of_a_transition", "4 descriptors, 8 targets, 8 actions", &b.chart(), calls)
 }
 
-/// A list has no limit but the rows: here 20 regions.
-fn long_list() -> Example {
+/// A list has no limit but the rows.
+fn long_list(count: usize) -> Example {
     let mut b = Builder::new();
     b.parallel("", "p");
-    let list = regions(&mut b, "p", 20);
+    let list = regions(&mut b, "p", count as u64);
     b.list("", &list, &[]);
-    judged("long_list", "a list of 20 rows", &b.chart())
+    Example::of_chart("long_list", &format!("a list of {count} rows"), &b.chart(), Vec::new())
 }
 
-/// 64 rows. The last is a descendant, a child, a default entry target and a target, so that those
-/// sets have bit 63; no row stands below the last.
-pub fn last_row_everywhere() -> Chart {
+/// So many rows. The last is a descendant, a child, a default entry target and a target, so that
+/// those sets have its bit; no row stands below the last.
+pub fn last_row_everywhere(rows: usize) -> Chart {
+    let before = rows - 5;
     let mut b = Builder::new();
-    for row in 1..=59 {
+    for row in 1..=before {
         b.state("", &format!("s{row}"));
     }
     b.state("", "a").parallel("a", "p").state("p", "b").state("p", "c");
-    b.list("", "c", &[]).list("a", "b c", &[]).on("s1", "e", "c b").on("c", "e", "s59");
+    b.list("", "c", &[]).list("a", "b c", &[]).on("s1", "e", "c b").on("c", "e", &format!("s{before}"));
     b.chart()
 }

@@ -150,7 +150,8 @@ fn change(cell: &mut u64, random: &mut Random) {
         3 => old.wrapping_sub(1),
         4 => old.wrapping_add(1),
         5 => random.number(),
-        6 => old ^ (1 << random.below(64)),
+        6 => old ^ (1 << random.below(WORD_BITS)),
+        7 => random.below(MAX_SLOTS as usize + 1) as u64,
         _ => random.below(12) as u64,
     };
     *cell = if new == old { old ^ 1 } else { new };

@@ -27,17 +27,57 @@ pub struct Flavour {
     pub many_raises: bool,
     /// Eventless transitions without a condition, for runs that never idle.
     pub spins: bool,
+    pub shape: Shape,
+    /// So many transitions more for each source.
+    pub more_transitions: usize,
+    /// So many slots stand before those of the events, and whether the others are filled up.
+    pub names_before: usize,
+    pub all_names: bool,
 }
+
+/// How many children a row has.
+#[derive(Clone, Copy, PartialEq, Eq, Debug)]
+pub enum Shape {
+    Some,
+    /// One or two, so that rows stand far below each other.
+    Deep,
+    /// Up to forty.
+    Wide,
+}
+
+/// A chart with more rows than one word of a set has bits is large.
+pub const LARGE: usize = 65;
+/// Slots that a large chart keeps for its events.
+const SLOTS_OF_EVENTS: usize = 80;
+/// Of so many charts of any size one is large.
+const ONE_LARGE_OF: usize = 25;
 
 impl Flavour {
     pub fn any(random: &mut Random) -> Flavour {
+        if random.below(ONE_LARGE_OF) == 0 {
+            return Flavour::large(random);
+        }
         let rows = match random.below(10) {
             0..=3 => random.between(2, 10),
             4..=6 => random.between(8, 20),
             7 | 8 => random.between(18, 40),
-            _ => random.between(36, 64),
+            _ => random.between(36, LARGE - 1),
         };
         Flavour::with_rows(random, rows)
+    }
+
+    /// Up to every limit, and often at it.
+    pub fn large(random: &mut Random) -> Flavour {
+        let most = MAX_ROWS as usize;
+        let rows = if random.chance(40) { most } else { random.between(LARGE, most) };
+        let more_slots = MAX_SLOTS as usize - most - SLOTS_OF_EVENTS;
+        Flavour {
+            shape: [Shape::Some, Shape::Deep, Shape::Wide][random.below(3)],
+            more_transitions: random.below(4),
+            names_before: if random.chance(50) { rows + random.below(more_slots) } else { 0 },
+            all_names: random.chance(40),
+            ..Flavour::with_rows(random, rows)
+        }
     }
 
     pub fn with_rows(random: &mut Random, rows: usize) -> Flavour {
@@ -49,6 +89,10 @@ impl Flavour {
             blocks: random.between(0, 50),
             many_raises: random.chance(6),
             spins: random.chance(8),
+            shape: Shape::Some,
+            more_transitions: 0,
+            names_before: 0,
+            all_names: false,
         }
     }
 }
@@ -81,6 +125,7 @@ impl Generator {
     fn generate(mut self) -> Chart {
         let budget = self.flavour.rows.max(2) - 1;
         self.grow(ROOT, budget);
+        self.fill_slots(self.flavour.names_before);
         let tree = Tree::of(&self.chart);
         self.fill_rows(&tree);
         self.add_transitions(&tree);
@@ -126,10 +171,12 @@ impl Generator {
     }
 
     fn child_count(&mut self, kind: Kind, budget: usize) -> usize {
-        let wanted = match kind {
-            Kind::Root | Kind::State => self.random.between(1, 4),
-            Kind::Parallel => [1, 2, 2, 2, 3, 3, 4][self.random.below(7)],
-            _ => 0,
+        let wanted = match (kind, self.flavour.shape) {
+            (Kind::Final | Kind::ShallowHistory | Kind::DeepHistory, _) => 0,
+            (_, Shape::Deep) => [1, 1, 1, 1, 2][self.random.below(5)],
+            (_, Shape::Wide) => self.random.between(2, 40),
+            (Kind::Root | Kind::State, Shape::Some) => self.random.between(1, 4),
+            (Kind::Parallel, Shape::Some) => [1, 2, 2, 2, 3, 3, 4][self.random.below(7)],
         };
         wanted.min(budget)
     }
@@ -237,12 +284,25 @@ impl Generator {
     }
 
     fn add_unused_slots(&mut self) {
-        const UNUSED: [&str; 6] = ["*", "unused", "un.used.*", "9", "-", "_._"];
-        while self.chart.names.len() < MAX_SLOTS as usize && self.random.chance(30) {
-            let text = self.random.pick(&UNUSED).expect("there are some");
-            let place = slot_of(text.as_bytes());
-            self.chart.names.push(place);
+        if self.flavour.all_names {
+            self.fill_slots(MAX_SLOTS as usize);
         }
+        while self.chart.names.len() < MAX_SLOTS as usize && self.random.chance(30) {
+            self.add_unused_slot();
+        }
+    }
+
+    /// Unused slots, until there are so many.
+    fn fill_slots(&mut self, count: usize) {
+        while self.chart.names.len() < count {
+            self.add_unused_slot();
+        }
+    }
+
+    fn add_unused_slot(&mut self) {
+        const UNUSED: [&str; 6] = ["*", "unused", "un.used.*", "9", "-", "_._"];
+        let text = self.random.pick(&UNUSED).expect("there are some");
+        self.chart.names.push(slot_of(text.as_bytes()));
     }
 
     // Lists and blocks of rows
@@ -373,7 +433,7 @@ impl Generator {
                 continue;
             }
             let count = [0, 0, 1, 1, 1, 1, 2, 2, 3, 5][self.random.below(10)];
-            for _ in 0..count {
+            for _ in 0..count + self.flavour.more_transitions {
                 if self.chart.transitions.len() < MAX_TRANSITIONS as usize {
                     let transition = self.transition(tree, source);
                     self.chart.transitions.push(transition);
@@ -492,12 +552,15 @@ pub fn known_events(chart: &Chart) -> Vec<Vec<u8>> {
 pub struct CallMaker<'a> {
     random: &'a mut Random,
     events: Vec<Vec<u8>>,
+    /// A large chart is given so many times the room.
+    rooms: usize,
     calls: Vec<Call>,
 }
 
 impl<'a> CallMaker<'a> {
     pub fn new(random: &'a mut Random, chart: &Chart) -> CallMaker<'a> {
-        CallMaker { random, events: known_events(chart), calls: Vec::new() }
+        let rooms = chart.rows.len().div_ceil(LARGE);
+        CallMaker { random, events: known_events(chart), rooms, calls: Vec::new() }
     }
 
     /// A list of calls that mostly starts, posts and runs.
@@ -516,14 +579,14 @@ impl<'a> CallMaker<'a> {
         match self.random.below(20) {
             0 => 0,
             1..=3 => self.random.between(1, 20),
-            _ => self.random.between(150, 400),
+            _ => self.random.between(150, 400) * self.rooms,
         }
     }
 
     fn start(&mut self) {
         let room = match self.random.chance(6) {
             true => self.random.between(0, 6),
-            false => 300,
+            false => 300 * self.rooms,
         };
         self.calls.push(Call::Start { room });
     }

@@ -1,11 +1,10 @@
-//! Every limit of document 01, in one place, so that a larger chart is a change of this file.
+//! Every limit, in one place, so that a larger chart is a change of this file. Document 01 has them but
+//! for the first three, which are request R-8's.
 
-/// "1 to 64 rows in document order."
-pub const MAX_ROWS: u64 = 64;
-/// "0 to 128 transitions".
-pub const MAX_TRANSITIONS: u64 = 128;
-/// "0 to 192 name slots of 64 bytes."
-pub const MAX_SLOTS: u64 = 192;
+/// "Raise rows to 256, transitions to 512 and name slots to 768."
+pub const MAX_ROWS: u64 = 256;
+pub const MAX_TRANSITIONS: u64 = 512;
+pub const MAX_SLOTS: u64 = 768;
 /// "each with a source, 0 to 4 descriptors".
 pub const MAX_DESCRIPTORS_OF_TRANSITION: u64 = 4;
 /// "0 to 8 targets".
@@ -42,13 +41,25 @@ pub const MAX_NAME_BYTES: usize = 63;
 pub const DONE_PREFIX: &[u8] = b"done.state.";
 pub const MAX_ID_BYTES: usize = MAX_NAME_BYTES - DONE_PREFIX.len();
 
-/// A set of rows is four words of 64 bits, which is room for 256 rows.
-pub const ROW_SET_WORDS: usize = 4;
-pub const ROW_SET_ROWS: usize = ROW_SET_WORDS * 64;
+/// A set of rows has a bit for each row there may be, in words of 64 bits.
+pub const ROW_SET_ROWS: usize = MAX_ROWS as usize;
+pub const WORD_BITS: usize = u64::BITS as usize;
+pub const ROW_SET_WORDS: usize = ROW_SET_ROWS / WORD_BITS;
 /// Ancestors, descendants, children and default entry targets.
 pub const COMPILED_SETS_OF_ROW: usize = 4;
 /// The target anchors.
 pub const COMPILED_SETS_OF_TRANSITION: usize = 1;
+
+/// The numbers of the greatest chart, and of what it compiles to.
+pub const MAX_NUMBERS: usize = HEADER_CELLS
+    + ROW_CELLS * MAX_ROWS as usize
+    + TRANSITION_CELLS * MAX_TRANSITIONS as usize
+    + REFERENCE_CELLS * MAX_REFERENCES as usize
+    + DESCRIPTOR_CELLS * MAX_DESCRIPTORS as usize
+    + ACTION_CELLS * MAX_ACTIONS as usize;
+pub const MAX_COMPILED: usize = MAX_NUMBERS
+    + ROW_SET_WORDS
+        * (COMPILED_SETS_OF_ROW * MAX_ROWS as usize + COMPILED_SETS_OF_TRANSITION * MAX_TRANSITIONS as usize);
 
 /// "an internal and an external queue of at most 32 names each".
 pub const QUEUE_NAMES: usize = 32;

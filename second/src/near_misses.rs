@@ -351,7 +351,7 @@ fn sizes() -> Vec<NearMiss> {
 
 fn counts_past_limits() -> Vec<NearMiss> {
     vec![
-        chart!("65 rows", 1, |chart, _, _| {
+        chart!("one row too many", 1, |chart, _, _| {
             while chart.rows.len() < MAX_ROWS as usize + 1 {
                 let text = format!("more{}", chart.rows.len());
                 let id = push_slot(chart, text.as_bytes())?;
@@ -359,12 +359,12 @@ fn counts_past_limits() -> Vec<NearMiss> {
             }
             Some(())
         }),
-        chart!("129 transitions", 1, |chart, _, _| {
+        chart!("one transition too many", 1, |chart, _, _| {
             let last = chart.transitions.last()?.clone();
             chart.transitions.resize(MAX_TRANSITIONS as usize + 1, last);
             Some(())
         }),
-        chart!("193 slots", 1, |chart, _, _| {
+        chart!("one slot too many", 1, |chart, _, _| {
             chart.names.resize(MAX_SLOTS as usize + 1, slot_of(b"unused"));
             Some(())
         }),

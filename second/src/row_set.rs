@@ -1,6 +1,6 @@
 //! A set of rows: bit i % 64 of word i / 64 says whether row i is in it.
 
-use crate::limits::{ROW_SET_ROWS, ROW_SET_WORDS};
+use crate::limits::{ROW_SET_ROWS, ROW_SET_WORDS, WORD_BITS};
 use crate::numbers::RowNumber;
 use std::fmt;
 
@@ -19,15 +19,15 @@ impl RowSet {
     }
 
     pub fn contains(&self, row: RowNumber) -> bool {
-        row.0 < ROW_SET_ROWS && self.0[row.0 / 64] >> (row.0 % 64) & 1 == 1
+        row.0 < ROW_SET_ROWS && self.0[row.0 / WORD_BITS] >> (row.0 % WORD_BITS) & 1 == 1
     }
 
     pub fn insert(&mut self, row: RowNumber) {
-        self.0[row.0 / 64] |= 1 << (row.0 % 64);
+        self.0[row.0 / WORD_BITS] |= 1 << (row.0 % WORD_BITS);
     }
 
     pub fn remove(&mut self, row: RowNumber) {
-        self.0[row.0 / 64] &= !(1 << (row.0 % 64));
+        self.0[row.0 / WORD_BITS] &= !(1 << (row.0 % WORD_BITS));
     }
 
     pub fn is_empty(&self) -> bool {
@@ -91,7 +91,7 @@ impl Iterator for Rows {
             if *word != 0 {
                 let bit = word.trailing_zeros() as usize;
                 *word &= *word - 1;
-                return Some(RowNumber(place * 64 + bit));
+                return Some(RowNumber(place * WORD_BITS + bit));
             }
         }
         None

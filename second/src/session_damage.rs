@@ -2,7 +2,7 @@
 
 use crate::cells::{self, CELLS, EXTERNAL, EXTERNAL_COUNT, INTERNAL, INTERNAL_COUNT, MODE, STORED};
 use crate::compiled::CompiledChart;
-use crate::limits::{HISTORY_PLACES, QUEUE_NAMES, ROW_SET_WORDS, SLOT_BYTES};
+use crate::limits::{HISTORY_PLACES, QUEUE_NAMES, ROW_SET_WORDS, SLOT_BYTES, WORD_BITS};
 use crate::names::text_of;
 use crate::numbers::RowNumber;
 use crate::random::Random;
@@ -99,9 +99,17 @@ fn some_word(old: u64, at: usize, rows: usize, random: &mut Random) -> u64 {
         0 => u64::MAX,
         1 => 0,
         2 => random.number(),
-        3 => old ^ (1 << random.below(64)),
-        _ if at < INTERNAL => old ^ (1 << random.below(rows.min(64))),
+        3 => old ^ (1 << random.below(WORD_BITS)),
+        _ if at < INTERNAL => old ^ (1 << random.below(rows_of_word(at % ROW_SET_WORDS, rows))),
         _ => random.below(QUEUE_NAMES + 4) as u64,
+    }
+}
+
+/// How many of so many rows have their bits in this word of a set; in a word of none any bit may change.
+fn rows_of_word(word: usize, rows: usize) -> usize {
+    match rows.saturating_sub(word * WORD_BITS) {
+        0 => WORD_BITS,
+        left => left.min(WORD_BITS),
     }
 }
 
@@ -120,7 +128,9 @@ fn cell_of(
         SessionPart::Configuration(word) => word,
         SessionPart::StoredOfHistory(word) => stored(random.pick(&of(true))?, word),
         SessionPart::StoredOfOther(word) => stored(random.pick(&of(false))?, word),
-        SessionPart::StoredPastRows(word) => stored(random.between(rows, HISTORY_PLACES - 1), word),
+        SessionPart::StoredPastRows(word) => {
+            stored(random.pick(&(rows..HISTORY_PLACES).collect::<Vec<usize>>())?, word)
+        }
         SessionPart::FirstByte(which)
         | SessionPart::TextByte(which)
         | SessionPart::LaterByte(which)

@@ -7,7 +7,7 @@ use session::Session;
 use session::Started;
 
 // Room for every trace of the lists, and guards.
-const ROOM: usize = 1024;
+const ROOM: usize = 2048;
 
 // ---- the trace
 

@@ -18,6 +18,9 @@ use lines::show_sum;
 use lines::sum_bytes;
 use lines::sum_words;
 
+// Room for all lines.
+const TEXT: usize = 1048576;
+
 // How much of each buffer is lent.
 struct Lent {
     numbers: usize,
@@ -309,11 +312,11 @@ fn run_all(
 }
 
 fn main() {
-    let mut text = [0u8; 524288];
-    let mut numbers = [0u64; 18432];
-    let mut names = [0u8; 12544];
-    let mut place = [0u64; 20480];
-    let mut name_place = [0u8; 12544];
+    let mut text = [0u8; TEXT];
+    let mut numbers = [0u64; lines::NUMBERS];
+    let mut names = [0u8; lines::NAMES];
+    let mut place = [0u64; lines::PLACE];
+    let mut name_place = [0u8; lines::NAMES];
     let n = io::read_full(STDIN_FILENO, &mut text);
     run_all(
         &text[..n],

@@ -2,6 +2,24 @@
 ghost use Prim.Native.Nat.{_≤_};
 ghost use lib.ListN.{length};
 use libc::STDOUT_FILENO;
+use tables::columns;
+use tables::limits;
+
+const MORE: usize = 256;
+
+// The buffers have room for a chart of as much as there may be and a little more, for what it compiles to and for its names.
+pub const NUMBERS: usize = columns::HEADER
+    + limits::MOST_ROWS as usize * columns::ROW_WIDTH
+    + limits::MOST_TRANSITIONS as usize * columns::TRANSITION_WIDTH
+    + limits::ROOM_FOR_REFERENCES as usize
+    + limits::ROOM_FOR_DESCRIPTORS as usize
+    + limits::ROOM_FOR_ACTIONS as usize * columns::ACTION_WIDTH
+    + MORE;
+
+pub const PLACE: usize =
+    NUMBERS + limits::MOST_ROWS as usize * 16 + limits::MOST_TRANSITIONS as usize * 4;
+
+pub const NAMES: usize = limits::MOST_NAMES as usize * limits::SLOT_SIZE + MORE;
 
 // The places are lent from here on in their buffers, so that something stands before and behind them.
 const GUARD: usize = 8;
@@ -135,7 +153,7 @@ pub fn read_two(text: &[u8]) -> Two {
 }
 
 pub fn size(v: u64) -> usize {
-    (v % 65536) as usize
+    (v % 1048576) as usize
 }
 
 pub fn put_word(out: &mut [u64], at: usize, v: u64) {

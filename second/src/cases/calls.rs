@@ -11,7 +11,7 @@ use crate::compiled::{compile, needed_place, CompiledChart};
 use crate::encode::Layout;
 use crate::follower::{session_examples, ListedSession};
 use crate::generate::bad_names;
-use crate::limits::{HEADER_CELLS, HISTORY_PLACES, QUEUE_NAMES, SLOT_BYTES};
+use crate::limits::{HEADER_CELLS, HISTORY_PLACES, MAX_ROWS, QUEUE_NAMES, SLOT_BYTES};
 use crate::names::slot_of;
 use crate::near_misses::Lent;
 use crate::numbers::RowNumber;
@@ -128,7 +128,7 @@ fn bases() -> Vec<(&'static str, Chart, Session, &'static str)> {
     let with = |more: &[Call]| after(&histories(), &[&stored[..], more].concat());
     let queued = [post("b"), run(1), post("e1"), post("e2.x")];
     let full: Vec<Call> = [start()].into_iter().chain((0..QUEUE_NAMES).map(|_| post("e"))).collect();
-    let last = at_limits::last_row_everywhere();
+    let last = at_limits::last_row_everywhere(MAX_ROWS as usize);
     let last_session = after(&last, &[start(), post("e")]);
     vec![
         (
@@ -142,7 +142,7 @@ fn bases() -> Vec<(&'static str, Chart, Session, &'static str)> {
         ("a closing session", histories(), with(&[post("g"), post("x"), run(1)]), "e"),
         ("an ended session", histories(), with(&[post("g"), run(2)]), "e"),
         ("a full queue", chart_a(), after(&chart_a(), &full), "e"),
-        ("row 63", last, last_session, "e"),
+        ("the last row there may be", last, last_session, "e"),
     ]
 }
 

@@ -10,7 +10,7 @@ use crate::encode::Layout;
 use crate::examples::{self, Example};
 use crate::faults;
 use crate::generate::{self, Flavour};
-use crate::limits::{MAX_ACTIONS, MAX_DESCRIPTORS, MAX_REFERENCES, MAX_SLOTS, SLOT_BYTES};
+use crate::limits::*;
 use crate::names::slot_of;
 use crate::near_misses::{self, Lent};
 use crate::random::Random;
@@ -22,6 +22,8 @@ use std::fmt::Write as _;
 /// The first seed of the generated charts, and how many there are.
 const FIRST_SEED: u64 = 9_000_000;
 const GENERATED: u64 = 60;
+/// Of so many of them one is large at least.
+const ONE_LARGE_OF: u64 = 6;
 /// How many charts with cells changed at will.
 const CHANGED: usize = 60;
 
@@ -53,7 +55,8 @@ impl Case {
 fn cases() -> Vec<Case> {
     let mut cases = damaged_charts();
     cases.extend(ids_at_their_limit());
-    cases.extend(at_limits::all().into_iter().map(Case::of_example));
+    cases.extend(at_limits::small().into_iter().chain(at_limits::large()).map(Case::of_example));
+    cases.push(last_row_everywhere(MAX_ROWS as usize));
     cases.extend(full_tables());
     cases.extend(readings::all().into_iter().flatten().map(Case::of_example));
     cases.extend(by_hand::all().into_iter().chain(examples::by_hand()).map(Case::of_example));
@@ -69,12 +72,17 @@ fn damaged_charts() -> Vec<Case> {
     let mut cases = vec![
         Case::of_chart("chart A", &readings::chart_a()).damaged(),
         Case::of_chart("the sample", &near_misses::sample()).damaged(),
-        Case::of_chart("64 rows, the last one everywhere", &at_limits::last_row_everywhere()).damaged(),
+        last_row_everywhere(WORD_BITS).damaged(),
     ];
     for (place, chart) in near_misses::small_samples().iter().enumerate() {
         cases.push(Case::of_chart(format!("small sample {place}"), chart).damaged());
     }
     cases
+}
+
+fn last_row_everywhere(rows: usize) -> Case {
+    let about = format!("{rows} rows, the last one everywhere");
+    Case::of_chart(about, &at_limits::last_row_everywhere(rows))
 }
 
 /// Marked run 7: "A state id of 52 bytes is accepted, 53 gives 2."
@@ -94,14 +102,14 @@ fn full_tables() -> Vec<Case> {
     let mut chart = b.chart();
     chart.names.resize(MAX_SLOTS as usize, slot_of(b"u"));
     let tables: [(&str, Table, u64, &[u64]); 3] = [
-        ("5,120 references", Table::References, MAX_REFERENCES, &[1]),
-        ("512 descriptors", Table::Descriptors, MAX_DESCRIPTORS, &[191]),
-        ("2,560 actions", Table::Actions, MAX_ACTIONS, &[0, 0, 0, 0]),
+        ("references", Table::References, MAX_REFERENCES, &[1]),
+        ("descriptors", Table::Descriptors, MAX_DESCRIPTORS, &[MAX_SLOTS - 1]),
+        ("actions", Table::Actions, MAX_ACTIONS, &[0, 0, 0, 0]),
     ];
-    let full = |(about, table, lines, line): (&str, Table, u64, &[u64])| {
+    let full = |(what, table, lines, line): (&str, Table, u64, &[u64])| {
         let mut lent = Lent::of(&chart, Layout::Plain);
         lent.lengthen(table, lines, line).expect("there is room for more lines");
-        Case::of(about, lent)
+        Case::of(format!("{lines} {what}"), lent)
     };
     tables.map(full).into()
 }
@@ -120,7 +128,10 @@ fn near_misses_of_sample() -> Vec<Case> {
 
 fn generated(seed: u64) -> Case {
     let mut random = Random::seeded(seed);
-    let flavour = Flavour::any(&mut random);
+    let flavour = match seed % ONE_LARGE_OF {
+        0 => Flavour::large(&mut random),
+        _ => Flavour::any(&mut random),
+    };
     let chart = generate::chart(&mut random, flavour);
     Case::of(format!("a generated chart, seed {seed}"), Lent::of(&chart, Layout::Mixed(random)))
 }

@@ -1,7 +1,7 @@
 //! What the texts for the programs share: how numbers and names are spelt, what stands in the
 //! buffers, sums, and ways to change a cell.
 
-use crate::limits::NONE;
+use crate::limits::{MAX_COMPILED, MAX_SLOTS, NONE, SLOT_BYTES};
 
 // Spelling
 
@@ -37,8 +37,10 @@ pub fn spell_slots<'a>(slots: impl Iterator<Item = &'a [u8]>) -> String {
 /// The places are lent from here on in buffers of these lengths, so that something stands before
 /// and behind them.
 pub const GUARD: usize = 8;
-pub const BUFFER_WORDS: usize = 20_480;
-pub const BUFFER_BYTES: usize = 12_544;
+pub const BUFFER_WORDS: usize = MAX_COMPILED + MORE;
+pub const BUFFER_BYTES: usize = SLOT_BYTES * MAX_SLOTS as usize + MORE;
+/// More than the greatest chart needs.
+const MORE: usize = 256;
 /// What stands in the buffers before they are written: each word and each byte another.
 const FILLER: u64 = 0xa5a5_a5a5_a5a5_a5a5;
 

@@ -17,13 +17,17 @@ use crate::session::{watch_nothing, Session};
 use crate::session_damage;
 use crate::story;
 
-/// How many small generated charts there are, and how many of any size.
+/// How many small generated charts there are, how many of any size, and how many large ones.
 const SMALL: usize = 220;
-const LARGE: u64 = 12;
-/// The first seed of those of any size, and of the lists with 8 and 9.
+const ANY_SIZE: u64 = 12;
+const LARGE: u64 = 6;
+/// The first seed of those of any size, of the large ones, and of the lists with 8 and 9.
 const FIRST_SEED: u64 = 10_000_000;
+const LARGE_SEED: u64 = 12_000_000;
 const REFUSED_SEED: u64 = 11_000_000;
 const REFUSED: u64 = 40;
+/// The last so many of the lists with 8 and 9 are of large charts.
+const LARGE_REFUSED: u64 = 2;
 
 /// Regions, and actions of the parallel above them, so that the round that enters them has 512 entries,
 /// 513 and 551: as many as the library drafts, and more.
@@ -33,7 +37,8 @@ pub fn lists() -> Vec<Line> {
     let mut lines = story();
     lines.extend(LONG.into_iter().flat_map(|(regions, more)| long_round(regions, more)));
     lines.extend(examples().into_iter().flat_map(played));
-    lines.extend((FIRST_SEED..FIRST_SEED + LARGE).flat_map(of_any_size));
+    lines.extend((FIRST_SEED..FIRST_SEED + ANY_SIZE).flat_map(|seed| generated(seed, Flavour::any)));
+    lines.extend((LARGE_SEED..LARGE_SEED + LARGE).flat_map(|seed| generated(seed, Flavour::large)));
     lines.extend((REFUSED_SEED..REFUSED_SEED + REFUSED).flat_map(refused));
     lines
 }
@@ -42,7 +47,7 @@ pub fn lists() -> Vec<Line> {
 fn examples() -> Vec<Example> {
     let readings =
         readings::all().into_iter().flatten().filter(|example| example.spelt.names.len() % SLOT_BYTES == 0);
-    let others = by_hand::all().into_iter().chain(examples::by_hand()).chain(at_limits::all());
+    let others = by_hand::all().into_iter().chain(examples::by_hand()).chain(at_limits::small()).chain(at_limits::large());
     let others = others.chain(examples::generated(SMALL)).filter(|example| !example.calls.is_empty());
     readings.chain(others).collect()
 }
@@ -83,21 +88,26 @@ fn long_round(regions: usize, more: usize) -> Vec<Line> {
     lines
 }
 
-fn of_any_size(seed: u64) -> Vec<Line> {
+fn generated(seed: u64, flavour: fn(&mut Random) -> Flavour) -> Vec<Line> {
     let mut random = Random::seeded(seed);
-    let flavour = Flavour::any(&mut random);
+    let flavour = flavour(&mut random);
     let chart = generate::chart(&mut random, flavour);
     let calls = CallMaker::new(&mut random, &chart).calls(3);
-    let about = format!("a generated chart of any size, seed {seed}");
+    let about = format!("a generated chart of {} rows, seed {seed}", chart.rows.len());
     let Lent { spelt, .. } = Lent::of(&chart, Layout::Mixed(random));
-    played(Example::of_tables("of_any_size", &about, spelt, calls))
+    played(Example::of_tables("generated", &about, spelt, calls))
 }
 
 /// A list of calls in which now and then the session or the compiled chart is changed for one call.
 fn refused(seed: u64) -> Vec<Line> {
     let mut random = Random::seeded(seed);
-    let rows = random.between(3, 9);
-    let flavour = Flavour::with_rows(&mut random, rows);
+    let flavour = match seed < REFUSED_SEED + REFUSED - LARGE_REFUSED {
+        true => {
+            let rows = random.between(3, 9);
+            Flavour::with_rows(&mut random, rows)
+        }
+        false => Flavour::large(&mut random),
+    };
     let chart = generate::chart(&mut random, flavour);
     let lent = Lent::of(&chart, Layout::Plain);
     let places = compile(&lent.spelt.numbers, &lent.spelt.names, lent.place).expect("the chart is accepted");

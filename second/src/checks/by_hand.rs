@@ -118,10 +118,12 @@ fn letter_case() -> Found {
     wrote(&example, 4, &[(2, 0), (4, 1)])
 }
 
-/// The chart of 64 rows comes first; its first slot is no name.
 fn limits_are_kept() -> Found {
-    let verdicts: Vec<u64> = at_limits::all().iter().map(|example| example.verdict).collect();
-    ensure(verdicts == [2, 0, 0, 0, 0, 0], &format!("{verdicts:?}"))?;
+    for example in at_limits::small().iter().chain(&at_limits::large()) {
+        ensure(example.verdict == 0, &format!("{}: {}", example.name, example.verdict))?;
+        let refused = example.dumps.iter().any(|dump| (1..=11).contains(&dump.answer_and_rounds[0]));
+        ensure(!refused, &format!("{}: a call is refused", example.name))?;
+    }
     let fits: Vec<bool> = at_limits::headers().iter().map(|header| header.fits).collect();
     ensure(fits[..3] == [true, true, false] && fits[3..] == [false; 6], &format!("{fits:?}"))
 }

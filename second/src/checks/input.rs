@@ -29,12 +29,12 @@ pub fn checks() -> Vec<Check> {
         Check::new("input: every wrong length", every_wrong_length),
         Check::new("input: every wrong place", every_wrong_place),
         Check::new("input: lists at their tables' ends", lists_at_ends),
-        Check::new("input: 64 rows are accepted", most_rows),
-        Check::new("input: 128 transitions are accepted", most_transitions),
-        Check::new("input: 192 slots are accepted", most_slots),
+        Check::new("input: 256 rows are accepted", most_rows),
+        Check::new("input: 512 transitions are accepted", most_transitions),
+        Check::new("input: 768 slots are accepted", most_slots),
         Check::new("input: full tables are accepted", full_tables),
         Check::new("input: eight targets and eight actions are accepted", most_targets),
-        Check::new("input: a list of 62 rows is accepted", longest_list),
+        Check::new("input: a list of all rows but two is accepted", longest_list),
         Check::new("input: every byte of every place of an id's slot", every_byte_of_a_slot),
         Check::new("input: every pair of kinds", every_pair_of_kinds),
         Check::new("compiled: every changed cell is refused", compiled_cells),
@@ -89,7 +89,7 @@ fn repeated_numbers() -> Found {
 const LIMITS: [u64; 6] = [MAX_ROWS, MAX_TRANSITIONS, MAX_REFERENCES, MAX_DESCRIPTORS, MAX_ACTIONS, MAX_SLOTS];
 
 fn counts_past_limits() -> Found {
-    ensure(LIMITS == [64, 128, 5_120, 512, 2_560, 192], "the limits are document 01's")?;
+    ensure(LIMITS == [256, 512, 69_632, 2_048, 10_240, 768], "the limits are those of R-8")?;
     let good = encode_plainly(&sample());
     for (count, limit) in LIMITS.iter().enumerate() {
         let mut header = good.numbers[..6].to_vec();
@@ -266,15 +266,16 @@ fn state_rows(count: usize) -> Chart {
 }
 
 fn most_rows() -> Found {
-    for count in [2, 63, 64] {
+    let most = MAX_ROWS as usize;
+    for count in [2, WORD_BITS, WORD_BITS + 1, most - 1, most] {
         expect(&state_rows(count), 0, "rows")?;
     }
-    expect(&state_rows(65), 1, "65 rows")?;
+    expect(&state_rows(most + 1), 1, "a row too many")?;
     expect(&state_rows(1), 3, "one row")
 }
 
 fn most_transitions() -> Found {
-    for (count, rule) in [(0, 0), (128, 0), (129, 1), (200, 1)] {
+    for (count, rule) in [(0, 0), (MAX_TRANSITIONS, 0), (MAX_TRANSITIONS + 1, 1), (2 * MAX_TRANSITIONS, 1)] {
         let mut b = Builder::new();
         b.state("", "s");
         for _ in 0..count {
@@ -286,7 +287,8 @@ fn most_transitions() -> Found {
 }
 
 fn most_slots() -> Found {
-    for (count, rule) in [(192, 0), (193, 1), (256, 1)] {
+    let most = MAX_SLOTS as usize;
+    for (count, rule) in [(most, 0), (most + 1, 1), (2 * most, 1)] {
         let mut chart = state_rows(2);
         chart.names.resize(count, slot_of(b"unused"));
         expect(&chart, rule, "slots")?;
@@ -328,16 +330,16 @@ fn most_targets() -> Found {
     Ok(())
 }
 
-/// "rule 4 lets one list hold up to 62 of 64 rows".
+/// Rule 4 lets one list hold all rows but the root and a parallel.
 fn longest_list() -> Found {
     let mut b = Builder::new();
     b.parallel("", "p");
-    let ids: Vec<String> = (0..62).map(|region| format!("r{region}")).collect();
+    let ids: Vec<String> = (0..MAX_ROWS - 2).map(|region| format!("r{region}")).collect();
     for id in &ids {
         b.state("p", id);
     }
     b.list("", &ids.join(" "), &[]);
-    expect(&b.chart(), 0, "a list of 62 rows")
+    expect(&b.chart(), 0, "the longest list")
 }
 
 fn every_byte_of_a_slot() -> Found {
