@@ -1,10 +1,20 @@
 /* The builder: what it fills in, and what it reports. */
 #include "test.h"
 
-static uint64_t numbers[AUTTERVIL_NUMBERS_CELLS(64, 128, 5120, 512, 2560)];
-static uint8_t names[AUTTERVIL_NAMES_BYTES(192)];
-static uint64_t place[AUTTERVIL_COMPILED_CELLS(64, 128, 5120, 512, 2560)];
-static uint8_t name_place[AUTTERVIL_NAMES_BYTES(192)];
+/* As much of everything as a chart may have. */
+enum {
+    ROWS = AUTTERVIL_MOST_ROWS,
+    TRANSITIONS = AUTTERVIL_MOST_TRANSITIONS,
+    REFERENCES = AUTTERVIL_MOST_REFERENCES,
+    DESCRIPTORS = AUTTERVIL_MOST_DESCRIPTORS,
+    ACTIONS = AUTTERVIL_MOST_ACTIONS,
+    NAMES = AUTTERVIL_MOST_NAMES
+};
+
+static uint64_t numbers[AUTTERVIL_NUMBERS_CELLS(ROWS, TRANSITIONS, REFERENCES, DESCRIPTORS, ACTIONS)];
+static uint8_t names[AUTTERVIL_NAMES_BYTES(NAMES)];
+static uint64_t place[AUTTERVIL_COMPILED_CELLS(ROWS, TRANSITIONS, REFERENCES, DESCRIPTORS, ACTIONS)];
+static uint8_t name_place[AUTTERVIL_NAMES_BYTES(NAMES)];
 static auttervil_builder b;
 static auttervil_tables tables;
 
@@ -63,7 +73,7 @@ static void fits_exactly(void)
     memcpy(name_place, names, sizeof names);
     memcpy(place, numbers, 8 * tables.cells);
     /* With more room than is used the tables are the same, and the cells behind them are not looked at. */
-    small_chart(counts(64, 128, 5120, 512, 2560, 192));
+    small_chart(counts(ROWS, TRANSITIONS, REFERENCES, DESCRIPTORS, ACTIONS, NAMES));
     CHECK(ends_with(AUTTERVIL_FAULT_NONE, NULL));
     CHECK(memcmp(place, numbers, 8 * tables.cells) == 0 && memcmp(name_place, names, tables.bytes) == 0);
     CHECK(compile() == AUTTERVIL_DONE);
@@ -227,9 +237,15 @@ static void arrays(void)
     CHECK(begins(most, numbers, cells, (uint8_t *)numbers + 8 * cells, 320));
     CHECK(!begins(most, numbers, SIZE_MAX, names, 320));
     CHECK(!begins(counts(0, 0, 0, 0, 0, 0), numbers, cells, names, 320));
-    CHECK(!begins(counts(65, 0, 0, 0, 0, 0), numbers, COUNT(numbers), names, 320));
+    CHECK(begins(counts(ROWS, TRANSITIONS, REFERENCES, DESCRIPTORS, ACTIONS, NAMES), numbers, COUNT(numbers), names, COUNT(names)));
+    CHECK(!begins(counts(ROWS + 1, 0, 0, 0, 0, 0), numbers, COUNT(numbers), names, 320));
+    CHECK(!begins(counts(1, TRANSITIONS + 1, 0, 0, 0, 0), numbers, COUNT(numbers), names, 320));
+    CHECK(!begins(counts(1, 0, REFERENCES + 1, 0, 0, 0), numbers, COUNT(numbers), names, 320));
+    CHECK(!begins(counts(1, 0, 0, DESCRIPTORS + 1, 0, 0), numbers, COUNT(numbers), names, 320));
+    CHECK(!begins(counts(1, 0, 0, 0, ACTIONS + 1, 0), numbers, COUNT(numbers), names, 320));
     CHECK(!begins(counts(SIZE_MAX / 8, 0, 0, 0, 0, 0), numbers, COUNT(numbers), names, 320));
-    CHECK(!begins(counts(1, 0, 0, 0, 0, 193), numbers, COUNT(numbers), names, COUNT(names)));
+    CHECK(begins(counts(1, 0, 0, 0, 0, NAMES), place, COUNT(place), (uint8_t *)numbers, sizeof numbers));
+    CHECK(!begins(counts(1, 0, 0, 0, 0, NAMES + 1), place, COUNT(place), (uint8_t *)numbers, sizeof numbers));
     CHECK(begins(counts(1, 0, 0, 0, 0, 0), numbers, 17, NULL, 0));
     auttervil_begin(NULL, most, numbers, cells, names, 320);
     auttervil_add_row(NULL, AUTTERVIL_KIND_STATE, NULL, "x");
@@ -271,34 +287,73 @@ static void no_names(void)
     CHECK(ends_with(AUTTERVIL_FAULT_NONE, NULL) && AUTTERVIL_COMPILE(&tables, root).answer == AUTTERVIL_TREE);
 }
 
-/* As many rows and transitions as a chart may have. */
+/* So many states, beside the root. */
+static void add_states(int count)
+{
+    char id[16];
+    int i;
+    for (i = 1; i <= count; i++) {
+        snprintf(id, sizeof id, "s%d", i);
+        auttervil_add_row(&b, AUTTERVIL_KIND_STATE, NULL, id);
+    }
+}
+
+/* As many rows, transitions and names as a chart may have, and one more of each. */
 static void at_the_limits(void)
 {
+    const auttervil_counts most = counts(ROWS, TRANSITIONS, TRANSITIONS, TRANSITIONS, TRANSITIONS, NAMES);
     char id[16], next[16];
     auttervil_compiled compiled;
+    static auttervil_session session;
+    static uint32_t trace[8];
     int i;
-    begin_with(counts(64, 128, 128, 128, 128, 192));
-    for (i = 1; i < 64; i++) {
-        snprintf(id, sizeof id, "s%d", i);
-        auttervil_add_row(&b, AUTTERVIL_KIND_STATE, NULL, id);
-    }
-    for (i = 127; i >= 0; i--) {
-        snprintf(id, sizeof id, "s%d", i % 63 + 1);
-        snprintf(next, sizeof next, "s%d", (i + 1) % 63 + 1);
+    begin_with(most);
+    add_states(ROWS - 1);
+    for (i = TRANSITIONS - 1; i >= 0; i--) {
+        snprintf(id, sizeof id, "s%d", i % (ROWS - 1) + 1);
+        snprintf(next, sizeof next, "s%d", (i + ROWS - 2) % (ROWS - 1) + 1);
         auttervil_add_transition(&b, id, "go", next);
-        auttervil_add_host(&b, (uint64_t)i);
+        if (i < NAMES - ROWS) {
+            snprintf(id, sizeof id, "n%d", i);
+            auttervil_add_raise(&b, id);
+        }
     }
-    CHECK(auttervil_finish(&b, &tables) == AUTTERVIL_FAULT_NONE);
+    CHECK(auttervil_finish(&b, &tables) == AUTTERVIL_FAULT_NONE && tables.bytes == AUTTERVIL_NAMES_BYTES(NAMES));
     compiled = auttervil_compile(&tables, place, COUNT(place), name_place, COUNT(name_place));
-    CHECK(compiled.answer == AUTTERVIL_DONE && auttervil_transition_count(&compiled.chart) == 128);
-    for (i = 1; i < 128; i++)
+    CHECK(compiled.answer == AUTTERVIL_DONE && auttervil_row_count(&compiled.chart) == ROWS && auttervil_transition_count(&compiled.chart) == TRANSITIONS);
+    for (i = 1; i < TRANSITIONS; i++)
         CHECK(auttervil_transition_source(&compiled.chart, (uint64_t)i - 1) <= auttervil_transition_source(&compiled.chart, (uint64_t)i));
-    begin_with(counts(64, 128, 128, 128, 128, 192));
-    for (i = 1; i < 65; i++) {
-        snprintf(id, sizeof id, "s%d", i);
-        auttervil_add_row(&b, AUTTERVIL_KIND_STATE, NULL, id);
+    /* From the first state to the last one, whose row is the last of a set. */
+    CHECK(auttervil_start(&session, &compiled.chart, trace, COUNT(trace)).answer == AUTTERVIL_DONE);
+    CHECK(auttervil_post_text(&session, &compiled.chart, "go") == AUTTERVIL_DONE);
+    CHECK(auttervil_run(&session, &compiled.chart, 1, trace, COUNT(trace)).rounds == 1);
+    CHECK(auttervil_is_active(&session, ROWS - 1) && !auttervil_is_active(&session, 1) && !auttervil_is_active(&session, ROWS));
+    begin_with(most);
+    add_states(ROWS);
+    snprintf(id, sizeof id, "s%d", ROWS);
+    CHECK(ends_with(AUTTERVIL_FAULT_ROWS, id));
+    begin_with(most);
+    add_states(1);
+    for (i = 0; i <= TRANSITIONS; i++)
+        auttervil_add_transition(&b, "s1", "go", NULL);
+    CHECK(ends_with(AUTTERVIL_FAULT_TRANSITIONS, "s1"));
+    begin_with(counts(ROWS, TRANSITIONS, TRANSITIONS, TRANSITIONS, ACTIONS, NAMES));
+    add_states(1);
+    auttervil_add_entry(&b, "s1");
+    for (i = 1; i <= NAMES; i++) {
+        snprintf(id, sizeof id, "n%d", i);
+        auttervil_add_raise(&b, id);
     }
-    CHECK(ends_with(AUTTERVIL_FAULT_ROWS, "s64"));
+    snprintf(id, sizeof id, "n%d", NAMES);
+    CHECK(ends_with(AUTTERVIL_FAULT_NAMES, id));
+}
+
+/* The limits of docs/tables.md, and the sizes of the greatest chart. */
+static void limits(void)
+{
+    CHECK(ROWS == 256 && TRANSITIONS == 512 && NAMES == 768);
+    CHECK(REFERENCES == 256 * 256 + 512 * 8 && DESCRIPTORS == 512 * 4 && ACTIONS == (256 * 3 + 512) * 8);
+    CHECK(COUNT(numbers) == 120070 && COUNT(place) == 126214 && COUNT(names) == 49152);
 }
 
 int main(void)
@@ -312,5 +367,6 @@ int main(void)
     unbegun();
     no_names();
     at_the_limits();
+    limits();
     return report();
 }

@@ -231,7 +231,7 @@ static void reading(void)
     CHECK(auttervil_transition_event(&a.chart, 0, 1) == NULL && auttervil_transition_event(&a.chart, 9, 0) == NULL);
     CHECK(strcmp(auttervil_transition_event(&door.chart, 3, 1), "push.*") == 0);
     CHECK(auttervil_name(&a.chart, 14) == NULL && auttervil_name(NULL, 0) == NULL);
-    CHECK(!auttervil_is_active(&a.session, 256) && !auttervil_is_active(NULL, 1) && !auttervil_has_stored(&a.session, UINT64_MAX, 1));
+    CHECK(!auttervil_is_active(&a.session, AUTTERVIL_MOST_ROWS) && !auttervil_is_active(NULL, 1) && !auttervil_has_stored(&a.session, UINT64_MAX, 1));
     for (number = 0; number < 200; number++)
         if (strcmp(auttervil_strstatus(number), "no answer of this library") == 0)
             unknown++;

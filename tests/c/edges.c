@@ -147,7 +147,7 @@ static void changed(const lent *l, enum side side, size_t times)
 {
     static lent c;
     static auttervil_session session;
-    static const uint64_t great[] = {0, 1, 63, 64, 128, 192, 5120, 65535, 65536, UINT64_C(1) << 32, UINT64_MAX / 64, UINT64_MAX};
+    static const uint64_t great[] = {0, 1, 63, 64, AUTTERVIL_MOST_ROWS, AUTTERVIL_MOST_TRANSITIONS, AUTTERVIL_MOST_NAMES, AUTTERVIL_MOST_REFERENCES, 65535, 65536, UINT64_C(1) << 32, UINT64_MAX / 64, UINT64_MAX};
     int listed = 1;
     for (; times > 0; times--) {
         auttervil_tables tables;
