@@ -287,10 +287,12 @@ static void no_names(void)
     CHECK(ends_with(AUTTERVIL_FAULT_NONE, NULL) && AUTTERVIL_COMPILE(&tables, root).answer == AUTTERVIL_TREE);
 }
 
+/* The builder may keep a pointer to it as the culprit. */
+static char id[16];
+
 /* So many states, beside the root. */
 static void add_states(int count)
 {
-    char id[16];
     int i;
     for (i = 1; i <= count; i++) {
         snprintf(id, sizeof id, "s%d", i);
@@ -302,7 +304,7 @@ static void add_states(int count)
 static void at_the_limits(void)
 {
     const auttervil_counts most = counts(ROWS, TRANSITIONS, TRANSITIONS, TRANSITIONS, TRANSITIONS, NAMES);
-    char id[16], next[16];
+    char next[16];
     auttervil_compiled compiled;
     static auttervil_session session;
     static uint32_t trace[8];
@@ -330,8 +332,7 @@ static void at_the_limits(void)
     CHECK(auttervil_is_active(&session, ROWS - 1) && !auttervil_is_active(&session, 1) && !auttervil_is_active(&session, ROWS));
     begin_with(most);
     add_states(ROWS);
-    snprintf(id, sizeof id, "s%d", ROWS);
-    CHECK(ends_with(AUTTERVIL_FAULT_ROWS, id));
+    CHECK(ends_with(AUTTERVIL_FAULT_ROWS, "s256"));
     begin_with(most);
     add_states(1);
     for (i = 0; i <= TRANSITIONS; i++)
@@ -344,8 +345,7 @@ static void at_the_limits(void)
         snprintf(id, sizeof id, "n%d", i);
         auttervil_add_raise(&b, id);
     }
-    snprintf(id, sizeof id, "n%d", NAMES);
-    CHECK(ends_with(AUTTERVIL_FAULT_NAMES, id));
+    CHECK(ends_with(AUTTERVIL_FAULT_NAMES, "n768"));
 }
 
 /* The limits of docs/tables.md, and the sizes of the greatest chart. */
