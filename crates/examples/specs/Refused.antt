@@ -2166,3 +2166,146 @@ names-139 = joined (slotOf (115 ∷ []) ∷ slotOf (97 ∷ []) ∷ slotOf (98 �
 example-139 : alike (played numbers-139 names-139 []) ((5 ∷ []) ∷ []) ≡ true
 unfolding everything joined historyShown queueShown shown playedIf played alike
 example-139 = refl
+
+-- eventless without targets, in itself
+abbrev numbers-140 : List ℕ
+numbers-140 = 2 ∷ 2 ∷ 1 ∷ 2 ∷ 2 ∷ 3 ∷ 0 ∷ 65535 ∷ 65535 ∷ 0 ∷ 0 ∷ 0 ∷ 0 ∷ 0 ∷ 0 ∷ 0 ∷ 0 ∷ 1 ∷ 0 ∷ 0 ∷ 0 ∷ 0 ∷ 0 ∷ 0 ∷
+    0 ∷ 0 ∷ 0 ∷ 0 ∷ 1 ∷ 0 ∷ 2 ∷ 65535 ∷ 0 ∷ 0 ∷ 1 ∷ 0 ∷ 2 ∷ 1 ∷ 0 ∷ 0 ∷ 1 ∷ 0 ∷ 0 ∷ 0 ∷ 0 ∷ 0 ∷ 1 ∷ 1 ∷ 2 ∷ 0 ∷ 1 ∷ 0 ∷
+    0 ∷ 1 ∷ 1 ∷ 0 ∷ 0 ∷ []
+
+abbrev names-140 : List ℕ
+names-140 = joined (slotOf (115 ∷ []) ∷ slotOf (101 ∷ []) ∷ slotOf (42 ∷ []) ∷ [])
+
+example-140 : alike (played numbers-140 names-140 []) ((5 ∷ []) ∷ []) ≡ true
+unfolding everything joined historyShown queueShown shown playedIf played alike
+example-140 = refl
+
+-- eventless without targets, in another row
+abbrev numbers-141 : List ℕ
+numbers-141 = 2 ∷ 2 ∷ 1 ∷ 2 ∷ 2 ∷ 3 ∷ 0 ∷ 65535 ∷ 65535 ∷ 0 ∷ 0 ∷ 0 ∷ 0 ∷ 0 ∷ 0 ∷ 0 ∷ 0 ∷ 1 ∷ 0 ∷ 0 ∷ 0 ∷ 0 ∷ 0 ∷ 0 ∷
+    0 ∷ 0 ∷ 0 ∷ 0 ∷ 1 ∷ 0 ∷ 2 ∷ 65535 ∷ 0 ∷ 0 ∷ 1 ∷ 0 ∷ 2 ∷ 1 ∷ 0 ∷ 0 ∷ 1 ∷ 0 ∷ 0 ∷ 0 ∷ 0 ∷ 0 ∷ 1 ∷ 1 ∷ 2 ∷ 0 ∷ 1 ∷ 0 ∷
+    0 ∷ 1 ∷ 1 ∷ 0 ∷ 0 ∷ []
+
+abbrev names-141 : List ℕ
+names-141 = joined (slotOf (115 ∷ []) ∷ slotOf (101 ∷ []) ∷ slotOf (42 ∷ []) ∷ [])
+
+example-141 : alike (played numbers-141 names-141 []) ((5 ∷ []) ∷ []) ≡ true
+unfolding everything joined historyShown queueShown shown playedIf played alike
+example-141 = refl
+
+-- eventless without targets, with condition and block
+abbrev numbers-142 : List ℕ
+numbers-142 = 2 ∷ 2 ∷ 1 ∷ 2 ∷ 3 ∷ 3 ∷ 0 ∷ 65535 ∷ 65535 ∷ 0 ∷ 0 ∷ 0 ∷ 0 ∷ 0 ∷ 0 ∷ 0 ∷ 0 ∷ 1 ∷ 0 ∷ 0 ∷ 0 ∷ 0 ∷ 0 ∷ 0 ∷
+    0 ∷ 0 ∷ 0 ∷ 0 ∷ 1 ∷ 0 ∷ 2 ∷ 65535 ∷ 0 ∷ 0 ∷ 1 ∷ 0 ∷ 2 ∷ 1 ∷ 0 ∷ 0 ∷ 1 ∷ 0 ∷ 0 ∷ 0 ∷ 2 ∷ 1 ∷ 1 ∷ 1 ∷ 2 ∷ 0 ∷ 1 ∷ 0 ∷
+    0 ∷ 1 ∷ 1 ∷ 0 ∷ 0 ∷ 1 ∷ 7 ∷ 0 ∷ 0 ∷ []
+
+abbrev names-142 : List ℕ
+names-142 = joined (slotOf (115 ∷ []) ∷ slotOf (101 ∷ []) ∷ slotOf (42 ∷ []) ∷ [])
+
+example-142 : alike (played numbers-142 names-142 []) ((5 ∷ []) ∷ []) ≡ true
+unfolding everything joined historyShown queueShown shown playedIf played alike
+example-142 = refl
+
+-- eventless without targets, internal
+abbrev numbers-143 : List ℕ
+numbers-143 = 2 ∷ 2 ∷ 1 ∷ 2 ∷ 2 ∷ 3 ∷ 0 ∷ 65535 ∷ 65535 ∷ 0 ∷ 0 ∷ 0 ∷ 0 ∷ 0 ∷ 0 ∷ 0 ∷ 0 ∷ 1 ∷ 0 ∷ 0 ∷ 0 ∷ 0 ∷ 0 ∷ 0 ∷
+    0 ∷ 0 ∷ 0 ∷ 0 ∷ 1 ∷ 0 ∷ 2 ∷ 65535 ∷ 0 ∷ 0 ∷ 1 ∷ 0 ∷ 2 ∷ 1 ∷ 0 ∷ 0 ∷ 1 ∷ 1 ∷ 0 ∷ 0 ∷ 0 ∷ 0 ∷ 1 ∷ 1 ∷ 2 ∷ 0 ∷ 1 ∷ 0 ∷
+    0 ∷ 1 ∷ 1 ∷ 0 ∷ 0 ∷ []
+
+abbrev names-143 : List ℕ
+names-143 = joined (slotOf (115 ∷ []) ∷ slotOf (101 ∷ []) ∷ slotOf (42 ∷ []) ∷ [])
+
+example-143 : alike (played numbers-143 names-143 []) ((5 ∷ []) ∷ []) ≡ true
+unfolding everything joined historyShown queueShown shown playedIf played alike
+example-143 = refl
+
+-- eventless to itself
+abbrev numbers-144 : List ℕ
+numbers-144 = 2 ∷ 2 ∷ 2 ∷ 2 ∷ 2 ∷ 3 ∷ 0 ∷ 65535 ∷ 65535 ∷ 0 ∷ 0 ∷ 0 ∷ 0 ∷ 0 ∷ 0 ∷ 0 ∷ 0 ∷ 1 ∷ 0 ∷ 0 ∷ 0 ∷ 0 ∷ 0 ∷ 0 ∷
+    0 ∷ 0 ∷ 0 ∷ 0 ∷ 1 ∷ 0 ∷ 2 ∷ 65535 ∷ 0 ∷ 0 ∷ 1 ∷ 0 ∷ 2 ∷ 1 ∷ 0 ∷ 0 ∷ 65535 ∷ 0 ∷ 1 ∷ 1 ∷ 0 ∷ 0 ∷ 1 ∷ 1 ∷ 1 ∷ 2 ∷ 0 ∷
+    1 ∷ 0 ∷ 0 ∷ 1 ∷ 1 ∷ 0 ∷ 0 ∷ []
+
+abbrev names-144 : List ℕ
+names-144 = joined (slotOf (115 ∷ []) ∷ slotOf (101 ∷ []) ∷ slotOf (42 ∷ []) ∷ [])
+
+example-144 : alike (played numbers-144 names-144 []) ((5 ∷ []) ∷ []) ≡ true
+unfolding everything joined historyShown queueShown shown playedIf played alike
+example-144 = refl
+
+-- eventless to itself, a parallel
+abbrev numbers-145 : List ℕ
+numbers-145 = 4 ∷ 1 ∷ 1 ∷ 0 ∷ 0 ∷ 4 ∷ 0 ∷ 65535 ∷ 65535 ∷ 0 ∷ 0 ∷ 0 ∷ 0 ∷ 0 ∷ 0 ∷ 0 ∷ 0 ∷ 2 ∷ 0 ∷ 0 ∷ 0 ∷ 0 ∷ 0 ∷ 0 ∷
+    0 ∷ 0 ∷ 0 ∷ 0 ∷ 1 ∷ 1 ∷ 1 ∷ 0 ∷ 0 ∷ 0 ∷ 0 ∷ 0 ∷ 0 ∷ 0 ∷ 0 ∷ 1 ∷ 1 ∷ 2 ∷ 0 ∷ 0 ∷ 0 ∷ 0 ∷ 0 ∷ 0 ∷ 0 ∷ 0 ∷ 1 ∷ 0 ∷ 0 ∷
+    65535 ∷ 0 ∷ 0 ∷ 1 ∷ 0 ∷ 0 ∷ 1 ∷ []
+
+abbrev names-145 : List ℕ
+names-145 = joined (slotOf (112 ∷ []) ∷ slotOf (97 ∷ []) ∷ slotOf (98 ∷ []) ∷ slotOf (101 ∷ []) ∷ [])
+
+example-145 : alike (played numbers-145 names-145 []) ((5 ∷ []) ∷ []) ≡ true
+unfolding everything joined historyShown queueShown shown playedIf played alike
+example-145 = refl
+
+-- eventless to itself, internal
+abbrev numbers-146 : List ℕ
+numbers-146 = 2 ∷ 2 ∷ 2 ∷ 2 ∷ 2 ∷ 3 ∷ 0 ∷ 65535 ∷ 65535 ∷ 0 ∷ 0 ∷ 0 ∷ 0 ∷ 0 ∷ 0 ∷ 0 ∷ 0 ∷ 1 ∷ 0 ∷ 0 ∷ 0 ∷ 0 ∷ 0 ∷ 0 ∷
+    0 ∷ 0 ∷ 0 ∷ 0 ∷ 1 ∷ 0 ∷ 2 ∷ 65535 ∷ 0 ∷ 0 ∷ 1 ∷ 0 ∷ 2 ∷ 1 ∷ 0 ∷ 0 ∷ 65535 ∷ 1 ∷ 1 ∷ 1 ∷ 0 ∷ 0 ∷ 1 ∷ 1 ∷ 1 ∷ 2 ∷ 0 ∷
+    1 ∷ 0 ∷ 0 ∷ 1 ∷ 1 ∷ 0 ∷ 0 ∷ []
+
+abbrev names-146 : List ℕ
+names-146 = joined (slotOf (115 ∷ []) ∷ slotOf (101 ∷ []) ∷ slotOf (42 ∷ []) ∷ [])
+
+example-146 : alike (played numbers-146 names-146 []) ((5 ∷ []) ∷ []) ≡ true
+unfolding everything joined historyShown queueShown shown playedIf played alike
+example-146 = refl
+
+-- eventless to itself, a compound state, internal
+abbrev numbers-147 : List ℕ
+numbers-147 = 4 ∷ 2 ∷ 2 ∷ 1 ∷ 0 ∷ 4 ∷ 0 ∷ 65535 ∷ 65535 ∷ 0 ∷ 0 ∷ 0 ∷ 0 ∷ 0 ∷ 0 ∷ 0 ∷ 0 ∷ 1 ∷ 0 ∷ 0 ∷ 0 ∷ 0 ∷ 0 ∷ 0 ∷
+    0 ∷ 0 ∷ 0 ∷ 0 ∷ 1 ∷ 1 ∷ 1 ∷ 0 ∷ 0 ∷ 0 ∷ 0 ∷ 0 ∷ 0 ∷ 0 ∷ 0 ∷ 1 ∷ 1 ∷ 2 ∷ 0 ∷ 0 ∷ 0 ∷ 0 ∷ 0 ∷ 0 ∷ 0 ∷ 0 ∷ 1 ∷ 0 ∷ 1 ∷
+    65535 ∷ 0 ∷ 0 ∷ 1 ∷ 0 ∷ 0 ∷ 1 ∷ 0 ∷ 0 ∷ 65535 ∷ 1 ∷ 1 ∷ 1 ∷ 0 ∷ 0 ∷ 3 ∷ 1 ∷ 3 ∷ []
+
+abbrev names-147 : List ℕ
+names-147 = joined (slotOf (115 ∷ []) ∷ slotOf (97 ∷ []) ∷ slotOf (98 ∷ []) ∷ slotOf (101 ∷ []) ∷ [])
+
+example-147 : alike (played numbers-147 names-147 []) ((5 ∷ []) ∷ []) ≡ true
+unfolding everything joined historyShown queueShown shown playedIf played alike
+example-147 = refl
+
+-- eventless to itself and another row
+abbrev numbers-148 : List ℕ
+numbers-148 = 4 ∷ 2 ∷ 3 ∷ 1 ∷ 0 ∷ 4 ∷ 0 ∷ 65535 ∷ 65535 ∷ 0 ∷ 0 ∷ 0 ∷ 0 ∷ 0 ∷ 0 ∷ 0 ∷ 0 ∷ 2 ∷ 0 ∷ 0 ∷ 0 ∷ 0 ∷ 0 ∷ 0 ∷
+    0 ∷ 0 ∷ 0 ∷ 0 ∷ 1 ∷ 1 ∷ 1 ∷ 0 ∷ 0 ∷ 0 ∷ 0 ∷ 0 ∷ 0 ∷ 0 ∷ 0 ∷ 1 ∷ 1 ∷ 2 ∷ 0 ∷ 0 ∷ 0 ∷ 0 ∷ 0 ∷ 0 ∷ 0 ∷ 0 ∷ 2 ∷ 0 ∷ 1 ∷
+    65535 ∷ 0 ∷ 0 ∷ 1 ∷ 0 ∷ 0 ∷ 3 ∷ 0 ∷ 0 ∷ 65535 ∷ 0 ∷ 1 ∷ 2 ∷ 0 ∷ 0 ∷ 3 ∷ 3 ∷ 2 ∷ 3 ∷ []
+
+abbrev names-148 : List ℕ
+names-148 = joined (slotOf (112 ∷ []) ∷ slotOf (97 ∷ []) ∷ slotOf (98 ∷ []) ∷ slotOf (101 ∷ []) ∷ [])
+
+example-148 : alike (played numbers-148 names-148 []) ((5 ∷ []) ∷ []) ≡ true
+unfolding everything joined historyShown queueShown shown playedIf played alike
+example-148 = refl
+
+-- eventless to another row and itself
+abbrev numbers-149 : List ℕ
+numbers-149 = 4 ∷ 2 ∷ 3 ∷ 1 ∷ 0 ∷ 4 ∷ 0 ∷ 65535 ∷ 65535 ∷ 0 ∷ 0 ∷ 0 ∷ 0 ∷ 0 ∷ 0 ∷ 0 ∷ 0 ∷ 2 ∷ 0 ∷ 0 ∷ 0 ∷ 0 ∷ 0 ∷ 0 ∷
+    0 ∷ 0 ∷ 0 ∷ 0 ∷ 1 ∷ 1 ∷ 1 ∷ 0 ∷ 0 ∷ 0 ∷ 0 ∷ 0 ∷ 0 ∷ 0 ∷ 0 ∷ 1 ∷ 1 ∷ 2 ∷ 0 ∷ 0 ∷ 0 ∷ 0 ∷ 0 ∷ 0 ∷ 0 ∷ 0 ∷ 2 ∷ 0 ∷ 1 ∷
+    65535 ∷ 0 ∷ 0 ∷ 1 ∷ 0 ∷ 0 ∷ 3 ∷ 0 ∷ 0 ∷ 65535 ∷ 0 ∷ 1 ∷ 2 ∷ 0 ∷ 0 ∷ 3 ∷ 2 ∷ 3 ∷ 3 ∷ []
+
+abbrev names-149 : List ℕ
+names-149 = joined (slotOf (112 ∷ []) ∷ slotOf (97 ∷ []) ∷ slotOf (98 ∷ []) ∷ slotOf (101 ∷ []) ∷ [])
+
+example-149 : alike (played numbers-149 names-149 []) ((5 ∷ []) ∷ []) ≡ true
+unfolding everything joined historyShown queueShown shown playedIf played alike
+example-149 = refl
+
+-- eventless to another row and itself, internal
+abbrev numbers-150 : List ℕ
+numbers-150 = 4 ∷ 2 ∷ 3 ∷ 1 ∷ 0 ∷ 4 ∷ 0 ∷ 65535 ∷ 65535 ∷ 0 ∷ 0 ∷ 0 ∷ 0 ∷ 0 ∷ 0 ∷ 0 ∷ 0 ∷ 2 ∷ 0 ∷ 0 ∷ 0 ∷ 0 ∷ 0 ∷ 0 ∷
+    0 ∷ 0 ∷ 0 ∷ 0 ∷ 1 ∷ 1 ∷ 1 ∷ 0 ∷ 0 ∷ 0 ∷ 0 ∷ 0 ∷ 0 ∷ 0 ∷ 0 ∷ 1 ∷ 1 ∷ 2 ∷ 0 ∷ 0 ∷ 0 ∷ 0 ∷ 0 ∷ 0 ∷ 0 ∷ 0 ∷ 2 ∷ 0 ∷ 1 ∷
+    65535 ∷ 0 ∷ 0 ∷ 1 ∷ 0 ∷ 0 ∷ 3 ∷ 0 ∷ 0 ∷ 65535 ∷ 1 ∷ 1 ∷ 2 ∷ 0 ∷ 0 ∷ 3 ∷ 2 ∷ 3 ∷ 3 ∷ []
+
+abbrev names-150 : List ℕ
+names-150 = joined (slotOf (112 ∷ []) ∷ slotOf (97 ∷ []) ∷ slotOf (98 ∷ []) ∷ slotOf (101 ∷ []) ∷ [])
+
+example-150 : alike (played numbers-150 names-150 []) ((5 ∷ []) ∷ []) ≡ true
+unfolding everything joined historyShown queueShown shown playedIf played alike
+example-150 = refl

@@ -47,7 +47,9 @@ pub fn lists() -> Vec<Line> {
 fn examples() -> Vec<Example> {
     let readings =
         readings::all().into_iter().flatten().filter(|example| example.spelt.names.len() % SLOT_BYTES == 0);
-    let others = by_hand::all().into_iter().chain(examples::by_hand()).chain(at_limits::small()).chain(at_limits::large());
+    let limits = at_limits::small().into_iter().chain(at_limits::large());
+    let others = by_hand::all().into_iter().chain(examples::by_hand()).chain(limits);
+    let others = others.chain(examples::accepted());
     let others = others.chain(examples::generated(SMALL)).filter(|example| !example.calls.is_empty());
     readings.chain(others).collect()
 }
