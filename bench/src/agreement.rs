@@ -5,13 +5,14 @@
 use crate::bridge::{followed, plain};
 use crate::contenders::{Calls, Engine, Follower, Lent};
 use crate::engine::answers::*;
+use crate::engine::limits::{BITS, MOST_ROWS, QUEUE_BYTES, WORDS};
 use crate::engine::{verdict, Session};
 use second::agreement::Trial;
 use second::calls::Call;
 use second::compiled::{compile, needed_place, CompiledChart, Places};
 use second::coverage::Coverage;
 use second::encode::{encode, Layout, Spelt};
-use second::generate::{self, CallMaker};
+use second::generate::{self, CallMaker, LARGE};
 use second::limits::{HEADER_CELLS, NONE, ROW_SET_WORDS};
 use second::near_misses;
 use second::random::Random;
@@ -20,6 +21,8 @@ use second::rules::{self, Place};
 pub type Found = Result<(), String>;
 
 const LISTS: &str = "call lists";
+const LARGE_CHARTS: &str = "charts of more rows than a word has bits";
+const GREATEST_CHARTS: &str = "charts of as many rows as there may be";
 const REFUSED_LISTS: &str = "call lists with a refusal";
 /// Every call with every answer that it can have.
 const ANSWERS: [&str; 17] = [
@@ -46,6 +49,9 @@ const ANSWERS: [&str; 17] = [
 pub fn enough_happened(coverage: &Coverage) -> Found {
     for answer in ANSWERS {
         ensure(coverage.get(answer) > 0, || format!("no {answer} among the calls"))?;
+    }
+    for charts in [LARGE_CHARTS, GREATEST_CHARTS] {
+        ensure(coverage.get(charts) >= 20, || format!("{charts}: only {}", coverage.get(charts)))?;
     }
     let (lists, refused) = (coverage.get(LISTS), coverage.get(REFUSED_LISTS));
     ensure(refused * 4 >= lists, || format!("only {refused} of {lists} call lists have a refusal"))
@@ -121,6 +127,8 @@ impl Comparison<'_> {
         let places = compile(&spelt.numbers, &spelt.names, place).map_err(|rule| rule.to_string())?;
         let compiled = CompiledChart::open(&places.numbers, &places.names).ok_or("a compiled chart opens")?;
         self.coverage.note_if("charts of 40 rows and more", trial.chart.rows.len() >= 40);
+        self.coverage.note_if(LARGE_CHARTS, trial.chart.rows.len() >= LARGE);
+        self.coverage.note_if(GREATEST_CHARTS, trial.chart.rows.len() == MOST_ROWS);
         self.call_list(&places, &trial.calls)?;
         let more = CallMaker::new(&mut self.random, &trial.chart).calls(3);
         self.disturbed_list(&places, &compiled, &more)?;
@@ -333,24 +341,24 @@ impl Comparison<'_> {
 
     fn damage(&mut self, session: &mut Session, rows: usize) {
         let random = &mut self.random;
-        let flip = |words: &mut [u64], row: usize| words[row / 64] ^= 1 << (row % 64);
+        let flip = |words: &mut [u64], row: usize| words[row / BITS] ^= 1 << (row % BITS);
         match random.below(14) {
             0 => session.mode = random.below(4) as u64,
             12 | 13 => {
                 let stored: Vec<usize> =
-                    (0..rows).filter(|row| session.history[4 * row..][..4] != [0; 4]).collect();
+                    (0..rows).filter(|row| session.history[WORDS * row..][..WORDS] != [0; WORDS]).collect();
                 let history = random.pick(&stored).unwrap_or(0);
-                flip(&mut session.history[4 * history..], random.below(rows));
+                flip(&mut session.history[WORDS * history..], random.below(rows));
             }
-            1 | 2 => flip(&mut session.configuration, random.below(rows + 1)),
-            3 => flip(&mut session.configuration, random.below(256)),
-            4 | 5 => flip(&mut session.history[4 * random.below(rows)..], random.below(rows)),
-            6 => flip(&mut session.history, random.below(1024 * 64)),
+            1 | 2 => flip(&mut session.configuration, random.below((rows + 1).min(MOST_ROWS))),
+            3 => flip(&mut session.configuration, random.below(MOST_ROWS)),
+            4 | 5 => flip(&mut session.history[WORDS * random.below(rows)..], random.below(rows)),
+            6 => flip(&mut session.history, random.below(MOST_ROWS * MOST_ROWS)),
             7 => session.internal_count = random.between(0, 40) as u64,
             8 => session.external_count = session.external_count.wrapping_sub(1),
-            9 => session.internal[random.below(2048)] = random.number() as u8,
+            9 => session.internal[random.below(QUEUE_BYTES)] = random.number() as u8,
             10 => session.external[random.below(256)] = *b"\0.*a".get(random.below(4)).unwrap_or(&0),
-            _ => session.configuration = [0; 4],
+            _ => session.configuration = [0; WORDS],
         }
     }
 }

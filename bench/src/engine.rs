@@ -4,6 +4,7 @@
 #![forbid(unsafe_code)]
 
 mod chart;
+pub mod limits;
 mod names;
 mod round;
 mod row_set;

@@ -6,7 +6,7 @@ use crate::calls::Call;
 use crate::compiled::{compile, needed_place, CompiledChart, Places};
 use crate::coverage::Coverage;
 use crate::encode::{encode, Layout, Spelt};
-use crate::generate::{self, CallMaker, Flavour};
+use crate::generate::{self, CallMaker, Flavour, LARGE};
 use crate::invariants::{ensure, run_splits, Found, Seen};
 use crate::legal::{can_be_stored, is_legal};
 use crate::limits::{HISTORY_PLACES, QUEUE_NAMES, ROW_SET_ROWS};
@@ -70,6 +70,7 @@ impl Trial {
     ) -> Result<CompiledChart, String> {
         coverage.note("charts");
         coverage.note_if("charts of 40 rows and more", self.chart.rows.len() >= 40);
+        coverage.note_if("charts of more rows than a word has bits", self.chart.rows.len() >= LARGE);
         let place = needed_place(&spelt.numbers).ok_or("a generated chart is too large")?;
         let places = compile(&spelt.numbers, &spelt.names, place)
             .map_err(|rule| format!("a generated chart breaks rule {rule}"))?;

@@ -58,8 +58,9 @@ pub fn agreement() -> Vec<Check> {
 }
 
 /// What a great run must have met, lest it prove little.
-const MUST_HAPPEN: [&str; 24] = [
+const MUST_HAPPEN: [&str; 25] = [
     "candidates removed by conflicts",
+    "charts of more rows than a word has bits",
     "closing rounds",
     "deep histories restored",
     "default blocks not run, parent not entered",

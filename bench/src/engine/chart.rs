@@ -1,19 +1,10 @@
 //! A compiled chart, read from where it is lent.
 
+use super::limits::*;
 use super::names::{Event, Pattern, Slot, SLOT};
-use super::row_set::{RowSet, WORDS};
+use super::row_set::RowSet;
 use super::rules;
 use std::ops::Range;
-
-pub const MOST_ROWS: usize = 64;
-pub const MOST_TRANSITIONS: usize = 128;
-pub const MOST_NAMES: usize = 192;
-pub const MOST_DESCRIPTORS_EACH: u64 = 4;
-pub const MOST_TARGETS_EACH: u64 = 8;
-pub const MOST_ACTIONS_EACH: u64 = 8;
-const MOST_REFERENCES: usize = MOST_ROWS * MOST_ROWS + MOST_TRANSITIONS * 8;
-const MOST_DESCRIPTORS: usize = MOST_TRANSITIONS * 4;
-const MOST_ACTIONS: usize = (MOST_ROWS * 3 + MOST_TRANSITIONS) * 8;
 
 /// In the columns parent, id and condition.
 pub const NONE: u64 = 65_535;
@@ -230,7 +221,7 @@ pub struct Index {
     /// The rows that have one with a descriptor.
     pub by_event: RowSet,
     /// The transitions of row i are those from number i on to number i + 1.
-    first_transition: [u8; MOST_ROWS + 1],
+    first_transition: [u16; MOST_ROWS + 1],
     patterns: [Pattern; MOST_NAMES],
 }
 
@@ -258,7 +249,7 @@ impl Index {
                 }
                 passed += 1;
             }
-            index.first_transition[row + 1] = passed as u8;
+            index.first_transition[row + 1] = passed as u16;
         }
         index
     }

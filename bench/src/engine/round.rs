@@ -1,9 +1,10 @@
 //! A round, worked out beside the session: nothing is changed before it is known to fit.
 
-use super::chart::{Chart, Part, MOST_ACTIONS_EACH, MOST_ROWS, ROOT};
+use super::chart::{Chart, Part, ROOT};
+use super::limits::QUEUE_NAMES;
 use super::row_set::RowSet;
 use super::selection::{effective_targets, Route, Selection};
-use super::session::{Session, QUEUE_NAMES};
+use super::session::Session;
 
 const EXITED: u32 = 1 << 16;
 const TRANSITION: u32 = 2 << 16;
@@ -12,14 +13,14 @@ const HOST: u32 = 4 << 16;
 const RAISED: u32 = 5 << 16;
 const DONE: u32 = 6 << 16;
 
-const BLOCK: usize = MOST_ACTIONS_EACH as usize;
-/// Each row is exited once, has one transition taken, and is entered once, with its own block, two
-/// more and two done events.
-const MOST_ENTRIES: usize = MOST_ROWS * ((1 + BLOCK) + (1 + BLOCK) + (1 + 3 * BLOCK + 2));
+/// Rounds of so many entries are drafted; a longer one is worked out again where it is to stand.
+pub const DRAFT: usize = 512;
 
-pub struct Round {
-    entries: [u32; MOST_ENTRIES],
-    count: usize,
+pub struct Round<'a> {
+    /// The first entries of the round, as far as there is room for them.
+    entries: &'a mut [u32],
+    /// How many entries the round has.
+    pub count: usize,
     /// How many names join the internal queue, and the entries of those that may find room in it.
     pub queued: usize,
     queue: [u32; QUEUE_NAMES],
@@ -35,10 +36,10 @@ pub enum Queued {
     DoneOf(usize),
 }
 
-impl Round {
-    pub fn blank() -> Round {
+impl Round<'_> {
+    pub fn over(entries: &mut [u32]) -> Round<'_> {
         Round {
-            entries: [0; MOST_ENTRIES],
+            entries,
             count: 0,
             queued: 0,
             queue: [0; QUEUE_NAMES],
@@ -54,9 +55,10 @@ impl Round {
         self.closing = false;
     }
 
+    /// The entries, if there was room for all of them.
     #[inline]
-    pub fn entries(&self) -> &[u32] {
-        &self.entries[..self.count]
+    pub fn entries(&self) -> Option<&[u32]> {
+        self.entries.get(..self.count)
     }
 
     /// The names that join the internal queue, oldest first. There are no more than it can hold.
@@ -115,7 +117,9 @@ impl Round {
 
     #[inline]
     fn push(&mut self, kind: u32, index: usize) {
-        self.entries[self.count] = kind | index as u32;
+        if let Some(place) = self.entries.get_mut(self.count) {
+            *place = kind | index as u32;
+        }
         self.count += 1;
     }
 

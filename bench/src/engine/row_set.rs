@@ -1,9 +1,7 @@
 //! A set of rows in four words: bit i % 64 of word i / 64 says whether row i is in it.
 
+use super::limits::{BITS, WORDS};
 use std::ops::{BitAnd, BitOr, BitOrAssign, Sub};
-
-pub const WORDS: usize = 4;
-const BITS: usize = 64;
 
 #[derive(Clone, Copy, PartialEq, Eq, Debug)]
 pub struct RowSet(pub [u64; WORDS]);

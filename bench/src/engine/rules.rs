@@ -1,6 +1,7 @@
 //! The five rules that a chart keeps, checked in their order over the whole chart.
 
 use super::chart::*;
+use super::limits::*;
 use super::names::{holds_id, holds_name, Pattern};
 use super::row_set::RowSet;
 
@@ -97,7 +98,7 @@ fn named(tables: &Tables) -> Option<[Pattern; MOST_NAMES]> {
 
 /// Every row but the root has an id, and they all differ.
 fn ids_fit(tables: &Tables) -> bool {
-    let mut ids = [0u8; MOST_ROWS];
+    let mut ids = [0u16; MOST_ROWS];
     let ids = &mut ids[..tables.row_count() - 1];
     if tables.row(ROOT).id() != NONE {
         return false;
@@ -107,9 +108,9 @@ fn ids_fit(tables: &Tables) -> bool {
         if name == NONE || !holds_id(&tables.names[name as usize]) {
             return false;
         }
-        *id = name as u8;
+        *id = name as u16;
     }
-    let slot = |id: u8| &tables.names[id as usize];
+    let slot = |id: u16| &tables.names[id as usize];
     ids.sort_unstable_by_key(|&id| slot(id));
     ids.windows(2).all(|pair| slot(pair[0]) != slot(pair[1]))
 }

@@ -1,6 +1,7 @@
 //! Which transitions a round takes.
 
-use super::chart::{Chart, Transition, MOST_ROWS, MOST_TRANSITIONS, NONE, ROOT};
+use super::chart::{Chart, Transition, NONE, ROOT};
+use super::limits::{MOST_ROWS, MOST_TRANSITIONS};
 use super::names::Event;
 use super::row_set::RowSet;
 use super::session::Session;
@@ -8,7 +9,7 @@ use super::session::Session;
 /// A transition that is taken. Without targets it has no domain and exits nothing.
 #[derive(Clone, Copy)]
 pub struct Taken {
-    pub transition: u8,
+    pub transition: u16,
     pub domain: Option<u8>,
 }
 
@@ -63,6 +64,8 @@ pub struct Selection {
     count: usize,
     /// All that they exit.
     pub exits: RowSet,
+    /// The first match of each row that has one in this round; those of other rows are of earlier ones.
+    first_match: [u16; MOST_ROWS],
     routes: [Route; MOST_TRANSITIONS],
 }
 
@@ -70,7 +73,8 @@ impl Selection {
     pub fn none() -> Selection {
         let nothing = Taken { transition: 0, domain: None };
         let routes = [Route::Unknown; MOST_TRANSITIONS];
-        Selection { taken: [nothing; MOST_ROWS], count: 0, exits: RowSet::EMPTY, routes }
+        let first_match = [0; MOST_ROWS];
+        Selection { taken: [nothing; MOST_ROWS], count: 0, exits: RowSet::EMPTY, first_match, routes }
     }
 
     #[inline]
@@ -122,7 +126,6 @@ impl Selection {
         self.clear();
         let configuration = session.configuration();
         let mut matching = RowSet::EMPTY;
-        let mut first_match = [0; MOST_ROWS];
         for row in (configuration & sources).rows() {
             let is_match = |&number: &usize| {
                 let transition = chart.tables.transition(number);
@@ -131,7 +134,7 @@ impl Selection {
             };
             if let Some(number) = chart.transitions_of(row).find(is_match) {
                 matching.insert(row);
-                first_match[row] = number;
+                self.first_match[row] = number as u16;
             }
         }
         let mut chosen = RowSet::EMPTY;
@@ -140,7 +143,7 @@ impl Selection {
             let Some(row) = (climb & matching).last() else { continue };
             if !chosen.contains(row) {
                 chosen.insert(row);
-                self.admit(chart, session, first_match[row]);
+                self.admit(chart, session, self.first_match[row].into());
             }
         }
     }
@@ -156,7 +159,7 @@ impl Selection {
             Route::Fixed { domain, .. } => domain,
             _ => Some(domain_by_history(chart, session, chart.tables.transition(number)) as u8),
         };
-        let candidate = Taken { transition: number as u8, domain };
+        let candidate = Taken { transition: number as u16, domain };
         let exits = candidate.exits(chart, session.configuration());
         if !exits.meets(self.exits) || self.give_way(chart, session.configuration(), number, exits) {
             self.push(candidate, exits);

@@ -2,13 +2,11 @@
 
 use super::answers::*;
 use super::chart::{Chart, ROOT, SHALLOW};
+use super::limits::{MOST_ROWS, QUEUE_BYTES, QUEUE_NAMES, WORDS};
 use super::names::{done_name, holds_name, is_name, Slot, SLOT};
-use super::round::{Queued, Round};
-use super::row_set::{RowSet, WORDS};
+use super::round::{Queued, Round, DRAFT};
+use super::row_set::RowSet;
 use super::selection::{Selection, Trigger};
-
-pub const QUEUE_NAMES: usize = 32;
-const PLACES: usize = 256;
 
 const MODE_ENDED: u64 = 0;
 const MODE_RUNNING: u64 = 1;
@@ -18,11 +16,11 @@ const MODE_CLOSING: u64 = 2;
 #[derive(Clone, Copy, PartialEq, Eq, Debug)]
 pub struct Session {
     pub configuration: [u64; WORDS],
-    /// Four words for each of 256 rows.
-    pub history: [u64; PLACES * WORDS],
+    /// A set for each row that there may be.
+    pub history: [u64; MOST_ROWS * WORDS],
     /// 32 slots, the oldest name first, zeros behind the last.
-    pub internal: [u8; QUEUE_NAMES * SLOT],
-    pub external: [u8; QUEUE_NAMES * SLOT],
+    pub internal: [u8; QUEUE_BYTES],
+    pub external: [u8; QUEUE_BYTES],
     pub internal_count: u64,
     pub external_count: u64,
     pub mode: u64,
@@ -52,9 +50,9 @@ pub struct Ran {
 impl Session {
     pub const ENDED: Session = Session {
         configuration: [0; WORDS],
-        history: [0; PLACES * WORDS],
-        internal: [0; QUEUE_NAMES * SLOT],
-        external: [0; QUEUE_NAMES * SLOT],
+        history: [0; MOST_ROWS * WORDS],
+        internal: [0; QUEUE_BYTES],
+        external: [0; QUEUE_BYTES],
         internal_count: 0,
         external_count: 0,
         mode: MODE_ENDED,
@@ -65,19 +63,20 @@ impl Session {
     pub fn start(self, numbers: &[u64], names: &[u8], trace: &mut [u32]) -> Started {
         let refused = |answer| Started { session: Session::ENDED, answer, count: 0 };
         let Some(chart) = Chart::open(numbers, names) else { return refused(BAD_CHART) };
-        let mut round = Round::blank();
+        let mut draft = [0; DRAFT];
+        let mut round = Round::over(&mut draft);
         round.start(&chart);
-        let entries = round.entries();
         if round.queued > QUEUE_NAMES {
             return refused(FULL);
         }
-        if entries.len() > trace.len() {
-            return refused(NO_ROOM);
+        let Some(place) = trace.get_mut(..round.count) else { return refused(NO_ROOM) };
+        match round.entries() {
+            Some(entries) => place.copy_from_slice(entries),
+            None => Round::over(place).start(&chart),
         }
-        trace[..entries.len()].copy_from_slice(entries);
         let mut session = Session::ENDED;
         session.move_on(&chart, &round);
-        Started { session, answer: DONE, count: entries.len() }
+        Started { session, answer: DONE, count: round.count }
     }
 
     pub fn post(mut self, numbers: &[u64], names: &[u8], name: &[u8]) -> Posted {
@@ -105,7 +104,8 @@ impl Session {
             return Ran { session: self, status: BAD_SESSION, rounds: 0, count: 0 };
         }
         let mut selection = Selection::none();
-        let mut round = Round::blank();
+        let mut draft = [0; DRAFT];
+        let mut round = Round::over(&mut draft);
         let mut done = 0;
         let mut count = 0;
         let status = loop {
@@ -129,10 +129,13 @@ impl Session {
                     break FULL;
                 }
             }
-            let entries = round.entries();
-            let Some(place) = trace[count..].get_mut(..entries.len()) else { break NO_ROOM };
-            place.copy_from_slice(entries);
-            count += entries.len();
+            let Some(place) = trace[count..].get_mut(..round.count) else { break NO_ROOM };
+            match round.entries() {
+                Some(entries) => place.copy_from_slice(entries),
+                None if trigger == Trigger::Closing => Round::over(place).close(&chart, &self),
+                None => Round::over(place).take(&chart, &self, &selection),
+            }
+            count += round.count;
             done += 1;
             match trigger {
                 Trigger::Closing => self = Session { history: self.history, ..Session::ENDED },
@@ -231,14 +234,14 @@ impl Session {
 }
 
 /// The oldest name leaves, the others move up.
-fn take_first(queue: &mut [u8; QUEUE_NAMES * SLOT], count: &mut u64) {
+fn take_first(queue: &mut [u8; QUEUE_BYTES], count: &mut u64) {
     let used = *count as usize * SLOT;
     queue.copy_within(SLOT..used, 0);
     queue[used - SLOT..used].fill(0);
     *count -= 1;
 }
 
-fn queue_is_well_formed(queue: &[u8; QUEUE_NAMES * SLOT], count: u64) -> bool {
+fn queue_is_well_formed(queue: &[u8; QUEUE_BYTES], count: u64) -> bool {
     if count > QUEUE_NAMES as u64 {
         return false;
     }
