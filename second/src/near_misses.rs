@@ -386,7 +386,7 @@ fn counts_past_limits() -> Vec<NearMiss> {
             lent.lengthen(Table::Descriptors, MAX_DESCRIPTORS + 1, &[0])
         }),
         tables!("one action too many", 1, |lent, _| {
-            lent.lengthen(Table::Actions, MAX_ACTIONS + 1, &[1, 0, 0, 0])
+            lent.lengthen(Table::Actions, MAX_ACTIONS + 1, &[0; ACTION_CELLS])
         }),
         chart!("nine actions on entry", 1, |chart, _, random| {
             let row = random.between(1, chart.rows.len() - 1);

@@ -22,8 +22,6 @@ use std::fmt::Write as _;
 /// The first seed of the generated charts, and how many there are.
 const FIRST_SEED: u64 = 9_000_000;
 const GENERATED: u64 = 60;
-/// Of so many of them one is large at least.
-const ONE_LARGE_OF: u64 = 6;
 /// How many charts with cells changed at will.
 const CHANGED: usize = 60;
 
@@ -129,10 +127,7 @@ fn near_misses_of_sample() -> Vec<Case> {
 
 fn generated(seed: u64) -> Case {
     let mut random = Random::seeded(seed);
-    let flavour = match seed % ONE_LARGE_OF {
-        0 => Flavour::large(&mut random),
-        _ => Flavour::any(&mut random),
-    };
+    let flavour = Flavour::any(&mut random);
     let chart = generate::chart(&mut random, flavour);
     Case::of(format!("a generated chart, seed {seed}"), Lent::of(&chart, Layout::Mixed(random)))
 }

@@ -20,14 +20,14 @@ use crate::story;
 /// How many small generated charts there are, how many of any size, and how many large ones.
 const SMALL: usize = 220;
 const ANY_SIZE: u64 = 12;
-const LARGE: u64 = 6;
+const LARGE: u64 = 3;
 /// The first seed of those of any size, of the large ones, and of the lists with 8 and 9.
 const FIRST_SEED: u64 = 10_000_000;
 const LARGE_SEED: u64 = 12_000_000;
 const REFUSED_SEED: u64 = 11_000_000;
 const REFUSED: u64 = 40;
-/// The last so many of the lists with 8 and 9 are of large charts.
-const LARGE_REFUSED: u64 = 2;
+/// The last so many of the lists with 8 and 9 are of large charts too.
+const LARGE_REFUSED: u64 = 1;
 
 /// Regions, and actions of the parallel above them, so that the round that enters them has 512 entries,
 /// 513 and 551: as many as the library drafts, and more.
