@@ -5,8 +5,8 @@ use crate::library;
 use second::compiled::{compile, needed_place, CompiledChart, Places};
 use second::damage::{self, damaged, Part};
 use second::encode::{Layout, Spelt};
-use second::generate::{self, Flavour};
-use second::limits::HEADER_CELLS;
+use second::generate::{self, Flavour, LARGE};
+use second::limits::{HEADER_CELLS, MAX_ROWS};
 use second::near_misses::{self, Lent, NearMiss};
 use second::random::Random;
 use second::rules::Place;
@@ -26,6 +26,8 @@ const GUARD: usize = 16;
 /// Counts of what was compared, each list by the kinds of `Kinds`.
 #[derive(Clone)]
 pub struct Counts {
+    /// Large charts, and those of as many rows as there may be.
+    pub large: [u64; 2],
     /// Charts and tables compiled, by answer.
     pub answers: [u64; 6],
     pub near_misses: Vec<u64>,
@@ -55,6 +57,7 @@ impl Kinds {
 impl Counts {
     pub fn none(kinds: &Kinds) -> Counts {
         Counts {
+            large: [0; 2],
             answers: [0; 6],
             near_misses: vec![0; kinds.near_misses.len()],
             damaged: vec![[0; 2]; kinds.compiled.len()],
@@ -68,6 +71,7 @@ impl Counts {
                 add(mine, theirs);
             }
         };
+        add(&mut self.large, &other.large);
         add(&mut self.answers, &other.answers);
         add(&mut self.near_misses, &other.near_misses);
         pairs(&mut self.damaged, &other.damaged);
@@ -174,6 +178,8 @@ pub fn try_seed(seed: u64, kinds: &Kinds, counts: &mut Counts) -> Result<(), Str
         Err(rule) => return Err(format!("a generated chart breaks rule {rule}")),
     };
     counts.answers[0] += 1;
+    let rows = chart.rows.len();
+    add(&mut counts.large, &[u64::from(rows >= LARGE), u64::from(rows == MAX_ROWS as usize)]);
     ensure(checks_alike(&places)?, || "what was compiled is refused".to_string())?;
     near_miss_alike(seed, &chart, kinds, &mut random, counts)?;
     for turn in 0..DAMAGED {

@@ -1,7 +1,10 @@
 //! The functions of the static library, one safe function for each: slices that are lent here are
 //! there, aligned and apart, which is all that the library asks.
 
+use second::limits::{HISTORY_PLACES, QUEUE_NAMES, ROW_SET_WORDS, SLOT_BYTES};
 use std::os::raw::c_uint;
+
+pub const QUEUE_BYTES: usize = SLOT_BYTES * QUEUE_NAMES;
 
 extern "C" {
     fn auttervil_raw_numbers_size(numbers: *const u64, numbers_count: usize) -> usize;
@@ -56,10 +59,10 @@ extern "C" {
 #[repr(C)]
 #[derive(Clone, PartialEq, Eq, Debug)]
 pub struct Session {
-    pub configuration: [u64; 4],
-    pub history: [u64; 1024],
-    pub internal: [u8; 2048],
-    pub external: [u8; 2048],
+    pub configuration: [u64; ROW_SET_WORDS],
+    pub history: [u64; ROW_SET_WORDS * HISTORY_PLACES],
+    pub internal: [u8; QUEUE_BYTES],
+    pub external: [u8; QUEUE_BYTES],
     pub internal_count: u64,
     pub external_count: u64,
     pub mode: u64,

@@ -67,10 +67,14 @@ fn compare_charts(seeds: Range<u64>, outcome: &mut Outcome) {
     outcome.add(count, failures, demands(&kinds, &counts));
 }
 
-/// What must have been met, lest the comparison show little: every answer, every kind of near miss,
+/// What must have been met, lest the comparison show little: large charts, every answer, every kind of near miss,
 /// and of every kind of cell a change that is refused.
 fn demands(kinds: &Kinds, counts: &Counts) -> Vec<(String, bool)> {
-    let mut demands = Vec::new();
+    let [large, greatest] = counts.large;
+    let mut demands = vec![
+        ("large charts".to_string(), large >= OFTEN),
+        ("charts of as many rows as there may be".to_string(), greatest >= OFTEN),
+    ];
     for (answer, &count) in counts.answers.iter().enumerate() {
         demands.push((format!("answer {answer}"), count >= OFTEN));
     }
@@ -90,6 +94,8 @@ fn say(counts: &Counts) {
     let sum = |pairs: &[[u64; 2]]| pairs.iter().fold([0; 2], |[a, b], [c, d]| [a + c, b + d]);
     let [damaged, refused] = sum(&counts.damaged);
     let [changed, _] = sum(&counts.changed);
+    let [large, greatest] = counts.large;
+    println!("{large:>10}  large charts, {greatest} of them of as many rows as there may be");
     println!("{:>10}  near misses", counts.near_misses.iter().sum::<u64>());
     println!("{changed:>10}  tables with a change");
     println!("{damaged:>10}  compiled charts with a change, {refused} of them refused");

@@ -2,12 +2,14 @@
 
 use crate::compare::ensure;
 use crate::library;
+use second::limits::{HISTORY_PLACES, QUEUE_NAMES, ROW_SET_WORDS};
+use second::names::Slot;
 use second::session::Session;
 
 impl From<&Session> for library::Session {
     fn from(session: &Session) -> library::Session {
-        let mut history = [0; 1024];
-        for (words, set) in history.chunks_mut(4).zip(&session.stored) {
+        let mut history = [0; ROW_SET_WORDS * HISTORY_PLACES];
+        for (words, set) in history.chunks_mut(ROW_SET_WORDS).zip(&session.stored) {
             words.copy_from_slice(&set.0);
         }
         library::Session {
@@ -22,8 +24,8 @@ impl From<&Session> for library::Session {
     }
 }
 
-fn bytes(slots: &[[u8; 64]; 32]) -> [u8; 2048] {
-    slots.as_flattened().try_into().expect("32 slots of 64 bytes")
+fn bytes(slots: &[Slot; QUEUE_NAMES]) -> [u8; library::QUEUE_BYTES] {
+    slots.as_flattened().try_into().expect("so many slots")
 }
 
 /// Every byte of what the library handed back is as the second program has it.

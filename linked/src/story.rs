@@ -6,7 +6,7 @@ use crate::sessions::alike;
 use second::calls::Call;
 use second::compiled::{compile, CompiledChart, Places};
 use second::encode::Layout;
-use second::limits::SLOT_BYTES;
+use second::limits::{ROW_SET_WORDS, SLOT_BYTES};
 use second::near_misses::Lent;
 use second::session::{watch_nothing, Session};
 use second::story;
@@ -42,7 +42,7 @@ pub fn play() -> Result<(), String> {
     expected.internal[..SLOT_BYTES].fill(0);
     expected.internal[..name.len()].copy_from_slice(&name);
     ensure(name.len() == SLOT_BYTES - 1, || "the name has another length".to_string())?;
-    ensure(expected.configuration != [0; 4] && after == expected, || {
+    ensure(expected.configuration != [0; ROW_SET_WORDS] && after == expected, || {
         "story: another byte changes".to_string()
     })
 }
