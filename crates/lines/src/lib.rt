@@ -16,8 +16,9 @@ pub const NUMBERS: usize = columns::HEADER
     + limits::ROOM_FOR_ACTIONS as usize * columns::ACTION_WIDTH
     + MORE;
 
-pub const PLACE: usize =
-    NUMBERS + limits::MOST_ROWS as usize * 16 + limits::MOST_TRANSITIONS as usize * 4;
+pub const PLACE: usize = NUMBERS
+    + limits::MOST_ROWS as usize * 16
+    + limits::MOST_TRANSITIONS as usize * 4;
 
 pub const NAMES: usize = limits::MOST_NAMES as usize * limits::SLOT_SIZE + MORE;
 
