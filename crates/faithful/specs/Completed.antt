@@ -54,7 +54,7 @@ module _ (numbers names chart slots : List ℕ) (accepted : keepsRules numbers n
   c = chartOf numbers
 
   -- a run that does a round has been given a well-formed session
-  refused-none : (s : Session) (rounds room : ℕ) → isSession c s ≡ false → (runOf s chart slots rounds room) .rounds ≡ 0
+  pub refused-none : (s : Session) (rounds room : ℕ) → isSession c s ≡ false → (runOf s chart slots rounds room) .rounds ≡ 0
   unfolding runOf refusedRun
   refused-none s rounds room h = rw (m .checks, m .chartIs, h)
 
@@ -73,7 +73,7 @@ module _ (numbers names chart slots : List ℕ) (accepted : keepsRules numbers n
     unfolding runFrom
     runs-from k = ap (λ (x : List ℕ). run c (nameAt x) k f room) (m .slotsAre)
 
-    runs-as : (k : ℕ) → runOf s chart slots k room ≡ ranAs (r k)
+    pub runs-as : (k : ℕ) → runOf s chart slots k room ≡ ranAs (r k)
     unfolding runOf
     runs-as k = rw (m .checks, m .chartIs, h) (ap ranAs (runs-from k))
 
@@ -81,10 +81,10 @@ module _ (numbers names chart slots : List ℕ) (accepted : keepsRules numbers n
     unfolding runEffects
     effects-as = rw (m .checks, m .chartIs, h) (ap (λ (x : Ran). x .effects) (runs-from rounds))
 
-    kept : (k : ℕ) → WellFormed c (r k .follower)
+    pub kept : (k : ℕ) → WellFormed c (r k .follower)
     kept k = run-keeps numbers names accepted f well k room
 
-    seen : (k : ℕ) → view (rowCount numbers) ((runOf s chart slots k room) .session) ≡ r k .follower
+    pub seen : (k : ℕ) → view (rowCount numbers) ((runOf s chart slots k room) .session) ≡ r k .follower
     unfolding ranAs
     seen k = rw (runs-as k) (found numbers names chart slots accepted m (r k .follower) (kept k))
 
@@ -109,11 +109,17 @@ module _ (numbers names chart slots : List ℕ) (accepted : keepsRules numbers n
               rw (all-done c (nameAt names) (suc k) rounds f room (omega arith))
               (run-by numbers names chart slots accepted m (r (suc k) .follower) (kept (suc k)) (rounds - suc k) (room - length (r (suc k) .effects)))
 
-      entries : roundEffects chart slots s rounds room k ≡ (onwards c (nameAt names) 1 (r k) room) .effects
+      pub entries : roundEffects chart slots s rounds room k ≡ (onwards c (nameAt names) 1 (r k) room) .effects
       unfolding roundEffects ranAs joined
       entries =
-          rw (runs-as k, runs-as (suc k), effects-as, whole,
-          take-at (r (suc k) .effects) ((onwards c (nameAt names) (rounds - suc k) (r (suc k)) room) .effects) (length (r (suc k) .effects)) refl, one-more c (nameAt names) k f room)
+          rw (
+            runs-as k,
+            runs-as (suc k),
+            effects-as,
+            whole,
+            take-at (r (suc k) .effects) ((onwards c (nameAt names) (rounds - suc k) (r (suc k)) room) .effects) (length (r (suc k) .effects)) refl,
+            one-more c (nameAt names) k f room,
+          )
           (drop-at (r k .effects) ((onwards c (nameAt names) 1 (r k) room) .effects) (length (r k .effects)) refl)
 
       taken-apart : DisjointExits c (r k .follower) (takenIn ((onwards c (nameAt names) 1 (r k) room) .effects))

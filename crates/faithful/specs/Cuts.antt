@@ -62,13 +62,14 @@ module _ (c : Chart) (names : Names) where
     pub next : Follower
     pub effects : List Effect
     pub did-it : round c names s ≡ did next effects
+    pub reached : r .follower ≡ next
     pub left : r .effects ≡ effects
 
   one-round : (s : Follower) (room : ℕ) → (run c names 1 s room) .rounds ≡ 1 → OneRound s (run c names 1 s room)
   unfolding stopped counted
   one-round s room =
       run-cases c names (λ r. r .rounds ≡ 1 → OneRound s r) 0 s room (λ e h. absurd (omega arith)) (λ e h. absurd (omega arith)) (λ next es a e q h. absurd (omega arith))
-      (λ next es e q h. record { next = next; effects = es; did-it = e; left = rw (run-zero c names next (room - length es)) (append-nil es) })
+      (λ next es e q h. record { next = next; effects = es; did-it = e; reached = rw (run-zero c names next (room - length es)); left = rw (run-zero c names next (room - length es)) (append-nil es) })
 
   pub one-more : (k : ℕ) (s : Follower) (room : ℕ) → run c names (suc k) s room ≡ joined c names (run c names k s room) (onwards c names 1 (run c names k s room) room)
   one-more k s room = let e : suc k ≡ k + suc 0 = omega arith in rw e (run-split c names k 0 s room)

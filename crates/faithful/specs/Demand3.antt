@@ -68,12 +68,12 @@ module _ (numbers names place namePlace chart slots : List ℕ) (a : Answer) (ma
   done : verdict numbers names (length place) (length namePlace) ≡ Done
   done = sym (made .is) ∙ answer-done a z
 
-  accepted : keepsRules numbers names ≡ Done
+  pub accepted : keepsRules numbers names ≡ Done
   unfolding keepsRules
   accepted = let s = verdict-sizes numbers names (length place) (length namePlace) done in rw (← s .place, ← s .namePlace) done
 
   -- the compiled chart means the chart that was lent
-  means : Means numbers names chart slots
+  pub means : Means numbers names chart slots
   means =
       let h = place-written numbers names place namePlace chart slots a made z in
       let r = compiled-ready chart slots (h .checks) .ready .tables .sized .counts .rows in
@@ -95,8 +95,19 @@ module _ (numbers names place namePlace chart slots : List ℕ) (a : Answer) (ma
   }
 
 -- of any places that pass the check behind refusal 8, over their own numbers
-pub demand-3-checked : (chart names : List ℕ) → isCompiled chart names ≡ true → Demand3 (ownNumbers chart) names chart names
-unfolding answerNo
-demand-3-checked chart names h =
-    let k = check-compiled chart names h in
-    demand-3 (ownNumbers chart) names chart names chart names Done (record { is = sym (answer-done _ (k .answer)); chart = k .is; slots = refl }) refl
+module _ (chart names : List ℕ) (h : isCompiled chart names ≡ true) where
+  checked : Compiles (ownNumbers chart) names chart names Done chart names
+  unfolding answerNo
+  checked = let k = check-compiled chart names h in record { is = sym (answer-done _ (k .answer)); chart = k .is; slots = refl }
+
+  pub own-accepted : keepsRules (ownNumbers chart) names ≡ Done
+  unfolding answerNo
+  own-accepted = accepted (ownNumbers chart) names chart names chart names Done checked refl
+
+  pub own-means : Means (ownNumbers chart) names chart names
+  unfolding answerNo
+  own-means = means (ownNumbers chart) names chart names chart names Done checked refl
+
+  pub demand-3-checked : Demand3 (ownNumbers chart) names chart names
+  unfolding answerNo
+  demand-3-checked = demand-3 (ownNumbers chart) names chart names chart names Done checked refl

@@ -4,5 +4,6 @@ pub mod Faithful
 pub mod Cuts
 pub mod Completed
 pub mod Demand3
+pub mod AnyOrder
 pub mod ChartA
 pub mod MarkedRuns
