@@ -5,11 +5,17 @@ use mathlib.Core.List.{List, [], _∷_, _++_, map, append-nil, append-assoc}
 use Prim.Native.Nat.{ℕ, suc, _+_, _<_}
 use native.Mathlib.Omega.{arith}
 use lib.ListN.{length, getD}
+use Rattle.definition.specs.declared.Mode.the-variants.{Running, Closing, Ended}
+use Rattle.definition.specs.declared.Answer.the-variants.{Done}
 use Rattle.definition.specs.Rows.{fold, from, those, mem, isIn, union, minus, append}
 use Rattle.definition.specs.Chart.{Chart, Names, kind, isHistory}
+use Rattle.definition.specs.Tables.{chartOf, nameAt}
 use Rattle.definition.specs.Tree.{defaultTargets}
+use Rattle.definition.specs.Rules.{keepsRules}
 use Rattle.definition.specs.Selection.{History, effectiveTargets, domain, exitSet, selected}
+use Rattle.definition.specs.Blocks.{Effect}
 use Rattle.definition.specs.Microstep.{addExits, exits, stored, storing, pathsBelow, addTargets, targeted, entrySet, storedIn, staying, historyAfter, entryOf, configurationAfter}
+use Rattle.definition.specs.Follower.{Follower, Round, idle, over, did, taking, selectedBy, closingRound, round}
 use Rattle.definition.specs.Legal.{WellFormed}
 use Rattle.laws.specs.Bools.{no, clash, or-elim, or-left, or-right, and-false, both-ways, not-so}
 use Rattle.laws.specs.Sets.{Ascends, NoTwice, ascends-ext, ascends-union, ascends-minus, ascends-those, mem-head, mem-one, mem-union, mem-minus, empty-none}
@@ -17,12 +23,6 @@ use Rattle.laws.specs.Lists.{mem-app, mem-tail, empty-list, set-eq, full-list}
 use Rattle.theory.specs.Fork.{Legal}
 use Rattle.theory.specs.Unions.{union-mem, mem-in-union, ascends-fold-union}
 use Rattle.theory.specs.Accepted.{Sound, HistOk, accepted-sound}
-use Rattle.definition.specs.declared.Mode.the-variants.{Running, Closing, Ended}
-use Rattle.definition.specs.declared.Answer.the-variants.{Done}
-use Rattle.definition.specs.Tables.{chartOf, nameAt}
-use Rattle.definition.specs.Rules.{keepsRules}
-use Rattle.definition.specs.Blocks.{Effect}
-use Rattle.definition.specs.Follower.{Follower, Round, idle, over, did, taking, selectedBy, closingRound, round}
 use Rattle.theory.specs.LegalTest.{legal-facts}
 use Rattle.theory.specs.Storing.{stored-kept}
 use Rattle.theory.specs.Shown.{takenIn, taken-effects}
@@ -32,7 +32,7 @@ use Rattle.anyorder.specs.EntryUnion.{Part, Joins, entry-union}
 use Rattle.anyorder.specs.OneByOne.{Place, applyOne, oneByOne, Reordered, AnyOrder}
 use Rattle.anyorder.specs.OneMore.{together, mem-append, apply-more}
 
--- ---- whole lists
+-- ---- passes and whole lists
 
 -- passes that join sets do not hang on the order
 fold-order : (step : List ℕ → ℕ → List ℕ) (f : ℕ → List ℕ) → ((set : List ℕ) (x : ℕ) → step set x ≡ union set (f x)) →
