@@ -45,7 +45,7 @@ pub struct Kinds {
 impl Kinds {
     pub fn all() -> Kinds {
         Kinds {
-            near_misses: near_misses::all(),
+            near_misses: [near_misses::all(), near_misses::accepted()].concat(),
             compiled: damage::of_compiled(),
             tables: damage::of_tables(),
         }
@@ -208,8 +208,9 @@ fn near_miss_alike(
     }
     let lent = lent.ok_or_else(|| format!("no {name}"))?;
     sizes_alike(&lent.spelt.numbers)?;
-    let broken = compiles_alike(&lent, random).map_err(|what| format!("{name}: {what}"))?.err();
-    ensure(broken == Some(rule), || format!("{name} gets {broken:?}"))?;
+    let compiled = compiles_alike(&lent, random).map_err(|what| format!("{name}: {what}"))?;
+    let given = compiled.err().unwrap_or(0);
+    ensure(given == rule, || format!("{name} gets {given}"))?;
     counts.near_misses[kind] += 1;
     counts.answers[rule as usize] += 1;
     Ok(())

@@ -8,7 +8,7 @@ use crate::coverage::Coverage;
 use crate::encode::{encode, encode_plainly, Layout, Spelt};
 use crate::generate::{self, CallMaker, Flavour};
 use crate::limits::{HEADER_CELLS, NONE, SLOT_BYTES};
-use crate::near_misses::{self, Lent};
+use crate::near_misses::{self, Lent, NearMiss};
 use crate::random::Random;
 use crate::readings::{post, run, start};
 use crate::rules::{verdict, Place};
@@ -192,17 +192,27 @@ fn small_calls(random: &mut Random, chart: &Chart) -> Vec<Call> {
     calls
 }
 
-/// One refused chart for each kind of near miss, of the smallest sample that has a place for it.
+/// One refused chart for each kind of near miss.
 pub fn refused() -> Vec<Example> {
+    each_near_miss("refused", near_misses::all(), &[])
+}
+
+/// One chart for each kind that comes next to a refused one, with two rounds of it.
+pub fn accepted() -> Vec<Example> {
+    each_near_miss("accepted", near_misses::accepted(), &[start(), post("s"), run(2)])
+}
+
+/// Each kind on the smallest sample that has a place for it.
+fn each_near_miss(prefix: &str, kinds: Vec<NearMiss>, calls: &[Call]) -> Vec<Example> {
     let mut samples = near_misses::small_samples();
     samples.push(near_misses::sample());
-    near_misses::all()
+    kinds
         .iter()
         .filter_map(|near_miss| {
             let mut lent =
                 samples.iter().filter_map(|sample| near_miss.of(sample, &mut Random::seeded(1), true));
-            let name = format!("refused_{}", identifier(near_miss.name));
-            Some(Example::of_lent(&name, near_miss.name, lent.next()?, Vec::new()))
+            let name = format!("{prefix}_{}", identifier(near_miss.name));
+            Some(Example::of_lent(&name, near_miss.name, lent.next()?, calls.to_vec()))
         })
         .collect()
 }

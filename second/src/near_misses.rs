@@ -268,9 +268,20 @@ macro_rules! chart {
     };
 }
 
-/// Every kind of near miss.
+mod spinning;
+
+/// Every kind of near miss that is refused.
 pub fn all() -> Vec<NearMiss> {
-    [sizes(), counts_past_limits(), numbers_out_of_range(), names(), tree(), lists(), transitions()].concat()
+    let mut kinds =
+        [sizes(), counts_past_limits(), numbers_out_of_range(), names(), tree(), lists()].concat();
+    kinds.extend(transitions());
+    kinds.extend(spinning::refused());
+    kinds
+}
+
+/// Every kind that comes next to a refused one and is accepted.
+pub fn accepted() -> Vec<NearMiss> {
+    spinning::accepted()
 }
 
 fn sizes() -> Vec<NearMiss> {

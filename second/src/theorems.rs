@@ -56,6 +56,8 @@ pub fn modules() -> Vec<Module> {
     modules.push(examples_module("ByHand", "Charts for single sentences, played.", &by_hand::all()));
     modules.push(limits_module());
     modules.push(refused_module());
+    let accepted = "One chart for each way to come near to breaking a rule without breaking it.";
+    modules.push(examples_module("Accepted", accepted, &examples::accepted()));
     modules.push(changed_module());
     modules.push(faults_module());
     modules.push(sets_module());

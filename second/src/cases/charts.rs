@@ -58,7 +58,7 @@ fn cases() -> Vec<Case> {
     cases.extend(readings::all().into_iter().flatten().map(Case::of_example));
     cases.extend(by_hand::all().into_iter().chain(examples::by_hand()).map(Case::of_example));
     cases.extend(faults::all().into_iter().map(|fault| Case::of_chart(&fault.about, &fault.chart)));
-    cases.extend(examples::refused().into_iter().map(Case::of_example));
+    cases.extend(examples::refused().into_iter().chain(examples::accepted()).map(Case::of_example));
     cases.extend(near_misses_of_sample());
     cases.extend(examples::changed(CHANGED).into_iter().map(Case::of_example));
     cases.extend((FIRST_SEED..FIRST_SEED + GENERATED).map(generated));
@@ -111,6 +111,7 @@ fn near_misses_of_sample() -> Vec<Case> {
     let sample = near_misses::sample();
     near_misses::all()
         .iter()
+        .chain(&near_misses::accepted())
         .filter_map(|near_miss| {
             let lent = near_miss.of(&sample, &mut Random::seeded(2), false)?;
             Some(Case::of(format!("the sample: {}", near_miss.name), lent))

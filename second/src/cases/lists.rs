@@ -43,6 +43,7 @@ fn examples() -> Vec<Example> {
     let readings =
         readings::all().into_iter().flatten().filter(|example| example.spelt.names.len() % SLOT_BYTES == 0);
     let others = by_hand::all().into_iter().chain(examples::by_hand()).chain(at_limits::all());
+    let others = others.chain(examples::accepted());
     let others = others.chain(examples::generated(SMALL)).filter(|example| !example.calls.is_empty());
     readings.chain(others).collect()
 }

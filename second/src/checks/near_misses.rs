@@ -3,7 +3,7 @@
 use super::Check;
 use crate::generate::{self, Flavour};
 use crate::invariants::{ensure, Found};
-use crate::near_misses::{all, sample, small_samples, NearMiss};
+use crate::near_misses::{accepted, all, sample, small_samples, NearMiss};
 use crate::random::Random;
 use crate::rules::verdict;
 use crate::tables::Chart;
@@ -13,6 +13,7 @@ const GENERATED: u64 = 60;
 pub fn checks() -> Vec<Check> {
     all()
         .into_iter()
+        .chain(accepted())
         .map(|near_miss| {
             let name = format!("near miss {}: {}", near_miss.rule, near_miss.name);
             Check::new(name, move || gets_its_number(near_miss))

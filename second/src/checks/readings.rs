@@ -8,6 +8,7 @@ use crate::invariants::{ensure, Found};
 use crate::legal::is_legal;
 use crate::limits::{MAX_TARGETS_OF_TRANSITION, QUEUE_NAMES};
 use crate::microstep::{is_in_final_state, TraceEntry};
+use crate::near_misses;
 use crate::numbers::{RowNumber, TransitionNumber, ROOT};
 use crate::readings as charts;
 use crate::row_set::RowSet;
@@ -40,7 +41,7 @@ pub fn checks() -> Vec<Check> {
         Check::new("reading 21: a dropped event is a round", reading_21),
         Check::new("examples: every reading has one", every_reading),
         Check::new("examples: generated ones are accepted and differ", generated_examples),
-        Check::new("examples: every near miss has one", refused_examples),
+        Check::new("examples: every near miss has one", near_miss_examples),
         Check::new("examples: changed charts get every number", changed_examples),
         Check::new("examples: by hand", by_hand_examples),
     ]
@@ -295,9 +296,9 @@ fn generated_examples() -> Found {
     ensure(moving.count() > 100, "most take a transition")
 }
 
-fn refused_examples() -> Found {
-    let near_misses = crate::near_misses::all();
-    let all = examples::refused();
+fn near_miss_examples() -> Found {
+    let near_misses = [near_misses::all(), near_misses::accepted()].concat();
+    let all = [examples::refused(), examples::accepted()].concat();
     ensure(all.len() == near_misses.len(), "one for each kind")?;
     let right = all.iter().zip(&near_misses).all(|(example, kind)| example.verdict == kind.rule);
     ensure(right, "each gets its number")
