@@ -22,6 +22,14 @@ pub fn all() -> Vec<Example> {
         posted_bytes(),
         longest_descriptor(),
         letter_case(),
+        targets_by_the_exits(),
+        default_blocks_by_the_exits(),
+        internal_of_a_parallel(),
+        most_internal_names(),
+        guarded_loops(),
+        loop_of_two(),
+        loop_to_the_parent(),
+        loop_to_own_history(),
     ]
 }
 
@@ -179,4 +187,105 @@ pub fn letter_case() -> Example {
     b.state("", "s").on("s", "E", "").doing(&[Do::Host(1)]);
     let calls = vec![start(), post("e"), run(1), post("E"), run(1)];
     Example::of_chart("letter_case", "a small letter is no capital one", &b.chart(), calls)
+}
+
+/// "effective targets, now by the history as this round's exits left it": s leads to its own deep
+/// history. The first e finds nothing stored and would fall to c; its exits store b2. The second finds
+/// b2 stored; its exits store c.
+pub fn targets_by_the_exits() -> Example {
+    let mut b = Builder::new();
+    b.state("", "s").state("s", "b").state("b", "b1").state("b", "b2").state("s", "c").deep("s", "h");
+    b.list("h", "c", &[]).on("s", "e", "h").on("b1", "g", "b2").on("b2", "k", "c");
+    let calls = vec![start(), post("g"), run(1), post("e"), run(1), post("k"), run(1), post("e"), run(1)];
+    Example::of_chart(
+        "targets_by_the_exits",
+        "a history is resolved as this round's exits left it",
+        &b.chart(),
+        calls,
+    )
+}
+
+/// "default block, if a history of this row fell to its default list", which is settled by the same
+/// history. The first e stores for ha alone, so the block of hd runs and that of ha does not; the
+/// second stores for both.
+pub fn default_blocks_by_the_exits() -> Example {
+    let mut b = Builder::new();
+    b.parallel("", "p").state("p", "a").state("a", "x").state("a", "y").shallow("a", "ha");
+    b.state("p", "c").state("c", "u").state("c", "d").state("d", "d1").state("d", "d2").shallow("d", "hd");
+    b.list("ha", "x", &[Do::Host(1)]).list("hd", "d2", &[Do::Host(2)]);
+    b.on("p", "e", "ha hd").on("x", "g", "y");
+    let calls = vec![start(), post("g"), run(1), post("e"), run(1), post("e"), run(1)];
+    Example::of_chart(
+        "default_blocks_by_the_exits",
+        "default blocks go by the history as this round's exits left it",
+        &b.chart(),
+        calls,
+    )
+}
+
+/// "The domain is the source, if the type is internal, the source is compound": p is parallel, and so
+/// is g above it. The domain is s, and g and p are exited and entered.
+pub fn internal_of_a_parallel() -> Example {
+    let mut b = Builder::new();
+    b.state("", "s").parallel("s", "g").parallel("g", "p").state("p", "a").state("a", "a1").state("a", "a2");
+    b.state("p", "b").state("g", "c").on_internally("p", "e", "a2");
+    let calls = vec![start(), post("e"), run(1)];
+    Example::of_chart(
+        "internal_of_a_parallel",
+        "an internal transition of a parallel leaves it",
+        &b.chart(),
+        calls,
+    )
+}
+
+/// "a round or start would hold more than 32 internal names at any moment"; "A taken event leaves the
+/// internal queue before new ones join." Of s, f has a thirty-third raise and d a done event in its
+/// place; e has 32 names. Of those x is then taken and one raised, y taken and two raised.
+pub fn most_internal_names() -> Example {
+    let mut b = Builder::new();
+    b.state("", "s").state("", "a").state("a", "b").state("a", "c").state("c", "c1").final_("c", "cf");
+    let eight = [Do::Raise("n"); 8];
+    let mut x_and_y = eight;
+    x_and_y[..2].copy_from_slice(&[Do::Raise("x"), Do::Raise("y")]);
+    b.on_exit("s", &x_and_y).on_entry("a", &eight).on_entry("b", &eight).on_entry("c", &eight);
+    b.on_entry("c1", &[Do::Raise("n")]);
+    for (event, target) in [("e", "b"), ("f", "c1"), ("d", "cf")] {
+        b.on("s", event, target).doing(&eight);
+    }
+    b.on("b", "x", "").doing(&eight[..1]).on("b", "y", "").doing(&eight[..2]);
+    let refused = |event| [start(), post(event), run(1)];
+    let calls = [&refused("f")[..], &refused("d"), &[start(), post("e"), run(1), run(1), run(1)]].concat();
+    Example::of_chart("most_internal_names", "32 internal names, and one more", &b.chart(), calls)
+}
+
+/// "an eventless one without condition whose target list holds its own source" (R-7): with a condition
+/// it is legal, be it always true, as that of s, or never, as that of q.
+pub fn guarded_loops() -> Example {
+    let mut b = Builder::new();
+    b.state("", "q").state("", "s");
+    b.on("q", "", "q").when_in("s").on("q", "e", "s").on("s", "", "s").when_in("s");
+    let calls = vec![start(), run(2), post("e"), run(3)];
+    Example::of_chart("guarded_loops", "loops with a condition", &b.chart(), calls)
+}
+
+/// "Longer loops stay legal." (R-7)
+pub fn loop_of_two() -> Example {
+    let mut b = Builder::new();
+    b.state("", "s").state("s", "a").state("s", "b").on("a", "", "b").on("b", "", "a");
+    Example::of_chart("loop_of_two", "a loop of two states", &b.chart(), vec![start(), run(3)])
+}
+
+/// The target list holds the source's parent, not the source (R-7).
+pub fn loop_to_the_parent() -> Example {
+    let mut b = Builder::new();
+    b.state("", "s").state("s", "a").on("a", "", "s");
+    Example::of_chart("loop_to_the_parent", "a loop to the parent", &b.chart(), vec![start(), run(2)])
+}
+
+/// The target list holds a history of the source, not the source (R-7). The exits store a, so b, the
+/// default, is never entered.
+pub fn loop_to_own_history() -> Example {
+    let mut b = Builder::new();
+    b.state("", "s").state("s", "a").state("s", "b").shallow("s", "h").list("h", "b", &[]).on("s", "", "h");
+    Example::of_chart("loop_to_own_history", "a loop to an own history", &b.chart(), vec![start(), run(2)])
 }

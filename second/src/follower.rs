@@ -221,6 +221,16 @@ fn on_histories() -> ChartSessions {
     c.add("a shallow set with the parent", false, |s| s.history[9] = vec![1]);
     c.add("a shallow set with a row outside", false, |s| s.history[9] = vec![10]);
     c.add("a stored row past the count", false, |s| s.history[9] = vec![11]);
+    c.add("stored at the parent of a history, what the history stored", false, |s| s.history[1] = vec![3]);
+    c.add("stored at an atomic state, itself", false, |s| s.history[2] = vec![2]);
+    c.add("stored at a parallel, its regions", false, |s| s.history[3] = vec![4, 7]);
+    c.add("stored at a compound state, its child", false, |s| s.history[4] = vec![5]);
+    c.add("stored at the row behind a history, what the history stored", false, |s| s.history[10] = vec![3]);
+    c.add("stored at another row and at no history", false, |s| {
+        s.history[8].clear();
+        s.history[9].clear();
+        s.history[1] = vec![3];
+    });
     c.add("a history row listed", false, |s| s.configuration = vec![1, 2, 8]);
     c.add("a history row in place of a child", false, |s| s.configuration = vec![1, 9]);
     c.add("inside, with what was stored", true, |s| s.configuration = vec![1, 3, 4, 6, 7]);

@@ -81,6 +81,9 @@ fn listed_sessions() -> Vec<Line> {
                 lines.push(about(&example.about));
                 lines.extend(making(&session));
                 lines.push(named("e"));
+                if !example.fits {
+                    lines.push(Line::Call(run(1)));
+                }
             }
         }
     }

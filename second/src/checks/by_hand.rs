@@ -6,6 +6,7 @@ use crate::by_hand;
 use crate::encode::Layout;
 use crate::examples::Example;
 use crate::faults;
+use crate::follower::{session_examples, SessionExample};
 use crate::invariants::{ensure, Found};
 use crate::near_misses::Lent;
 use crate::places;
@@ -27,6 +28,13 @@ pub fn checks() -> Vec<Check> {
         Check::new("by hand: bytes next to a name's", posted_bytes),
         Check::new("by hand: a descriptor of 63 bytes", longest_descriptor),
         Check::new("by hand: small letters and capital ones", letter_case),
+        Check::new("by hand: targets by the history that the exits left", targets_by_the_exits),
+        Check::new("by hand: default blocks by the history that the exits left", default_blocks_by_the_exits),
+        Check::new("by hand: an internal transition of a parallel", internal_of_a_parallel),
+        Check::new("by hand: 32 internal names and 33", most_internal_names),
+        Check::new("by hand: loops with a condition", guarded_loops),
+        Check::new("by hand: longer loops", longer_loops),
+        Check::new("by hand: stored at a row that is no history", stored_at_no_history),
         Check::new("limits: no rule is broken at a limit", limits_are_kept),
         Check::new("faults: every chart gets its number", faults_get_their_numbers),
         Check::new("faults: without its fault a chart is accepted", faults_are_single),
@@ -116,6 +124,77 @@ fn letter_case() -> Found {
     let example = by_hand::letter_case();
     wrote(&example, 2, &[])?;
     wrote(&example, 4, &[(2, 0), (4, 1)])
+}
+
+fn targets_by_the_exits() -> Found {
+    let example = by_hand::targets_by_the_exits();
+    wrote(&example, 0, &[(3, 1), (3, 2), (3, 3)])?;
+    wrote(&example, 2, &[(1, 3), (2, 1), (3, 4)])?;
+    wrote(&example, 4, &[(1, 4), (1, 2), (1, 1), (2, 0), (3, 1), (3, 2), (3, 4)])?;
+    wrote(&example, 6, &[(1, 4), (1, 2), (2, 2), (3, 5)])?;
+    wrote(&example, 8, &[(1, 5), (1, 1), (2, 0), (3, 1), (3, 5)])
+}
+
+fn default_blocks_by_the_exits() -> Found {
+    let example = by_hand::default_blocks_by_the_exits();
+    wrote(&example, 0, &[(3, 1), (3, 2), (3, 3), (3, 6), (3, 7)])?;
+    wrote(&example, 2, &[(1, 3), (2, 1), (3, 4)])?;
+    let left = [(1, 7), (1, 6), (1, 4), (1, 2), (1, 1), (2, 0)];
+    let one_block = [(3, 1), (3, 2), (3, 4), (3, 6), (3, 8), (4, 2), (3, 10)];
+    wrote(&example, 4, &[&left[..], &one_block].concat())?;
+    let left = [(1, 10), (1, 8), (1, 6), (1, 4), (1, 2), (1, 1), (2, 0)];
+    let no_block = [(3, 1), (3, 2), (3, 4), (3, 6), (3, 8), (3, 10)];
+    wrote(&example, 6, &[&left[..], &no_block].concat())
+}
+
+fn internal_of_a_parallel() -> Found {
+    let example = by_hand::internal_of_a_parallel();
+    wrote(&example, 0, &[(3, 1), (3, 2), (3, 3), (3, 4), (3, 5), (3, 7), (3, 8)])?;
+    let left = [(1, 8), (1, 7), (1, 5), (1, 4), (1, 3), (1, 2), (2, 0)];
+    let entered = [(3, 2), (3, 3), (3, 4), (3, 6), (3, 7), (3, 8)];
+    wrote(&example, 2, &[&left[..], &entered].concat())
+}
+
+/// Slots 6, 7 and 8 are x, y and n.
+fn most_internal_names() -> Found {
+    let example = by_hand::most_internal_names();
+    let answers = answers(&example);
+    let more = [ACCEPTED, ACCEPTED, STATUS_MORE, STATUS_MORE, QUEUE_FULL];
+    let refused = [ACCEPTED, ACCEPTED, QUEUE_FULL];
+    ensure(answers == [&refused[..], &refused, &more].concat(), &format!("{answers:?}"))?;
+    let eight = [(5, 8); 8];
+    let left = [&[(1, 1), (5, 6), (5, 7)], &eight[..6], &[(2, 0)], &eight[..]].concat();
+    let entered = [&[(3, 2)], &eight[..], &[(3, 3)], &eight[..]].concat();
+    wrote(&example, 8, &[left, entered].concat())?;
+    wrote(&example, 9, &[(2, 3), (5, 8)])?;
+    [2, 5, 10].into_iter().try_for_each(|call| wrote(&example, call, &[]))
+}
+
+fn guarded_loops() -> Found {
+    let example = by_hand::guarded_loops();
+    let answers = answers(&example);
+    ensure(answers == [ACCEPTED, STATUS_IDLE, ACCEPTED, STATUS_MORE], &format!("{answers:?}"))?;
+    wrote(&example, 3, &[(1, 1), (2, 1), (3, 2), (1, 2), (2, 2), (3, 2), (1, 2), (2, 2), (3, 2)])
+}
+
+fn longer_loops() -> Found {
+    let there = [(1, 2), (2, 0), (3, 3)];
+    let back = [(1, 3), (2, 1), (3, 2)];
+    wrote(&by_hand::loop_of_two(), 1, &[there, back, there].concat())?;
+    let around = [(1, 2), (1, 1), (2, 0), (3, 1), (3, 2)];
+    wrote(&by_hand::loop_to_the_parent(), 1, &[around, around].concat())?;
+    wrote(&by_hand::loop_to_own_history(), 1, &[around, around].concat())
+}
+
+/// What a history has stored, and what it might have, at rows of other kinds: each is no session (9).
+fn stored_at_no_history() -> Found {
+    let about = "stored at ";
+    let tried: Vec<SessionExample> = session_examples()
+        .into_iter()
+        .flat_map(|(_, sessions)| sessions)
+        .filter(|session| session.about.starts_with(about))
+        .collect();
+    ensure(tried.len() == 8 && tried.iter().all(|session| !session.fits), &format!("{}", tried.len()))
 }
 
 /// The chart of 64 rows comes first; its first slot is no name.
