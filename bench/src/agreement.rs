@@ -282,9 +282,9 @@ impl Comparison<'_> {
         Ok(())
     }
 
-    /// Tables that break one rule, behind them sets of zeros: the same verdict, and refusal 8.
+    /// Tables that break one rule, or almost do, behind them sets of zeros: the same verdict, and refusal 8.
     fn near_misses(&mut self, trial: &Trial) -> Found {
-        let kinds = near_misses::all();
+        let kinds = [near_misses::all(), near_misses::accepted()].concat();
         for turn in 0..4 {
             let kind = &kinds[(self.seed as usize * 4 + turn) % kinds.len()];
             let Some(lent_wrong) = kind.of(&trial.chart, &mut self.random, false) else { continue };

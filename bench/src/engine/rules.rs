@@ -258,11 +258,12 @@ fn transitions_fit(tables: &Tables) -> bool {
         let in_order = least <= source;
         least = source;
         let condition = transition.condition();
-        let has_use =
-            transition.descriptors().count > 0 || condition != NONE || transition.targets().count > 0;
+        let to_itself = || tables.listed(transition.targets()).any(|target| target == source);
+        let spins = transition.descriptors().count == 0
+            && (transition.targets().count == 0 || (condition == NONE && to_itself()));
         in_order
             && matches!(tables.row(source).kind(), STATE | PARALLEL)
-            && has_use
+            && !spins
             && (condition == NONE || is_real(condition as usize))
     })
 }
