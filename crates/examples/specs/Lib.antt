@@ -8,6 +8,7 @@ pub mod Played5
 pub mod ByHand
 pub mod Limits
 pub mod Refused
+pub mod Accepted
 pub mod Changed
 pub mod Faults
 pub mod Sets

@@ -169,7 +169,7 @@ numbers-002 = 2 ∷ 128 ∷ 128 ∷ 0 ∷ 0 ∷ 1 ∷ 0 ∷ 65535 ∷ 65535 ∷ 
 abbrev names-002 : List ℕ
 names-002 = joined (slotOf (115 ∷ []) ∷ [])
 
-example-002 : alike (played numbers-002 names-002 []) ((0 ∷ []) ∷ []) ≡ true
+example-002 : alike (played numbers-002 names-002 []) ((5 ∷ []) ∷ []) ≡ true
 unfolding everything joined historyShown queueShown shown playedIf played alike
 example-002 = refl
 

@@ -2669,3 +2669,146 @@ names-144 = joined (slotOf (115 ∷ []) ∷ slotOf (97 ∷ []) ∷ slotOf (98 �
 example-144 : alike (played numbers-144 names-144 []) ((5 ∷ []) ∷ []) ≡ true
 unfolding everything joined historyShown queueShown shown playedIf played alike
 example-144 = refl
+
+-- eventless without targets, in itself
+abbrev numbers-145 : List ℕ
+numbers-145 = 2 ∷ 2 ∷ 1 ∷ 2 ∷ 2 ∷ 3 ∷ 0 ∷ 65535 ∷ 65535 ∷ 0 ∷ 0 ∷ 0 ∷ 0 ∷ 0 ∷ 0 ∷ 0 ∷ 0 ∷ 1 ∷ 0 ∷ 0 ∷ 0 ∷ 0 ∷ 0 ∷ 0 ∷
+    0 ∷ 0 ∷ 0 ∷ 0 ∷ 1 ∷ 0 ∷ 2 ∷ 65535 ∷ 0 ∷ 0 ∷ 1 ∷ 0 ∷ 2 ∷ 1 ∷ 0 ∷ 0 ∷ 1 ∷ 0 ∷ 0 ∷ 0 ∷ 0 ∷ 0 ∷ 1 ∷ 1 ∷ 2 ∷ 0 ∷ 1 ∷ 0 ∷
+    0 ∷ 1 ∷ 1 ∷ 0 ∷ 0 ∷ []
+
+abbrev names-145 : List ℕ
+names-145 = joined (slotOf (115 ∷ []) ∷ slotOf (101 ∷ []) ∷ slotOf (42 ∷ []) ∷ [])
+
+example-145 : alike (played numbers-145 names-145 []) ((5 ∷ []) ∷ []) ≡ true
+unfolding everything joined historyShown queueShown shown playedIf played alike
+example-145 = refl
+
+-- eventless without targets, in another row
+abbrev numbers-146 : List ℕ
+numbers-146 = 2 ∷ 2 ∷ 1 ∷ 2 ∷ 2 ∷ 3 ∷ 0 ∷ 65535 ∷ 65535 ∷ 0 ∷ 0 ∷ 0 ∷ 0 ∷ 0 ∷ 0 ∷ 0 ∷ 0 ∷ 1 ∷ 0 ∷ 0 ∷ 0 ∷ 0 ∷ 0 ∷ 0 ∷
+    0 ∷ 0 ∷ 0 ∷ 0 ∷ 1 ∷ 0 ∷ 2 ∷ 65535 ∷ 0 ∷ 0 ∷ 1 ∷ 0 ∷ 2 ∷ 1 ∷ 0 ∷ 0 ∷ 1 ∷ 0 ∷ 0 ∷ 0 ∷ 0 ∷ 0 ∷ 1 ∷ 1 ∷ 2 ∷ 0 ∷ 1 ∷ 0 ∷
+    0 ∷ 1 ∷ 1 ∷ 0 ∷ 0 ∷ []
+
+abbrev names-146 : List ℕ
+names-146 = joined (slotOf (115 ∷ []) ∷ slotOf (101 ∷ []) ∷ slotOf (42 ∷ []) ∷ [])
+
+example-146 : alike (played numbers-146 names-146 []) ((5 ∷ []) ∷ []) ≡ true
+unfolding everything joined historyShown queueShown shown playedIf played alike
+example-146 = refl
+
+-- eventless without targets, with condition and block
+abbrev numbers-147 : List ℕ
+numbers-147 = 2 ∷ 2 ∷ 1 ∷ 2 ∷ 3 ∷ 3 ∷ 0 ∷ 65535 ∷ 65535 ∷ 0 ∷ 0 ∷ 0 ∷ 0 ∷ 0 ∷ 0 ∷ 0 ∷ 0 ∷ 1 ∷ 0 ∷ 0 ∷ 0 ∷ 0 ∷ 0 ∷ 0 ∷
+    0 ∷ 0 ∷ 0 ∷ 0 ∷ 1 ∷ 0 ∷ 2 ∷ 65535 ∷ 0 ∷ 0 ∷ 1 ∷ 0 ∷ 2 ∷ 1 ∷ 0 ∷ 0 ∷ 1 ∷ 0 ∷ 0 ∷ 0 ∷ 2 ∷ 1 ∷ 1 ∷ 1 ∷ 2 ∷ 0 ∷ 1 ∷ 0 ∷
+    0 ∷ 1 ∷ 1 ∷ 0 ∷ 0 ∷ 1 ∷ 7 ∷ 0 ∷ 0 ∷ []
+
+abbrev names-147 : List ℕ
+names-147 = joined (slotOf (115 ∷ []) ∷ slotOf (101 ∷ []) ∷ slotOf (42 ∷ []) ∷ [])
+
+example-147 : alike (played numbers-147 names-147 []) ((5 ∷ []) ∷ []) ≡ true
+unfolding everything joined historyShown queueShown shown playedIf played alike
+example-147 = refl
+
+-- eventless without targets, internal
+abbrev numbers-148 : List ℕ
+numbers-148 = 2 ∷ 2 ∷ 1 ∷ 2 ∷ 2 ∷ 3 ∷ 0 ∷ 65535 ∷ 65535 ∷ 0 ∷ 0 ∷ 0 ∷ 0 ∷ 0 ∷ 0 ∷ 0 ∷ 0 ∷ 1 ∷ 0 ∷ 0 ∷ 0 ∷ 0 ∷ 0 ∷ 0 ∷
+    0 ∷ 0 ∷ 0 ∷ 0 ∷ 1 ∷ 0 ∷ 2 ∷ 65535 ∷ 0 ∷ 0 ∷ 1 ∷ 0 ∷ 2 ∷ 1 ∷ 0 ∷ 0 ∷ 1 ∷ 1 ∷ 0 ∷ 0 ∷ 0 ∷ 0 ∷ 1 ∷ 1 ∷ 2 ∷ 0 ∷ 1 ∷ 0 ∷
+    0 ∷ 1 ∷ 1 ∷ 0 ∷ 0 ∷ []
+
+abbrev names-148 : List ℕ
+names-148 = joined (slotOf (115 ∷ []) ∷ slotOf (101 ∷ []) ∷ slotOf (42 ∷ []) ∷ [])
+
+example-148 : alike (played numbers-148 names-148 []) ((5 ∷ []) ∷ []) ≡ true
+unfolding everything joined historyShown queueShown shown playedIf played alike
+example-148 = refl
+
+-- eventless to itself
+abbrev numbers-149 : List ℕ
+numbers-149 = 2 ∷ 2 ∷ 2 ∷ 2 ∷ 2 ∷ 3 ∷ 0 ∷ 65535 ∷ 65535 ∷ 0 ∷ 0 ∷ 0 ∷ 0 ∷ 0 ∷ 0 ∷ 0 ∷ 0 ∷ 1 ∷ 0 ∷ 0 ∷ 0 ∷ 0 ∷ 0 ∷ 0 ∷
+    0 ∷ 0 ∷ 0 ∷ 0 ∷ 1 ∷ 0 ∷ 2 ∷ 65535 ∷ 0 ∷ 0 ∷ 1 ∷ 0 ∷ 2 ∷ 1 ∷ 0 ∷ 0 ∷ 65535 ∷ 0 ∷ 1 ∷ 1 ∷ 0 ∷ 0 ∷ 1 ∷ 1 ∷ 1 ∷ 2 ∷ 0 ∷
+    1 ∷ 0 ∷ 0 ∷ 1 ∷ 1 ∷ 0 ∷ 0 ∷ []
+
+abbrev names-149 : List ℕ
+names-149 = joined (slotOf (115 ∷ []) ∷ slotOf (101 ∷ []) ∷ slotOf (42 ∷ []) ∷ [])
+
+example-149 : alike (played numbers-149 names-149 []) ((5 ∷ []) ∷ []) ≡ true
+unfolding everything joined historyShown queueShown shown playedIf played alike
+example-149 = refl
+
+-- eventless to itself, a parallel
+abbrev numbers-150 : List ℕ
+numbers-150 = 4 ∷ 1 ∷ 1 ∷ 0 ∷ 0 ∷ 4 ∷ 0 ∷ 65535 ∷ 65535 ∷ 0 ∷ 0 ∷ 0 ∷ 0 ∷ 0 ∷ 0 ∷ 0 ∷ 0 ∷ 2 ∷ 0 ∷ 0 ∷ 0 ∷ 0 ∷ 0 ∷ 0 ∷
+    0 ∷ 0 ∷ 0 ∷ 0 ∷ 1 ∷ 1 ∷ 1 ∷ 0 ∷ 0 ∷ 0 ∷ 0 ∷ 0 ∷ 0 ∷ 0 ∷ 0 ∷ 1 ∷ 1 ∷ 2 ∷ 0 ∷ 0 ∷ 0 ∷ 0 ∷ 0 ∷ 0 ∷ 0 ∷ 0 ∷ 1 ∷ 0 ∷ 0 ∷
+    65535 ∷ 0 ∷ 0 ∷ 1 ∷ 0 ∷ 0 ∷ 1 ∷ []
+
+abbrev names-150 : List ℕ
+names-150 = joined (slotOf (112 ∷ []) ∷ slotOf (97 ∷ []) ∷ slotOf (98 ∷ []) ∷ slotOf (101 ∷ []) ∷ [])
+
+example-150 : alike (played numbers-150 names-150 []) ((5 ∷ []) ∷ []) ≡ true
+unfolding everything joined historyShown queueShown shown playedIf played alike
+example-150 = refl
+
+-- eventless to itself, internal
+abbrev numbers-151 : List ℕ
+numbers-151 = 2 ∷ 2 ∷ 2 ∷ 2 ∷ 2 ∷ 3 ∷ 0 ∷ 65535 ∷ 65535 ∷ 0 ∷ 0 ∷ 0 ∷ 0 ∷ 0 ∷ 0 ∷ 0 ∷ 0 ∷ 1 ∷ 0 ∷ 0 ∷ 0 ∷ 0 ∷ 0 ∷ 0 ∷
+    0 ∷ 0 ∷ 0 ∷ 0 ∷ 1 ∷ 0 ∷ 2 ∷ 65535 ∷ 0 ∷ 0 ∷ 1 ∷ 0 ∷ 2 ∷ 1 ∷ 0 ∷ 0 ∷ 65535 ∷ 1 ∷ 1 ∷ 1 ∷ 0 ∷ 0 ∷ 1 ∷ 1 ∷ 1 ∷ 2 ∷ 0 ∷
+    1 ∷ 0 ∷ 0 ∷ 1 ∷ 1 ∷ 0 ∷ 0 ∷ []
+
+abbrev names-151 : List ℕ
+names-151 = joined (slotOf (115 ∷ []) ∷ slotOf (101 ∷ []) ∷ slotOf (42 ∷ []) ∷ [])
+
+example-151 : alike (played numbers-151 names-151 []) ((5 ∷ []) ∷ []) ≡ true
+unfolding everything joined historyShown queueShown shown playedIf played alike
+example-151 = refl
+
+-- eventless to itself, a compound state, internal
+abbrev numbers-152 : List ℕ
+numbers-152 = 4 ∷ 2 ∷ 2 ∷ 1 ∷ 0 ∷ 4 ∷ 0 ∷ 65535 ∷ 65535 ∷ 0 ∷ 0 ∷ 0 ∷ 0 ∷ 0 ∷ 0 ∷ 0 ∷ 0 ∷ 1 ∷ 0 ∷ 0 ∷ 0 ∷ 0 ∷ 0 ∷ 0 ∷
+    0 ∷ 0 ∷ 0 ∷ 0 ∷ 1 ∷ 1 ∷ 1 ∷ 0 ∷ 0 ∷ 0 ∷ 0 ∷ 0 ∷ 0 ∷ 0 ∷ 0 ∷ 1 ∷ 1 ∷ 2 ∷ 0 ∷ 0 ∷ 0 ∷ 0 ∷ 0 ∷ 0 ∷ 0 ∷ 0 ∷ 1 ∷ 0 ∷ 1 ∷
+    65535 ∷ 0 ∷ 0 ∷ 1 ∷ 0 ∷ 0 ∷ 1 ∷ 0 ∷ 0 ∷ 65535 ∷ 1 ∷ 1 ∷ 1 ∷ 0 ∷ 0 ∷ 3 ∷ 1 ∷ 3 ∷ []
+
+abbrev names-152 : List ℕ
+names-152 = joined (slotOf (115 ∷ []) ∷ slotOf (97 ∷ []) ∷ slotOf (98 ∷ []) ∷ slotOf (101 ∷ []) ∷ [])
+
+example-152 : alike (played numbers-152 names-152 []) ((5 ∷ []) ∷ []) ≡ true
+unfolding everything joined historyShown queueShown shown playedIf played alike
+example-152 = refl
+
+-- eventless to itself and another row
+abbrev numbers-153 : List ℕ
+numbers-153 = 4 ∷ 2 ∷ 3 ∷ 1 ∷ 0 ∷ 4 ∷ 0 ∷ 65535 ∷ 65535 ∷ 0 ∷ 0 ∷ 0 ∷ 0 ∷ 0 ∷ 0 ∷ 0 ∷ 0 ∷ 2 ∷ 0 ∷ 0 ∷ 0 ∷ 0 ∷ 0 ∷ 0 ∷
+    0 ∷ 0 ∷ 0 ∷ 0 ∷ 1 ∷ 1 ∷ 1 ∷ 0 ∷ 0 ∷ 0 ∷ 0 ∷ 0 ∷ 0 ∷ 0 ∷ 0 ∷ 1 ∷ 1 ∷ 2 ∷ 0 ∷ 0 ∷ 0 ∷ 0 ∷ 0 ∷ 0 ∷ 0 ∷ 0 ∷ 2 ∷ 0 ∷ 1 ∷
+    65535 ∷ 0 ∷ 0 ∷ 1 ∷ 0 ∷ 0 ∷ 3 ∷ 0 ∷ 0 ∷ 65535 ∷ 0 ∷ 1 ∷ 2 ∷ 0 ∷ 0 ∷ 3 ∷ 3 ∷ 2 ∷ 3 ∷ []
+
+abbrev names-153 : List ℕ
+names-153 = joined (slotOf (112 ∷ []) ∷ slotOf (97 ∷ []) ∷ slotOf (98 ∷ []) ∷ slotOf (101 ∷ []) ∷ [])
+
+example-153 : alike (played numbers-153 names-153 []) ((5 ∷ []) ∷ []) ≡ true
+unfolding everything joined historyShown queueShown shown playedIf played alike
+example-153 = refl
+
+-- eventless to another row and itself
+abbrev numbers-154 : List ℕ
+numbers-154 = 4 ∷ 2 ∷ 3 ∷ 1 ∷ 0 ∷ 4 ∷ 0 ∷ 65535 ∷ 65535 ∷ 0 ∷ 0 ∷ 0 ∷ 0 ∷ 0 ∷ 0 ∷ 0 ∷ 0 ∷ 2 ∷ 0 ∷ 0 ∷ 0 ∷ 0 ∷ 0 ∷ 0 ∷
+    0 ∷ 0 ∷ 0 ∷ 0 ∷ 1 ∷ 1 ∷ 1 ∷ 0 ∷ 0 ∷ 0 ∷ 0 ∷ 0 ∷ 0 ∷ 0 ∷ 0 ∷ 1 ∷ 1 ∷ 2 ∷ 0 ∷ 0 ∷ 0 ∷ 0 ∷ 0 ∷ 0 ∷ 0 ∷ 0 ∷ 2 ∷ 0 ∷ 1 ∷
+    65535 ∷ 0 ∷ 0 ∷ 1 ∷ 0 ∷ 0 ∷ 3 ∷ 0 ∷ 0 ∷ 65535 ∷ 0 ∷ 1 ∷ 2 ∷ 0 ∷ 0 ∷ 3 ∷ 2 ∷ 3 ∷ 3 ∷ []
+
+abbrev names-154 : List ℕ
+names-154 = joined (slotOf (112 ∷ []) ∷ slotOf (97 ∷ []) ∷ slotOf (98 ∷ []) ∷ slotOf (101 ∷ []) ∷ [])
+
+example-154 : alike (played numbers-154 names-154 []) ((5 ∷ []) ∷ []) ≡ true
+unfolding everything joined historyShown queueShown shown playedIf played alike
+example-154 = refl
+
+-- eventless to another row and itself, internal
+abbrev numbers-155 : List ℕ
+numbers-155 = 4 ∷ 2 ∷ 3 ∷ 1 ∷ 0 ∷ 4 ∷ 0 ∷ 65535 ∷ 65535 ∷ 0 ∷ 0 ∷ 0 ∷ 0 ∷ 0 ∷ 0 ∷ 0 ∷ 0 ∷ 2 ∷ 0 ∷ 0 ∷ 0 ∷ 0 ∷ 0 ∷ 0 ∷
+    0 ∷ 0 ∷ 0 ∷ 0 ∷ 1 ∷ 1 ∷ 1 ∷ 0 ∷ 0 ∷ 0 ∷ 0 ∷ 0 ∷ 0 ∷ 0 ∷ 0 ∷ 1 ∷ 1 ∷ 2 ∷ 0 ∷ 0 ∷ 0 ∷ 0 ∷ 0 ∷ 0 ∷ 0 ∷ 0 ∷ 2 ∷ 0 ∷ 1 ∷
+    65535 ∷ 0 ∷ 0 ∷ 1 ∷ 0 ∷ 0 ∷ 3 ∷ 0 ∷ 0 ∷ 65535 ∷ 1 ∷ 1 ∷ 2 ∷ 0 ∷ 0 ∷ 3 ∷ 2 ∷ 3 ∷ 3 ∷ []
+
+abbrev names-155 : List ℕ
+names-155 = joined (slotOf (112 ∷ []) ∷ slotOf (97 ∷ []) ∷ slotOf (98 ∷ []) ∷ slotOf (101 ∷ []) ∷ [])
+
+example-155 : alike (played numbers-155 names-155 []) ((5 ∷ []) ∷ []) ≡ true
+unfolding everything joined historyShown queueShown shown playedIf played alike
+example-155 = refl

@@ -724,10 +724,10 @@ session-062 : fits numbers-002 (record {
 unfolding everything fits
 session-062 = refl
 
--- a history row listed
+-- stored at the parent of a history, what the history stored
 session-063 : fits numbers-002 (record {
-  configuration = 1 ∷ 2 ∷ 8 ∷ [];
-  history = [] ∷ [] ∷ [] ∷ [] ∷ [] ∷ [] ∷ [] ∷ [] ∷ (5 ∷ 7 ∷ []) ∷ (3 ∷ []) ∷ [] ∷ [];
+  configuration = 10 ∷ [];
+  history = [] ∷ (3 ∷ []) ∷ [] ∷ [] ∷ [] ∷ [] ∷ [] ∷ [] ∷ (5 ∷ 7 ∷ []) ∷ (3 ∷ []) ∷ [] ∷ [];
   internal = [];
   external = [];
   mode = Running;
@@ -735,10 +735,10 @@ session-063 : fits numbers-002 (record {
 unfolding everything fits
 session-063 = refl
 
--- a history row in place of a child
+-- stored at an atomic state, itself
 session-064 : fits numbers-002 (record {
-  configuration = 1 ∷ 9 ∷ [];
-  history = [] ∷ [] ∷ [] ∷ [] ∷ [] ∷ [] ∷ [] ∷ [] ∷ (5 ∷ 7 ∷ []) ∷ (3 ∷ []) ∷ [] ∷ [];
+  configuration = 10 ∷ [];
+  history = [] ∷ [] ∷ (2 ∷ []) ∷ [] ∷ [] ∷ [] ∷ [] ∷ [] ∷ (5 ∷ 7 ∷ []) ∷ (3 ∷ []) ∷ [] ∷ [];
   internal = [];
   external = [];
   mode = Running;
@@ -746,8 +746,74 @@ session-064 : fits numbers-002 (record {
 unfolding everything fits
 session-064 = refl
 
--- inside, with what was stored
+-- stored at a parallel, its regions
 session-065 : fits numbers-002 (record {
+  configuration = 10 ∷ [];
+  history = [] ∷ [] ∷ [] ∷ (4 ∷ 7 ∷ []) ∷ [] ∷ [] ∷ [] ∷ [] ∷ (5 ∷ 7 ∷ []) ∷ (3 ∷ []) ∷ [] ∷ [];
+  internal = [];
+  external = [];
+  mode = Running;
+}) ≡ false
+unfolding everything fits
+session-065 = refl
+
+-- stored at a compound state, its child
+session-066 : fits numbers-002 (record {
+  configuration = 10 ∷ [];
+  history = [] ∷ [] ∷ [] ∷ [] ∷ (5 ∷ []) ∷ [] ∷ [] ∷ [] ∷ (5 ∷ 7 ∷ []) ∷ (3 ∷ []) ∷ [] ∷ [];
+  internal = [];
+  external = [];
+  mode = Running;
+}) ≡ false
+unfolding everything fits
+session-066 = refl
+
+-- stored at the row behind a history, what the history stored
+session-067 : fits numbers-002 (record {
+  configuration = 10 ∷ [];
+  history = [] ∷ [] ∷ [] ∷ [] ∷ [] ∷ [] ∷ [] ∷ [] ∷ (5 ∷ 7 ∷ []) ∷ (3 ∷ []) ∷ (3 ∷ []) ∷ [];
+  internal = [];
+  external = [];
+  mode = Running;
+}) ≡ false
+unfolding everything fits
+session-067 = refl
+
+-- stored at another row and at no history
+session-068 : fits numbers-002 (record {
+  configuration = 10 ∷ [];
+  history = [] ∷ (3 ∷ []) ∷ [] ∷ [] ∷ [] ∷ [] ∷ [] ∷ [] ∷ [] ∷ [] ∷ [] ∷ [];
+  internal = [];
+  external = [];
+  mode = Running;
+}) ≡ false
+unfolding everything fits
+session-068 = refl
+
+-- a history row listed
+session-069 : fits numbers-002 (record {
+  configuration = 1 ∷ 2 ∷ 8 ∷ [];
+  history = [] ∷ [] ∷ [] ∷ [] ∷ [] ∷ [] ∷ [] ∷ [] ∷ (5 ∷ 7 ∷ []) ∷ (3 ∷ []) ∷ [] ∷ [];
+  internal = [];
+  external = [];
+  mode = Running;
+}) ≡ false
+unfolding everything fits
+session-069 = refl
+
+-- a history row in place of a child
+session-070 : fits numbers-002 (record {
+  configuration = 1 ∷ 9 ∷ [];
+  history = [] ∷ [] ∷ [] ∷ [] ∷ [] ∷ [] ∷ [] ∷ [] ∷ (5 ∷ 7 ∷ []) ∷ (3 ∷ []) ∷ [] ∷ [];
+  internal = [];
+  external = [];
+  mode = Running;
+}) ≡ false
+unfolding everything fits
+session-070 = refl
+
+-- inside, with what was stored
+session-071 : fits numbers-002 (record {
   configuration = 1 ∷ 3 ∷ 4 ∷ 6 ∷ 7 ∷ [];
   history = [] ∷ [] ∷ [] ∷ [] ∷ [] ∷ [] ∷ [] ∷ [] ∷ (5 ∷ 7 ∷ []) ∷ (3 ∷ []) ∷ [] ∷ [];
   internal = [];
@@ -755,10 +821,10 @@ session-065 : fits numbers-002 (record {
   mode = Running;
 }) ≡ true
 unfolding everything fits
-session-065 = refl
+session-071 = refl
 
 -- ended, with what was stored
-session-066 : fits numbers-002 (record {
+session-072 : fits numbers-002 (record {
   configuration = [];
   history = [] ∷ [] ∷ [] ∷ [] ∷ [] ∷ [] ∷ [] ∷ [] ∷ (5 ∷ 7 ∷ []) ∷ (3 ∷ []) ∷ [] ∷ [];
   internal = [];
@@ -766,7 +832,7 @@ session-066 : fits numbers-002 (record {
   mode = Ended;
 }) ≡ true
 unfolding everything fits
-session-066 = refl
+session-072 = refl
 
 abbrev numbers-003 : List ℕ
 numbers-003 = 11 ∷ 1 ∷ 3 ∷ 1 ∷ 0 ∷ 11 ∷ 0 ∷ 65535 ∷ 65535 ∷ 0 ∷ 0 ∷ 0 ∷ 0 ∷ 0 ∷ 0 ∷ 0 ∷ 0 ∷ 2 ∷ 0 ∷ 0 ∷ 0 ∷ 0 ∷ 0 ∷ 0 ∷
@@ -777,74 +843,8 @@ numbers-003 = 11 ∷ 1 ∷ 3 ∷ 1 ∷ 0 ∷ 11 ∷ 0 ∷ 65535 ∷ 65535 ∷ 0 
     10 ∷ 10 ∷ []
 
 -- well formed
-session-067 : fits numbers-003 (record {
-  configuration = 10 ∷ [];
-  history = [] ∷ [] ∷ [] ∷ [] ∷ [] ∷ [] ∷ [] ∷ [] ∷ (3 ∷ 6 ∷ 7 ∷ []) ∷ (2 ∷ 5 ∷ []) ∷ [] ∷ [];
-  internal = [];
-  external = [];
-  mode = Running;
-}) ≡ true
-unfolding everything fits
-session-067 = refl
-
--- a shallow set without a region
-session-068 : fits numbers-003 (record {
-  configuration = 10 ∷ [];
-  history = [] ∷ [] ∷ [] ∷ [] ∷ [] ∷ [] ∷ [] ∷ [] ∷ (3 ∷ 6 ∷ 7 ∷ []) ∷ (2 ∷ []) ∷ [] ∷ [];
-  internal = [];
-  external = [];
-  mode = Running;
-}) ≡ false
-unfolding everything fits
-session-068 = refl
-
--- a shallow set of another region
-session-069 : fits numbers-003 (record {
-  configuration = 10 ∷ [];
-  history = [] ∷ [] ∷ [] ∷ [] ∷ [] ∷ [] ∷ [] ∷ [] ∷ (3 ∷ 6 ∷ 7 ∷ []) ∷ (5 ∷ []) ∷ [] ∷ [];
-  internal = [];
-  external = [];
-  mode = Running;
-}) ≡ false
-unfolding everything fits
-session-069 = refl
-
--- a deep set of other states
-session-070 : fits numbers-003 (record {
-  configuration = 10 ∷ [];
-  history = [] ∷ [] ∷ [] ∷ [] ∷ [] ∷ [] ∷ [] ∷ [] ∷ (4 ∷ 6 ∷ 7 ∷ []) ∷ (2 ∷ 5 ∷ []) ∷ [] ∷ [];
-  internal = [];
-  external = [];
-  mode = Running;
-}) ≡ true
-unfolding everything fits
-session-070 = refl
-
--- a deep set without a nested region
-session-071 : fits numbers-003 (record {
-  configuration = 10 ∷ [];
-  history = [] ∷ [] ∷ [] ∷ [] ∷ [] ∷ [] ∷ [] ∷ [] ∷ (3 ∷ 6 ∷ []) ∷ (2 ∷ 5 ∷ []) ∷ [] ∷ [];
-  internal = [];
-  external = [];
-  mode = Running;
-}) ≡ false
-unfolding everything fits
-session-071 = refl
-
--- a deep set without a region
-session-072 : fits numbers-003 (record {
-  configuration = 10 ∷ [];
-  history = [] ∷ [] ∷ [] ∷ [] ∷ [] ∷ [] ∷ [] ∷ [] ∷ (6 ∷ 7 ∷ []) ∷ (2 ∷ 5 ∷ []) ∷ [] ∷ [];
-  internal = [];
-  external = [];
-  mode = Running;
-}) ≡ false
-unfolding everything fits
-session-072 = refl
-
--- all regions active
 session-073 : fits numbers-003 (record {
-  configuration = 1 ∷ 2 ∷ 4 ∷ 5 ∷ 6 ∷ 7 ∷ [];
+  configuration = 10 ∷ [];
   history = [] ∷ [] ∷ [] ∷ [] ∷ [] ∷ [] ∷ [] ∷ [] ∷ (3 ∷ 6 ∷ 7 ∷ []) ∷ (2 ∷ 5 ∷ []) ∷ [] ∷ [];
   internal = [];
   external = [];
@@ -853,10 +853,10 @@ session-073 : fits numbers-003 (record {
 unfolding everything fits
 session-073 = refl
 
--- a nested region missing
+-- a shallow set without a region
 session-074 : fits numbers-003 (record {
-  configuration = 1 ∷ 2 ∷ 4 ∷ 5 ∷ 6 ∷ [];
-  history = [] ∷ [] ∷ [] ∷ [] ∷ [] ∷ [] ∷ [] ∷ [] ∷ (3 ∷ 6 ∷ 7 ∷ []) ∷ (2 ∷ 5 ∷ []) ∷ [] ∷ [];
+  configuration = 10 ∷ [];
+  history = [] ∷ [] ∷ [] ∷ [] ∷ [] ∷ [] ∷ [] ∷ [] ∷ (3 ∷ 6 ∷ 7 ∷ []) ∷ (2 ∷ []) ∷ [] ∷ [];
   internal = [];
   external = [];
   mode = Running;
@@ -864,10 +864,10 @@ session-074 : fits numbers-003 (record {
 unfolding everything fits
 session-074 = refl
 
--- a nested parallel missing
+-- a shallow set of another region
 session-075 : fits numbers-003 (record {
-  configuration = 1 ∷ 2 ∷ 4 ∷ 6 ∷ 7 ∷ [];
-  history = [] ∷ [] ∷ [] ∷ [] ∷ [] ∷ [] ∷ [] ∷ [] ∷ (3 ∷ 6 ∷ 7 ∷ []) ∷ (2 ∷ 5 ∷ []) ∷ [] ∷ [];
+  configuration = 10 ∷ [];
+  history = [] ∷ [] ∷ [] ∷ [] ∷ [] ∷ [] ∷ [] ∷ [] ∷ (3 ∷ 6 ∷ 7 ∷ []) ∷ (5 ∷ []) ∷ [] ∷ [];
   internal = [];
   external = [];
   mode = Running;
@@ -875,8 +875,74 @@ session-075 : fits numbers-003 (record {
 unfolding everything fits
 session-075 = refl
 
--- a nested parallel without regions
+-- a deep set of other states
 session-076 : fits numbers-003 (record {
+  configuration = 10 ∷ [];
+  history = [] ∷ [] ∷ [] ∷ [] ∷ [] ∷ [] ∷ [] ∷ [] ∷ (4 ∷ 6 ∷ 7 ∷ []) ∷ (2 ∷ 5 ∷ []) ∷ [] ∷ [];
+  internal = [];
+  external = [];
+  mode = Running;
+}) ≡ true
+unfolding everything fits
+session-076 = refl
+
+-- a deep set without a nested region
+session-077 : fits numbers-003 (record {
+  configuration = 10 ∷ [];
+  history = [] ∷ [] ∷ [] ∷ [] ∷ [] ∷ [] ∷ [] ∷ [] ∷ (3 ∷ 6 ∷ []) ∷ (2 ∷ 5 ∷ []) ∷ [] ∷ [];
+  internal = [];
+  external = [];
+  mode = Running;
+}) ≡ false
+unfolding everything fits
+session-077 = refl
+
+-- a deep set without a region
+session-078 : fits numbers-003 (record {
+  configuration = 10 ∷ [];
+  history = [] ∷ [] ∷ [] ∷ [] ∷ [] ∷ [] ∷ [] ∷ [] ∷ (6 ∷ 7 ∷ []) ∷ (2 ∷ 5 ∷ []) ∷ [] ∷ [];
+  internal = [];
+  external = [];
+  mode = Running;
+}) ≡ false
+unfolding everything fits
+session-078 = refl
+
+-- all regions active
+session-079 : fits numbers-003 (record {
+  configuration = 1 ∷ 2 ∷ 4 ∷ 5 ∷ 6 ∷ 7 ∷ [];
+  history = [] ∷ [] ∷ [] ∷ [] ∷ [] ∷ [] ∷ [] ∷ [] ∷ (3 ∷ 6 ∷ 7 ∷ []) ∷ (2 ∷ 5 ∷ []) ∷ [] ∷ [];
+  internal = [];
+  external = [];
+  mode = Running;
+}) ≡ true
+unfolding everything fits
+session-079 = refl
+
+-- a nested region missing
+session-080 : fits numbers-003 (record {
+  configuration = 1 ∷ 2 ∷ 4 ∷ 5 ∷ 6 ∷ [];
+  history = [] ∷ [] ∷ [] ∷ [] ∷ [] ∷ [] ∷ [] ∷ [] ∷ (3 ∷ 6 ∷ 7 ∷ []) ∷ (2 ∷ 5 ∷ []) ∷ [] ∷ [];
+  internal = [];
+  external = [];
+  mode = Running;
+}) ≡ false
+unfolding everything fits
+session-080 = refl
+
+-- a nested parallel missing
+session-081 : fits numbers-003 (record {
+  configuration = 1 ∷ 2 ∷ 4 ∷ 6 ∷ 7 ∷ [];
+  history = [] ∷ [] ∷ [] ∷ [] ∷ [] ∷ [] ∷ [] ∷ [] ∷ (3 ∷ 6 ∷ 7 ∷ []) ∷ (2 ∷ 5 ∷ []) ∷ [] ∷ [];
+  internal = [];
+  external = [];
+  mode = Running;
+}) ≡ false
+unfolding everything fits
+session-081 = refl
+
+-- a nested parallel without regions
+session-082 : fits numbers-003 (record {
   configuration = 1 ∷ 2 ∷ 4 ∷ 5 ∷ [];
   history = [] ∷ [] ∷ [] ∷ [] ∷ [] ∷ [] ∷ [] ∷ [] ∷ (3 ∷ 6 ∷ 7 ∷ []) ∷ (2 ∷ 5 ∷ []) ∷ [] ∷ [];
   internal = [];
@@ -884,7 +950,7 @@ session-076 : fits numbers-003 (record {
   mode = Running;
 }) ≡ false
 unfolding everything fits
-session-076 = refl
+session-082 = refl
 
 abbrev numbers-004 : List ℕ
 numbers-004 = 5 ∷ 1 ∷ 1 ∷ 1 ∷ 1 ∷ 6 ∷ 0 ∷ 65535 ∷ 65535 ∷ 0 ∷ 0 ∷ 0 ∷ 0 ∷ 0 ∷ 0 ∷ 0 ∷ 0 ∷ 1 ∷ 0 ∷ 0 ∷ 0 ∷ 0 ∷ 0 ∷ 0 ∷
@@ -892,85 +958,19 @@ numbers-004 = 5 ∷ 1 ∷ 1 ∷ 1 ∷ 1 ∷ 6 ∷ 0 ∷ 65535 ∷ 65535 ∷ 0 �
     0 ∷ 0 ∷ 0 ∷ 0 ∷ 0 ∷ 0 ∷ 0 ∷ 0 ∷ 1 ∷ 0 ∷ 1 ∷ 65535 ∷ 0 ∷ 0 ∷ 1 ∷ 0 ∷ 0 ∷ 3 ∷ 4 ∷ 0 ∷ 5 ∷ 0 ∷ 0 ∷ []
 
 -- well formed
-session-077 : fits numbers-004 (record {
-  configuration = 1 ∷ 2 ∷ [];
-  history = [] ∷ [] ∷ [] ∷ [] ∷ [] ∷ [];
-  internal = (100 ∷ 111 ∷ 110 ∷ 101 ∷ 46 ∷ 115 ∷ 116 ∷ 97 ∷ 116 ∷ 101 ∷ 46 ∷ 115 ∷ []) ∷ [];
-  external = [];
-  mode = Running;
-}) ≡ true
-unfolding everything fits
-session-077 = refl
-
--- closing, the final not under root
-session-078 : fits numbers-004 (record {
-  configuration = 1 ∷ 2 ∷ [];
-  history = [] ∷ [] ∷ [] ∷ [] ∷ [] ∷ [];
-  internal = (100 ∷ 111 ∷ 110 ∷ 101 ∷ 46 ∷ 115 ∷ 116 ∷ 97 ∷ 116 ∷ 101 ∷ 46 ∷ 115 ∷ []) ∷ [];
-  external = [];
-  mode = Closing;
-}) ≡ false
-unfolding everything fits
-session-078 = refl
-
--- closing
-session-079 : fits numbers-004 (record {
-  configuration = 3 ∷ [];
-  history = [] ∷ [] ∷ [] ∷ [] ∷ [] ∷ [];
-  internal = (100 ∷ 111 ∷ 110 ∷ 101 ∷ 46 ∷ 115 ∷ 116 ∷ 97 ∷ 116 ∷ 101 ∷ 46 ∷ 115 ∷ []) ∷ [];
-  external = [];
-  mode = Closing;
-}) ≡ true
-unfolding everything fits
-session-079 = refl
-
--- closing on another final, names queued
-session-080 : fits numbers-004 (record {
-  configuration = 4 ∷ [];
-  history = [] ∷ [] ∷ [] ∷ [] ∷ [] ∷ [];
-  internal = (101 ∷ []) ∷ [];
-  external = (120 ∷ []) ∷ [];
-  mode = Closing;
-}) ≡ true
-unfolding everything fits
-session-080 = refl
-
--- running on a final under root
-session-081 : fits numbers-004 (record {
-  configuration = 3 ∷ [];
-  history = [] ∷ [] ∷ [] ∷ [] ∷ [] ∷ [];
-  internal = (100 ∷ 111 ∷ 110 ∷ 101 ∷ 46 ∷ 115 ∷ 116 ∷ 97 ∷ 116 ∷ 101 ∷ 46 ∷ 115 ∷ []) ∷ [];
-  external = [];
-  mode = Running;
-}) ≡ false
-unfolding everything fits
-session-081 = refl
-
--- ended on a final under root
-session-082 : fits numbers-004 (record {
-  configuration = 3 ∷ [];
-  history = [] ∷ [] ∷ [] ∷ [] ∷ [] ∷ [];
-  internal = (100 ∷ 111 ∷ 110 ∷ 101 ∷ 46 ∷ 115 ∷ 116 ∷ 97 ∷ 116 ∷ 101 ∷ 46 ∷ 115 ∷ []) ∷ [];
-  external = [];
-  mode = Ended;
-}) ≡ false
-unfolding everything fits
-session-082 = refl
-
--- closing on two finals
 session-083 : fits numbers-004 (record {
-  configuration = 3 ∷ 4 ∷ [];
+  configuration = 1 ∷ 2 ∷ [];
   history = [] ∷ [] ∷ [] ∷ [] ∷ [] ∷ [];
   internal = (100 ∷ 111 ∷ 110 ∷ 101 ∷ 46 ∷ 115 ∷ 116 ∷ 97 ∷ 116 ∷ 101 ∷ 46 ∷ 115 ∷ []) ∷ [];
   external = [];
-  mode = Closing;
-}) ≡ false
+  mode = Running;
+}) ≡ true
 unfolding everything fits
 session-083 = refl
 
--- closing with another row
+-- closing, the final not under root
 session-084 : fits numbers-004 (record {
-  configuration = 1 ∷ 2 ∷ 3 ∷ [];
+  configuration = 1 ∷ 2 ∷ [];
   history = [] ∷ [] ∷ [] ∷ [] ∷ [] ∷ [];
   internal = (100 ∷ 111 ∷ 110 ∷ 101 ∷ 46 ∷ 115 ∷ 116 ∷ 97 ∷ 116 ∷ 101 ∷ 46 ∷ 115 ∷ []) ∷ [];
   external = [];
@@ -979,8 +979,74 @@ session-084 : fits numbers-004 (record {
 unfolding everything fits
 session-084 = refl
 
--- closing with the root
+-- closing
 session-085 : fits numbers-004 (record {
+  configuration = 3 ∷ [];
+  history = [] ∷ [] ∷ [] ∷ [] ∷ [] ∷ [];
+  internal = (100 ∷ 111 ∷ 110 ∷ 101 ∷ 46 ∷ 115 ∷ 116 ∷ 97 ∷ 116 ∷ 101 ∷ 46 ∷ 115 ∷ []) ∷ [];
+  external = [];
+  mode = Closing;
+}) ≡ true
+unfolding everything fits
+session-085 = refl
+
+-- closing on another final, names queued
+session-086 : fits numbers-004 (record {
+  configuration = 4 ∷ [];
+  history = [] ∷ [] ∷ [] ∷ [] ∷ [] ∷ [];
+  internal = (101 ∷ []) ∷ [];
+  external = (120 ∷ []) ∷ [];
+  mode = Closing;
+}) ≡ true
+unfolding everything fits
+session-086 = refl
+
+-- running on a final under root
+session-087 : fits numbers-004 (record {
+  configuration = 3 ∷ [];
+  history = [] ∷ [] ∷ [] ∷ [] ∷ [] ∷ [];
+  internal = (100 ∷ 111 ∷ 110 ∷ 101 ∷ 46 ∷ 115 ∷ 116 ∷ 97 ∷ 116 ∷ 101 ∷ 46 ∷ 115 ∷ []) ∷ [];
+  external = [];
+  mode = Running;
+}) ≡ false
+unfolding everything fits
+session-087 = refl
+
+-- ended on a final under root
+session-088 : fits numbers-004 (record {
+  configuration = 3 ∷ [];
+  history = [] ∷ [] ∷ [] ∷ [] ∷ [] ∷ [];
+  internal = (100 ∷ 111 ∷ 110 ∷ 101 ∷ 46 ∷ 115 ∷ 116 ∷ 97 ∷ 116 ∷ 101 ∷ 46 ∷ 115 ∷ []) ∷ [];
+  external = [];
+  mode = Ended;
+}) ≡ false
+unfolding everything fits
+session-088 = refl
+
+-- closing on two finals
+session-089 : fits numbers-004 (record {
+  configuration = 3 ∷ 4 ∷ [];
+  history = [] ∷ [] ∷ [] ∷ [] ∷ [] ∷ [];
+  internal = (100 ∷ 111 ∷ 110 ∷ 101 ∷ 46 ∷ 115 ∷ 116 ∷ 97 ∷ 116 ∷ 101 ∷ 46 ∷ 115 ∷ []) ∷ [];
+  external = [];
+  mode = Closing;
+}) ≡ false
+unfolding everything fits
+session-089 = refl
+
+-- closing with another row
+session-090 : fits numbers-004 (record {
+  configuration = 1 ∷ 2 ∷ 3 ∷ [];
+  history = [] ∷ [] ∷ [] ∷ [] ∷ [] ∷ [];
+  internal = (100 ∷ 111 ∷ 110 ∷ 101 ∷ 46 ∷ 115 ∷ 116 ∷ 97 ∷ 116 ∷ 101 ∷ 46 ∷ 115 ∷ []) ∷ [];
+  external = [];
+  mode = Closing;
+}) ≡ false
+unfolding everything fits
+session-090 = refl
+
+-- closing with the root
+session-091 : fits numbers-004 (record {
   configuration = 0 ∷ 3 ∷ [];
   history = [] ∷ [] ∷ [] ∷ [] ∷ [] ∷ [];
   internal = (100 ∷ 111 ∷ 110 ∷ 101 ∷ 46 ∷ 115 ∷ 116 ∷ 97 ∷ 116 ∷ 101 ∷ 46 ∷ 115 ∷ []) ∷ [];
@@ -988,4 +1054,4 @@ session-085 : fits numbers-004 (record {
   mode = Closing;
 }) ≡ false
 unfolding everything fits
-session-085 = refl
+session-091 = refl
