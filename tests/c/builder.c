@@ -178,6 +178,22 @@ static void white_space(void)
     CHECK(ends_with(AUTTERVIL_FAULT_NONE, NULL) && memcmp(place, numbers, 8 * tables.cells) == 0);
 }
 
+/* Rule 5: an eventless transition to its own source, without a condition and with one; one without targets, though it has a condition. */
+static void spinning(auttervil_counts most)
+{
+    small_chart(most);
+    auttervil_add_transition(&b, "two", NULL, "two");
+    CHECK(ends_with(AUTTERVIL_FAULT_NONE, NULL) && compile() == AUTTERVIL_TRANSITIONS);
+    small_chart(most);
+    auttervil_add_transition(&b, "two", NULL, "two");
+    auttervil_set_condition(&b, "two");
+    CHECK(ends_with(AUTTERVIL_FAULT_NONE, NULL) && compile() == AUTTERVIL_DONE);
+    small_chart(most);
+    auttervil_add_transition(&b, "two", NULL, NULL);
+    auttervil_set_condition(&b, "two");
+    CHECK(ends_with(AUTTERVIL_FAULT_NONE, NULL) && compile() == AUTTERVIL_TRANSITIONS);
+}
+
 /* Rules 2 to 5, each broken through the builder, which does not judge them. */
 static void rules(void)
 {
@@ -195,6 +211,7 @@ static void rules(void)
     small_chart(most);
     auttervil_add_transition(&b, "two", NULL, NULL);
     CHECK(ends_with(AUTTERVIL_FAULT_NONE, NULL) && compile() == AUTTERVIL_TRANSITIONS);
+    spinning(most);
     small_chart(most);
     auttervil_add_row(&b, 6, NULL, "odd");
     CHECK(ends_with(AUTTERVIL_FAULT_NONE, NULL) && compile() == AUTTERVIL_SIZE);

@@ -3,10 +3,9 @@ use mathlib.Core.Path.{_≡_, refl, sym, ap, _∙_}
 use mathlib.Core.Bool.{true}
 use mathlib.Core.List.{List, [], _∷_}
 use mathlib.Core.Option.{none}
-use Prim.Native.Nat.{ℕ}
+use Prim.Native.Nat.{ℕ, _<_}
 use native.Mathlib.Omega.{arith}
 use lib.ListN.{length}
-use Rattle.definition.specs.declared.Mode.the-variants.{Ended}
 use Rattle.definition.specs.declared.Answer.{Answer}
 use Rattle.definition.specs.declared.Answer.the-variants.{Done}
 use Rattle.definition.specs.Tables.{rowCount, chartOf, nameAt}
@@ -16,7 +15,7 @@ use Rattle.definition.specs.Blocks.{Effect}
 use Rattle.definition.specs.Answers.{answerNo}
 use Rattle.definition.specs.Follower.{Follower, endedFollower, did, round, refusal}
 use Rattle.definition.specs.Calls.{Call, starts, Outcome, startedOutcome, follow, followAll}
-use Rattle.definition.specs.Legal.{isLegal, WellFormed}
+use Rattle.definition.specs.Legal.{WellFormed}
 use Rattle.definition.specs.Compiled.{ownNumbers, isCompiled}
 use Rattle.theory.specs.Shown.{takenIn, DisjointExits}
 use Rattle.theory.specs.Theorems.{EveryAfter, start-keeps, calls-keep, all-calls-keep, round-keeps, round-disjoint}
@@ -24,35 +23,23 @@ use Rattle.chart.specs.Own.{answer-done, compiled-ready}
 use Rattle.compiler.specs.Results.{Compiles, verdict-sizes}
 use Rattle.compiler.specs.Theorems.{names-written, place-written, check-compiled}
 use Rattle.session.specs.declared.Session.{Session}
-use Rattle.state.specs.State.{rowsAt, modeFrom}
-use Rattle.session.specs.Sessions.{endedSession, view}
+use Rattle.session.specs.Sessions.{endedSession, runOf}
 use Rattle.faithful.specs.Program.{Step, callAll}
 use Rattle.faithful.specs.Alike.{AllAlike}
 use Rattle.faithful.specs.Faithful.{Means, faithful, faithful-ended}
+use Rattle.faithful.specs.Completed.{LegalStep, step-legal, CompletedRound, completed}
 
 -- every step of the program
 abbrev pub EveryStep : (Step → Type 0) → List Step → Type 0
 EveryStep P [] = Unit {0}
 EveryStep P (x ∷ xs) = P x × EveryStep P xs
 
-pub record LegalStep (c : Chart) (a : Step) : Type 0 where
-  pub legal : (modeFrom (a .session .mode) ≡ Ended → ⊥) → isLegal c (rowsAt (a .session .configuration) 0) ≡ true
-
 -- steps that are alike to well-formed outcomes are legal
 steps-legal : (c : Chart) (rows : ℕ) (xs : List Step) (os : List Outcome) → AllAlike rows xs os → EveryAfter (WellFormed c) os → EveryStep (LegalStep c) xs
 steps-legal c rows [] [] h w = tt
 steps-legal c rows [] (o ∷ os) h w = absurd h
 steps-legal c rows (x ∷ xs) [] h w = absurd h
-steps-legal c rows (x ∷ xs) (o ∷ os) h w = (record { legal = one }, steps-legal c rows xs os (h .1) (w .1))
-  where
-    conf : rowsAt (x .session .configuration) 0 ≡ o .after .configuration
-    conf = unfold view in ap (λ (f : Follower). f .configuration) (h .0 .state)
-
-    mode : modeFrom (x .session .mode) ≡ o .after .mode
-    mode = unfold view in ap (λ (f : Follower). f .mode) (h .0 .state)
-
-    one : (modeFrom (x .session .mode) ≡ Ended → ⊥) → isLegal c (rowsAt (x .session .configuration) 0) ≡ true
-    one n = ap (isLegal c) conf ∙ w .0 .legal (λ e. n (mode ∙ e))
+steps-legal c rows (x ∷ xs) (o ∷ os) h w = (step-legal c rows x (o .after) (h .0 .state) (w .0), steps-legal c rows xs os (h .1) (w .1))
 
 -- what is promised of the numbers and names that were lent, and the chart and slots that compile left
 pub record Demand3 (numbers names chart slots : List ℕ) : Type 0 where
@@ -68,7 +55,10 @@ pub record Demand3 (numbers names chart slots : List ℕ) : Type 0 where
   -- so the configuration that each step hands back is legal unless it has ended
   pub legal : (s : Session) (room : ℕ) (calls : List Call) → EveryStep (LegalStep (chartOf numbers)) (callAll chart slots s (starts room ∷ calls))
   pub legalEnded : (calls : List Call) → EveryStep (LegalStep (chartOf numbers)) (callAll chart slots endedSession calls)
-  -- and after every completed round of a run
+  -- and after every completed round of every run, whatever session it is given, so of every run in a list of calls; the transitions taken in it
+  -- have disjoint exit sets
+  pub completed : (s : Session) (rounds room k : ℕ) → k < (runOf s chart slots rounds room) .rounds → CompletedRound (chartOf numbers) chart slots s rounds room k
+  -- the same of one round of the follower: "configurations stay legal"
   pub rounds : (f : Follower) → WellFormed (chartOf numbers) f → (room : ℕ) (next : Follower) (es : List Effect) →
       round (chartOf numbers) (nameAt names) f ≡ did next es → refusal room next es ≡ none → WellFormed (chartOf numbers) next
   -- "transitions taken together have disjoint exit sets"
@@ -78,12 +68,12 @@ module _ (numbers names place namePlace chart slots : List ℕ) (a : Answer) (ma
   done : verdict numbers names (length place) (length namePlace) ≡ Done
   done = sym (made .is) ∙ answer-done a z
 
-  accepted : keepsRules numbers names ≡ Done
+  pub accepted : keepsRules numbers names ≡ Done
   unfolding keepsRules
   accepted = let s = verdict-sizes numbers names (length place) (length namePlace) done in rw (← s .place, ← s .namePlace) done
 
   -- the compiled chart means the chart that was lent
-  means : Means numbers names chart slots
+  pub means : Means numbers names chart slots
   means =
       let h = place-written numbers names place namePlace chart slots a made z in
       let r = compiled-ready chart slots (h .checks) .ready .tables .sized .counts .rows in
@@ -99,13 +89,25 @@ module _ (numbers names place namePlace chart slots : List ℕ) (a : Answer) (ma
     formedEnded = all-calls-keep numbers names accepted;
     legal = λ s room calls. steps-legal (chartOf numbers) (rowCount numbers) (callAll chart slots s (starts room ∷ calls)) (followAll (chartOf numbers) (nameAt names) (endedFollower (chartOf numbers)) (starts room ∷ calls)) (faithful numbers names chart slots accepted means s (endedFollower (chartOf numbers)) room calls) (all-calls-keep numbers names accepted (starts room ∷ calls));
     legalEnded = λ calls. steps-legal (chartOf numbers) (rowCount numbers) (callAll chart slots endedSession calls) (followAll (chartOf numbers) (nameAt names) (endedFollower (chartOf numbers)) calls) (faithful-ended numbers names chart slots accepted means calls) (all-calls-keep numbers names accepted calls);
+    completed = completed numbers names chart slots accepted means;
     rounds = round-keeps numbers names accepted;
     disjoint = round-disjoint numbers names accepted;
   }
 
 -- of any places that pass the check behind refusal 8, over their own numbers
-pub demand-3-checked : (chart names : List ℕ) → isCompiled chart names ≡ true → Demand3 (ownNumbers chart) names chart names
-unfolding answerNo
-demand-3-checked chart names h =
-    let k = check-compiled chart names h in
-    demand-3 (ownNumbers chart) names chart names chart names Done (record { is = sym (answer-done _ (k .answer)); chart = k .is; slots = refl }) refl
+module _ (chart names : List ℕ) (h : isCompiled chart names ≡ true) where
+  checked : Compiles (ownNumbers chart) names chart names Done chart names
+  unfolding answerNo
+  checked = let k = check-compiled chart names h in record { is = sym (answer-done _ (k .answer)); chart = k .is; slots = refl }
+
+  pub own-accepted : keepsRules (ownNumbers chart) names ≡ Done
+  unfolding answerNo
+  own-accepted = accepted (ownNumbers chart) names chart names chart names Done checked refl
+
+  pub own-means : Means (ownNumbers chart) names chart names
+  unfolding answerNo
+  own-means = means (ownNumbers chart) names chart names chart names Done checked refl
+
+  pub demand-3-checked : Demand3 (ownNumbers chart) names chart names
+  unfolding answerNo
+  demand-3-checked = demand-3 (ownNumbers chart) names chart names chart names Done checked refl

@@ -49,7 +49,7 @@ module _ (numbers names chart slots : List ℕ) (accepted : keepsRules numbers n
   sound = accepted-sound numbers names accepted
 
   -- the session that spells a well-formed state is read back as that state
-  found : (f : Follower) → WellFormed c f → view (rowCount numbers) (sessionOf f) ≡ f
+  pub found : (f : Follower) → WellFormed c f → view (rowCount numbers) (sessionOf f) ≡ f
   found f w = view-session c (sound .tree) (m .few) f w
 
   -- ---- each call
@@ -95,7 +95,7 @@ module _ (numbers names chart slots : List ℕ) (accepted : keepsRules numbers n
   run-from f w rounds room =
       ap (λ (x : List ℕ). run c (nameAt x) rounds (view (rowCount numbers) (sessionOf f)) room) (m .slotsAre) ∙ ap (λ (x : Follower). run c (nameAt names) rounds x room) (found f w)
 
-  run-by : (f : Follower) → WellFormed c f → (rounds room : ℕ) → runOf (sessionOf f) chart slots rounds room ≡ ranAs (run c (nameAt names) rounds f room)
+  pub run-by : (f : Follower) → WellFormed c f → (rounds room : ℕ) → runOf (sessionOf f) chart slots rounds room ≡ ranAs (run c (nameAt names) rounds f room)
   unfolding runOf
   run-by f w rounds room = rw (m .checks, m .chartIs, session-passes c sound f (m .few) w) (ap ranAs (run-from f w rounds room))
 

@@ -1,6 +1,9 @@
 pub mod Program
 pub mod Alike
 pub mod Faithful
+pub mod Cuts
+pub mod Completed
 pub mod Demand3
+pub mod AnyOrder
 pub mod ChartA
 pub mod MarkedRuns

@@ -1,0 +1,4 @@
+pub mod EntryUnion
+pub mod OneByOne
+pub mod OneMore
+pub mod AnyOrder
