@@ -51,7 +51,7 @@ pub fn enough_happened(coverage: &Coverage) -> Found {
         ensure(coverage.get(answer) > 0, || format!("no {answer} among the calls"))?;
     }
     for charts in [LARGE_CHARTS, GREATEST_CHARTS] {
-        ensure(coverage.get(charts) >= 20, || format!("{charts}: only {}", coverage.get(charts)))?;
+        ensure(coverage.get(charts) >= 5, || format!("{charts}: only {}", coverage.get(charts)))?;
     }
     let (lists, refused) = (coverage.get(LISTS), coverage.get(REFUSED_LISTS));
     ensure(refused * 4 >= lists, || format!("only {refused} of {lists} call lists have a refusal"))
