@@ -1,0 +1,2 @@
+// The kit wants a function in every crate.
+pub fn nothing() {}
