@@ -1,3 +1,4 @@
 pub mod Rounds
 pub mod Sums
 pub mod Room
+pub mod Entries

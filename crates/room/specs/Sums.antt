@@ -23,6 +23,11 @@ unfolding fold total
 fold-total step f e a [] = omega arith
 fold-total step f e a (x ∷ xs) = let h = fold-total step f e (step a x) xs in let q = e a x in omega arith
 
+pub total-zero : (f : ℕ → ℕ) (xs : List ℕ) → ((x : ℕ) → f x ≡ 0) → total f xs ≡ 0
+unfolding total
+total-zero f [] h = refl
+total-zero f (x ∷ xs) h = let a = h x in let b = total-zero f xs h in omega arith
+
 pub total-more : (f g : ℕ → ℕ) (xs : List ℕ) → ((x : ℕ) → mem x xs ≡ true → f x ≤ g x) → total f xs ≤ total g xs
 unfolding total
 total-more f g [] h = omega arith
