@@ -2,3 +2,4 @@ pub mod Rounds
 pub mod Sums
 pub mod Room
 pub mod Entries
+pub mod Enough
