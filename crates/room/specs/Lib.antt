@@ -3,3 +3,4 @@ pub mod Sums
 pub mod Room
 pub mod Entries
 pub mod Enough
+pub mod Adding
