@@ -4,7 +4,6 @@ use mathlib.Core.Bool.{Bool, true, false, cond}
 use mathlib.Core.List.{List, []}
 use Prim.Native.Nat.{ℕ, _+_, _≤_, _<_}
 use native.Mathlib.Omega.{arith}
-
 use Rattle.definition.specs.declared.Answer.the-variants.{BadChart, BadSession, NoRoom}
 use Rattle.definition.specs.declared.Status.the-variants.{More, Refused}
 use Rattle.definition.specs.Chart.{Chart}
