@@ -13,7 +13,12 @@ use Rattle.laws.specs.Passes.{Counted, count-begin, count-turn}
 use Rattle.tables.specs.Parts.{actionsOf, BlockOf}
 use Rattle.tables.specs.Ranges.{InTables}
 use Rattle.chart.specs.Own.{own-chart, compiled-ready}
-use Rattle.room.specs.Room.{rowsRoom, transitionsRoom, roomFor, roomOf, Few}
+use Rattle.room.specs.Room.{rowsRoom, transitionsRoom, roomFor, roomOf}
+
+-- the number that is meant, and at most so many: no sum of these is too long for a machine's number
+pub record Few (meant most n : ℕ) : Type 0 where
+  pub is : n ≡ meant
+  pub few : n ≤ most
 
 pub block-few : (numbers b : List ℕ) (actions : List Action) (n : ℕ) → BlockOf numbers actions b → n ≡ length (actionsOf b) → Few (length actions) 8 n
 block-few numbers b actions n h e = let s = h .short in let q = e ∙ ap {B = ℕ} length (h .is) in record { is = q; few = omega arith }

@@ -1,9 +1,8 @@
 -- How many entries suffice for any one start or round of a chart. In a round each row is exited at most once and entered at most once, each transition
 -- is taken at most once, and the block of each list is performed at most once.
-use mathlib.Core.Path.{_≡_}
 use mathlib.Core.Bool.{cond}
 use mathlib.Core.List.{List}
-use Prim.Native.Nat.{ℕ, _+_, _≤_}
+use Prim.Native.Nat.{ℕ, _+_}
 use lib.ListN.{length}
 use Rattle.definition.specs.Rows.{fold, from}
 use Rattle.definition.specs.Chart.{Chart}
@@ -36,8 +35,3 @@ roomFor c = rowsRoom c + transitionsRoom c
 -- of a lent compiled chart; 0 where what is lent is none
 unfoldable pub roomOf : List ℕ → List ℕ → ℕ
 roomOf chart names = cond (isCompiled chart names) (roomFor (chartOf (ownNumbers chart))) 0
-
--- the number that is meant, and at most so many: no sum of these is too long for a machine's number
-pub record Few (meant most n : ℕ) : Type 0 where
-  pub is : n ≡ meant
-  pub few : n ≤ most

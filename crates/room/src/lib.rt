@@ -2,7 +2,8 @@
 ghost use mathlib.Core.Path.{_≡_};
 ghost use Rattle.definition.specs.Tables.{chartOf};
 ghost use Rattle.tables.specs.Ranges.{InTables, RowIn, TransitionIn};
-ghost use Rattle.room.specs.Room.{rowRoom, transitionRoom, rowsRoom, transitionsRoom, roomOf, Few};
+ghost use Rattle.room.specs.Room.{rowRoom, transitionRoom, rowsRoom, transitionsRoom, roomOf};
+ghost use Rattle.room.specs.Adding.{Few};
 use numbers::Row;
 use numbers::Transition;
 
