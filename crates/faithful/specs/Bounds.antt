@@ -9,7 +9,7 @@ use Rattle.definition.specs.declared.Status.the-variants.{More, Refused}
 use Rattle.definition.specs.Chart.{Chart}
 use Rattle.definition.specs.Tables.{chartOf, nameAt}
 use Rattle.definition.specs.Follower as follower
-use Rattle.definition.specs.Follower.{Follower, startOr, run}
+use Rattle.definition.specs.Follower.{startOr, run}
 use Rattle.definition.specs.Legal.{WellFormed}
 use Rattle.definition.specs.Compiled.{ownNumbers, isCompiled}
 use Rattle.theory.specs.Accepted.{Sound}

@@ -1,9 +1,9 @@
 -- The entries of a round, of a start and of a closing round are no more than roomFor says.
 use mathlib.Core.Path.{_≡_, refl, ap, sym, _∙_, subst}
-use mathlib.Core.Bool.{Bool, true, false, not, _&&_, _||_, cond}
+use mathlib.Core.Bool.{Bool, true, false, not, _&&_, cond}
 use mathlib.Core.List.{List, [], _∷_, _++_}
 use mathlib.Core.Option.{Option}
-use Prim.Native.Nat.{ℕ, zero, suc, _+_, _≤_, _<_}
+use Prim.Native.Nat.{ℕ, _+_, _≤_, _<_}
 use native.Mathlib.Omega.{arith}
 use lib.Dec.{eqb, ltb}
 use lib.ListN.{length, length-append, length-map}
@@ -15,17 +15,17 @@ use Rattle.definition.specs.declared.Action.{Action}
 use Rattle.definition.specs.Rows.{fold, from, keep, mem, isIn, isEmpty, isSet, union, flat, backwards, intersection}
 use Rattle.definition.specs.Names.{Name}
 use Rattle.definition.specs.Chart.{Chart, Names, kind, parent, isRoot, isState, isFinal, isHistory}
-use Rattle.definition.specs.Tree.{descendants, children, isCompound, defaultTargets}
+use Rattle.definition.specs.Tree.{descendants, isCompound, defaultTargets}
 use Rattle.definition.specs.Selection.{History, domain, effectiveTargets, exitSet, selected}
 use Rattle.definition.specs.Blocks.{Effect, done, performed}
 use Rattle.definition.specs.Microstep.{addExits, exits, exitEffects, exiting, transitionEffects, pathsBelow, addTargets, targeted, Entry, entrySet, fellToDefault, addFallen, fallen, initialBlock, defaultBlock, isDoneAbove, doneEffects, isUpTo, entryEffects, entering, storedIn, staying, historyAfter, entryOf, effects}
 use Rattle.definition.specs.Follower.{Follower, Round, idle, over, did, taking, selectedBy, closingRound, round, firstEntry, firstEffects}
-use Rattle.laws.specs.Bools.{no, clash, or-elim, bool-case, and-left, and-right}
-use Rattle.laws.specs.Sets.{Ascends, NoTwice, no-twice, mem-one, mem-insert-one, ascends-union, mem-intersection}
+use Rattle.laws.specs.Bools.{no, or-elim, bool-case, and-left, and-right}
+use Rattle.laws.specs.Sets.{Ascends, NoTwice, no-twice, mem-one, mem-insert-one, mem-intersection}
 use Rattle.laws.specs.Lists.{keep-mem, mem-app, set-ascends, set-below}
 use Rattle.theory.specs.Unions.{union-mem, ascends-fold-union}
 use Rattle.theory.specs.Tree.{Tree}
-use Rattle.theory.specs.Entry.{path-inside, ascends-paths, bare-facts, Step, child, initial, steps-keep, entry-steps, aimedAt, entry-ascends, entry-inside}
+use Rattle.theory.specs.Entry.{path-inside, ascends-paths, bare-facts, Step, child, initial, steps-keep, entry-steps, entry-ascends, entry-inside}
 use Rattle.theory.specs.Accepted.{mem-descendants}
 use Rattle.theory.specs.Disjoint.{candidate-of, selected-once, selected-candidate, no-twice-subsequence, subsequence-keep}
 use Rattle.theory.specs.Round.{exits-ascends}

@@ -1,8 +1,8 @@
 -- How many rounds a run does at most. Each completed round writes an entry or takes a waiting name, and a name that joins the internal queue
 -- is an entry of its own, of a kind that no transition has: so the rounds are no more than the entries and the names that waited at first.
-use mathlib.Core.Path.{_≡_, refl, ap, sym, _∙_, subst}
-use mathlib.Core.Bool.{Bool, true, false, cond}
-use mathlib.Core.List.{List, [], _∷_, _++_}
+use mathlib.Core.Path.{_≡_, refl, ap, sym, subst}
+use mathlib.Core.Bool.{false}
+use mathlib.Core.List.{List, [], _∷_}
 use Prim.Native.Nat.{ℕ, zero, suc, _+_, _-_, _≤_, _<_}
 use native.Mathlib.Omega.{arith}
 use lib.ListN.{length, length-append}
@@ -14,7 +14,7 @@ use Rattle.definition.specs.Names.{Name}
 use Rattle.definition.specs.Chart.{Chart, Names}
 use Rattle.definition.specs.Blocks.{Effect, exited, taken, entered, acted, raised, done, queued}
 use Rattle.definition.specs.Microstep.{storedIn, exitEffects, exiting, effects, configurationAfter}
-use Rattle.definition.specs.Follower.{Follower, mostQueued, isFinalUnderRoot, modeOf, Round, idle, over, did, taking, selectedBy, byExternal, byInternal, byEventless, closingRound, roundIn, round, refusal, Ran, stopped, counted, run}
+use Rattle.definition.specs.Follower.{Follower, mostQueued, modeOf, Round, idle, over, did, taking, selectedBy, byExternal, byInternal, byEventless, closingRound, roundIn, round, stopped, counted, run}
 use Rattle.definition.specs.Legal.{WellFormed}
 use Rattle.laws.specs.Bools.{no}
 use Rattle.laws.specs.Lists.{list-full}

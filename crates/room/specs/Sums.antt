@@ -2,13 +2,13 @@
 use mathlib.Core.Path.{_≡_, refl, ap, sym, _∙_}
 use mathlib.Core.Bool.{Bool, true, false, _||_, cond}
 use mathlib.Core.List.{List, [], _∷_, _++_}
-use Prim.Native.Nat.{ℕ, zero, suc, _+_, _≤_, _<_}
+use Prim.Native.Nat.{ℕ, _+_, _≤_, _<_}
 use native.Mathlib.Omega.{arith}
 use lib.Dec.{eqb}
 use lib.ListN.{length, length-append}
-use borrow.Author.Tests.{eqb-true, eqb-false, eq-eqb}
+use borrow.Author.Tests.{eqb-true}
 use Rattle.definition.specs.Rows.{fold, from, keep, mem, flat, backwards, onto}
-use Rattle.laws.specs.Bools.{no, clash, or-elim, bool-case, not-so}
+use Rattle.laws.specs.Bools.{no, clash, or-elim, not-so}
 use Rattle.laws.specs.Sets.{NoTwice, mem-head, mem-below}
 use Rattle.laws.specs.Lists.{mem-tail, mem-cases, mem-app}
 
