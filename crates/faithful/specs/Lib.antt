@@ -7,3 +7,4 @@ pub mod Demand3
 pub mod AnyOrder
 pub mod ChartA
 pub mod MarkedRuns
+pub mod Bounds

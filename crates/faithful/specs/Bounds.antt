@@ -1,0 +1,118 @@
+-- What a host may build on: how many rounds a run does at most, and how many places of trace suffice. For every chart, bytes of names and session, whatever they hold.
+use mathlib.Core.Path.{_≡_, refl, ap}
+use mathlib.Core.Bool.{Bool, true, false, cond}
+use mathlib.Core.List.{List, []}
+use Prim.Native.Nat.{ℕ, _+_, _≤_, _<_}
+use native.Mathlib.Omega.{arith}
+use Rattle.definition.specs.declared.Answer.the-variants.{BadChart, BadSession, NoRoom}
+use Rattle.definition.specs.declared.Status.the-variants.{More, Refused}
+use Rattle.definition.specs.Chart.{Chart}
+use Rattle.definition.specs.Tables.{chartOf, nameAt}
+use Rattle.definition.specs.Follower as follower
+use Rattle.definition.specs.Follower.{startOr, run}
+use Rattle.definition.specs.Legal.{WellFormed}
+use Rattle.definition.specs.Compiled.{ownNumbers, isCompiled}
+use Rattle.theory.specs.Accepted.{Sound}
+use Rattle.theory.specs.Runs.{run-more}
+use Rattle.chart.specs.Own.{own-chart, compiled-ready}
+use Rattle.room.specs.Rounds.{waiting, run-spent, run-bounded, well-formed-closes, well-formed-waiting}
+use Rattle.room.specs.Room.{roomFor, roomOf}
+use Rattle.room.specs.Enough.{start-enough, run-enough, first-round-enough}
+use Rattle.session.specs.declared.Session.{Session}
+use Rattle.session.specs.declared.Ran.{Ran}
+use Rattle.session.specs.Sessions.{sessionOf, view, isSession, startBy, startOf, refusedRun, ranAs, runFrom, runOf}
+use Rattle.session.specs.Spelling.{session-spells, session-well-formed}
+
+-- the names that wait in a session's queues, by its own counts
+unfoldable pub waitingIn : Session → ℕ
+waitingIn s = s .«internal_count» + s .«external_count»
+
+module _ (chart names : List ℕ) (k : isCompiled chart names ≡ true) where
+  sound : Sound (chartOf (ownNumbers chart))
+  sound = let h = compiled-ready chart names k .ready in rw (own-chart chart (h .tables)) (h .sound)
+
+  room-is : roomOf chart names ≡ roomFor (chartOf (ownNumbers chart))
+  unfolding roomOf
+  room-is = rw k
+
+-- ---- runs
+
+module _ (s : Session) (chart names : List ℕ) (rounds room : ℕ) where
+  abbrev c : Chart
+  c = chartOf (ownNumbers chart)
+
+  -- refused with 8, refused with 9, or the follower's run
+  run-ways {ℓ} : (P : Ran → Type ℓ) → P (refusedRun s BadChart) → P (refusedRun s BadSession) →
+      (isCompiled chart names ≡ true → isSession c s ≡ true → P (ranAs (run c (nameAt names) rounds (view (c .rows) s) room))) → P (runOf s chart names rounds room)
+  unfolding runOf runFrom
+  run-ways P a b f = outer (isCompiled chart names) refl
+    where
+      inner : (d : Bool) → isCompiled chart names ≡ true → isSession c s ≡ d → P (cond d (ranAs (run c (nameAt names) rounds (view (c .rows) s) room)) (refusedRun s BadSession))
+      inner true k h = f k h
+      inner false k h = b
+
+      outer : (d : Bool) → isCompiled chart names ≡ d →
+          P (cond d (cond (isSession c s) (ranAs (run c (nameAt names) rounds (view (c .rows) s) room)) (refusedRun s BadSession)) (refusedRun s BadChart))
+      outer true k = inner (isSession c s) k refl
+      outer false k = a
+
+  formed : isCompiled chart names ≡ true → isSession c s ≡ true → WellFormed c (view (c .rows) s)
+  formed k h = session-well-formed c (sound chart names k) s h
+
+  waits : isCompiled chart names ≡ true → isSession c s ≡ true → waiting (view (c .rows) s) ≡ waitingIn s
+  unfolding waiting waitingIn sessionOf
+  waits k h = ap (λ (x : Session). x .«internal_count» + x .«external_count») (session-spells c (sound chart names k) s h)
+
+  -- no more rounds than entries and names that waited
+  pub rounds-spent : (runOf s chart names rounds room) .rounds ≤ waitingIn s + (runOf s chart names rounds room) .count
+  unfolding refusedRun ranAs
+  rounds-spent =
+      run-ways (λ r. r .rounds ≤ waitingIn s + r .count) (omega arith) (omega arith)
+      (λ k h. let a = run-spent c (nameAt names) rounds (view (c .rows) s) room (well-formed-closes c _ (formed k h)) in let e = waits k h in omega arith)
+
+  -- at most 32 names wait in each queue
+  pub rounds-bounded : (runOf s chart names rounds room) .rounds ≤ room + 64
+  unfolding refusedRun ranAs
+  rounds-bounded =
+      run-ways (λ r. r .rounds ≤ room + 64) (omega arith) (omega arith)
+      (λ k h. let a = run-bounded c (nameAt names) rounds (view (c .rows) s) room (well-formed-closes c _ (formed k h)) in
+      let b = well-formed-waiting c (view (c .rows) s) (formed k h) in omega arith)
+
+  -- so a run of more rounds than that is idle, ended or refused
+  pub run-settles : room + 64 < rounds → (runOf s chart names rounds room) .status ≡ More → ⊥
+  unfolding refusedRun ranAs
+  run-settles l =
+      run-ways (λ r. r .status ≡ More → ⊥) (λ m. let z : _≡_ {A = ℕ} 0 1 = cc in omega arith) (λ m. let z : _≡_ {A = ℕ} 0 1 = cc in omega arith)
+      (λ k h m. let a = run-bounded c (nameAt names) rounds (view (c .rows) s) room (well-formed-closes c _ (formed k h)) in
+      let b = well-formed-waiting c (view (c .rows) s) (formed k h) in
+      let e = run-more c (nameAt names) rounds (view (c .rows) s) room m in omega arith)
+
+  -- a run that is refused with 10 leaves fewer places of trace than suffice for a round
+  pub run-room : (runOf s chart names rounds room) .status ≡ Refused NoRoom → room < roomOf chart names + (runOf s chart names rounds room) .count
+  unfolding refusedRun ranAs
+  run-room =
+      run-ways (λ r. r .status ≡ Refused NoRoom → room < roomOf chart names + r .count)
+      (λ m. let z : _≡_ {A = ℕ} 0 1 = cc in absurd (omega arith)) (λ m. let z : _≡_ {A = ℕ} 0 1 = cc in absurd (omega arith))
+      (λ k h m. let a = run-enough c (sound chart names k) (nameAt names) rounds (view (c .rows) s) room (formed k h) m in let e = room-is chart names k in omega arith)
+
+  -- and one with so many places at first does its first round
+  pub first-round : roomOf chart names ≤ room → (runOf s chart names rounds room) .status ≡ Refused NoRoom → 1 ≤ (runOf s chart names rounds room) .rounds
+  unfolding refusedRun ranAs
+  first-round l =
+      run-ways (λ r. r .status ≡ Refused NoRoom → 1 ≤ r .rounds)
+      (λ m. let z : _≡_ {A = ℕ} 0 1 = cc in absurd (omega arith)) (λ m. let z : _≡_ {A = ℕ} 0 1 = cc in absurd (omega arith))
+      (λ k h m. let e = room-is chart names k in
+      first-round-enough c (sound chart names k) (nameAt names) rounds (view (c .rows) s) room (formed k h) (omega arith) m)
+
+-- ---- starts
+
+module _ (chart names : List ℕ) (room : ℕ) where
+  -- a start that is refused with 10 was lent fewer
+  pub start-room : (startOf chart names room) .answer ≡ NoRoom → room < roomOf chart names
+  unfolding startOf startBy startOr
+  start-room = go (isCompiled chart names) refl
+    where
+      go : (d : Bool) → isCompiled chart names ≡ d →
+          (cond d (follower.start (chartOf (ownNumbers chart)) (nameAt names) room) (record { answer = BadChart; follower = follower.endedFollower (chartOf (ownNumbers chart)); effects = [] })) .answer ≡ NoRoom → room < roomOf chart names
+      go true k m = let a = start-enough (chartOf (ownNumbers chart)) (sound chart names k) (nameAt names) room m in let e = room-is chart names k in omega arith
+      go false k m = let z : _≡_ {A = ℕ} 0 1 = cc in absurd (omega arith)
