@@ -160,8 +160,8 @@ def words(one):
 
 
 def reached(crate, statements):
-    """All declarations that the exports of a crate and the statements (crate, module and name of each) lead to."""
-    waiting = [*source(crate).exports(), *(specs(crate, module).declared[name] for crate, module, name in statements)]
+    """All declarations that the exports of a crate and the statements (crate, module and names of each) lead to."""
+    waiting = [*source(crate).exports(), *(specs(crate, module).declared[name] for crate, module, names in statements for name in names)]
     found = {}
     while waiting:
         one = waiting.pop()
