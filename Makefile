@@ -8,7 +8,6 @@
 # make examples   writes the computed examples anew (crates/examples)
 # make cases   writes what the programs over the crates read and print anew
 # make expected   writes what the life cycle prints anew
-# make manifest   notes the files that make test expects
 CARGO = cargo build --quiet --offline
 LINKED = --manifest-path linked/Cargo.toml --target-dir build/linked
 BENCH = --release --manifest-path bench/Cargo.toml --target-dir build/bench --features linked
@@ -22,7 +21,7 @@ VERSION = $(shell sed -n 's/^\#define AUTTERVIL_VERSION "\(.*\)"/\1/p' include/a
 LIFECYCLE = examples/lifecycle
 
 .DEFAULT_GOAL := lib
-.PHONY: test demo lib bench agree examples cases manifest second linked clean lifecycle picture chart-a test-c expected absolute install uninstall
+.PHONY: test demo lib bench agree examples cases second linked clean lifecycle picture chart-a test-c expected absolute install uninstall
 
 test:
 	@bash tests/run
@@ -39,11 +38,7 @@ lib: build/libauttervil.a
 
 # Proved anew whenever code, contract or proof has changed.
 build/libauttervil.a: crates.txt $(shell find crates -name '*.rt' -o -name '*.antt')
-	@echo 'Proving and linking the library: minutes on a fresh clone, seconds when little has changed.'
-	@command -v rt > /dev/null || { echo 'rt, the command of the Rattle kit, is not on the PATH'; exit 1; }
-	@rt staticlib auttervil
-	@mkdir -p build
-	@cp target/staticlib/libauttervil.a build/libauttervil.a
+	@bash prove
 
 build/lifecycle: $(LIFECYCLE)/lifecycle.c $(LIFECYCLE)/chart.h include/auttervil.h $(LIB)
 	@$(CC) -std=c99 -O2 -Wall -Wextra -Iinclude $(LIFECYCLE)/lifecycle.c -o build/lifecycle $(LIB)
@@ -96,9 +91,6 @@ examples: second
 
 cases: second
 	@build/second/release/write-cases crates
-
-manifest:
-	@bash tests/manifest > tests/manifest.txt
 
 clean:
 	rm -rf target build

@@ -18,7 +18,9 @@ struct Results {
 
 fn main() -> ExitCode {
     let mut checks = agreement();
-    checks.extend(small());
+    let written = small();
+    println!("{} checks are written by hand", written.len());
+    checks.extend(written);
     let next = AtomicUsize::new(0);
     let results = Mutex::new(Results::default());
     thread::scope(|scope| {
