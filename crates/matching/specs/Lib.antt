@@ -4,4 +4,5 @@ pub mod Climb
 pub mod Chosen
 pub mod Eventless
 pub mod Ready
+pub mod Descriptors
 pub mod Seen

@@ -1,13 +1,15 @@
 // Which transitions match an event, and which of them the active atomic states choose.
 ghost use mathlib.Core.Path.{_≡_};
 ghost use lib.ListN.{length};
+ghost use Rattle.definition.specs.Rows.{any};
 ghost use Rattle.definition.specs.Tables.{rowCount, transitionCount, eventsAt, nameAt, chartOf};
 ghost use Rattle.definition.specs.Selection.{matchesAt, isTriggered, isTrue, isMatch, choice, candidates};
-ghost use Rattle.tables.specs.Ranges.{SlotIn};
+ghost use Rattle.tables.specs.Ranges.{SlotIn, NameInList};
 ghost use Rattle.tables.specs.Parts.{conditionOf};
 ghost use Rattle.rowset.specs.Member.{rowsOf};
 ghost use Rattle.chart.specs.Ready.{Ready, TransitionReady};
 ghost use Rattle.matching.specs.Events.{eventOf};
+ghost use Rattle.matching.specs.Descriptors.{PlaceOf, SomeDescriptors};
 ghost use Rattle.matching.specs.Sources.{startsBefore, Indexed};
 ghost use Rattle.matching.specs.Climb.{choiceOf};
 ghost use Rattle.matching.specs.Chosen.{Within, AreChosen, atomicRows};
@@ -17,9 +19,11 @@ ghost use Rattle.matching.specs.Seen.{OnceReady, OnceDone};
 use numbers::NameNumber;
 use numbers::Row;
 use numbers::Transition;
+use onepass::Places;
 use rowset::Found;
 use rowset::RowSet;
 use tables::Condition;
+use tables::limits;
 
 // ---- one transition against the event and the configuration
 
@@ -32,7 +36,32 @@ fn matches_at(names: &[u8], d: NameNumber, event: &[u8]) -> bool
     names::slot_matches(slot, event)
 }
 
-// An event of no bytes is none: then a transition without descriptors is wanted.
+// Where the slot of descriptor k begins; that of the first where there are not so many.
+fn place_of(chart: &[u64], descriptors: &[u64], k: usize) -> usize
+    requires { ⌜ NameInList (now chart) (now descriptors) 0 ⌝ }
+    ensures { λ o. ⌜ PlaceOf (now (chart .entry)) (now (descriptors .entry)) k o ⌝ }
+{
+    if k < descriptors.len() {
+        return numbers::name_index(tables::name_at(chart, descriptors, k)) * limits::SLOT_SIZE;
+    }
+    numbers::name_index(tables::name_at(chart, descriptors, 0)) * limits::SLOT_SIZE
+}
+
+// Whether any of a transition's descriptors matches, by one pass over the event. Fewer than four lend the first once more, which changes nothing.
+fn any_matches(chart: &[u64], names: &[u8], descriptors: &[u64], event: &[u8]) -> bool
+    requires { ⌜ SomeDescriptors (now chart) (now names) (now descriptors) ⌝ }
+    ensures { λ b. ⌜ b ≡ any (matchesAt (nameAt (now (names .entry))) (now (event .entry))) (now (descriptors .entry)) ⌝ }
+{
+    let at = Places {
+        first: place_of(chart, descriptors, 0),
+        second: place_of(chart, descriptors, 1),
+        third: place_of(chart, descriptors, 2),
+        fourth: place_of(chart, descriptors, 3),
+    };
+    onepass::any_matches(names, at, event)
+}
+
+// An event of no bytes is none: then a transition without descriptors is wanted. However many descriptors there are, each byte of the event is read at most once.
 pub fn is_triggered(chart: &[u64], names: &[u8], t: Transition, event: &[u8]) -> bool
     requires { ⌜ TransitionWith (now chart) (now names) (t .0) ⌝ }
     ensures { λ b. ⌜ b ≡ isTriggered (nameAt (now (names .entry))) (eventOf (now (event .entry))) (eventsAt (now (chart .entry)) (t .0)) ⌝ }
@@ -41,14 +70,13 @@ pub fn is_triggered(chart: &[u64], names: &[u8], t: Transition, event: &[u8]) ->
     if event.len() == 0 {
         return descriptors.len() == 0;
     }
-    let mut i = 0;
-    while i < descriptors.len() {
-        if matches_at(names, tables::name_at(chart, descriptors, i), event) {
-            return true;
-        }
-        i += 1;
+    if descriptors.len() == 0 {
+        return false;
     }
-    false
+    if descriptors.len() == 1 {
+        return matches_at(names, tables::name_at(chart, descriptors, 0), event);
+    }
+    any_matches(chart, names, descriptors, event)
 }
 
 pub fn is_true(conf: RowSet, condition: Condition) -> bool
@@ -176,7 +204,16 @@ struct Kept {
 }
 
 // The kept items with the choice of row i, unless it is there.
-fn add_once(chart: &[u64], names: &[u8], conf: RowSet, event: &[u8], items: &mut [u16], kept: Kept, i: Row, choice: Choice) -> Kept
+fn add_once(
+    chart: &[u64],
+    names: &[u8],
+    conf: RowSet,
+    event: &[u8],
+    items: &mut [u16],
+    kept: Kept,
+    i: Row,
+    choice: Choice,
+) -> Kept
     requires { ⌜ OnceReady (now chart) (now names) conf (now event) (now items) kept (i .0) choice ⌝ }
     ensures { λ r. ⌜ OnceDone (now (chart .entry)) (now (names .entry)) conf (now (event .entry)) (now (items .entry)) kept choice (now (items .exit)) r ⌝ }
 {

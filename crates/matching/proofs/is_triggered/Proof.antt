@@ -1,64 +1,54 @@
-use mathlib.Core.Path.{refl}
-use Prim.Native.Nat.{_-_}
-use lib.ListN.{length}
+use mathlib.Core.Path.{ap, _∙_}
+use native.Mathlib.Omega.{arith}
 use borrow.Author.Needs.{needs}
+use Rattle.definition.specs.Rows.{any}
 use Rattle.definition.specs.Selection.{matchesAt}
 use Rattle.definition.specs.Tables.{nameAt}
-use Rattle.laws.specs.Loops.{Failing, failing-begin, failing-read-turn, failing-read-leave, failing-done}
 use Rattle.matching.specs.Ready.{slot-ready}
 use Rattle.matching.specs.Events.{triggered-none, triggered-by, empty-length}
+use Rattle.matching.specs.Descriptors.{any-none, any-one}
 use Rattle.matching.proofs.is_triggered.Statement.{statement}
 use Rattle.matching.proofs.is_triggered.Tie as tie
 
-abbrev Inv-loop : tie.InvT-loop
-Inv-loop chart names event descriptors i₀ i = Failing (matchesAt (nameAt names) event) descriptors (length descriptors) i
-
-abbrev μ-loop : tie.MeasureT-loop
-μ-loop chart names event descriptors i₀ i = length descriptors - i
-
-descriptors-of-requires : tie.Need-descriptors-of-requires Inv-loop μ-loop
+descriptors-of-requires : tie.Need-descriptors-of-requires
 descriptors-of-requires c κs = search needs
 
-returns : tie.Need-returns Inv-loop μ-loop
+returns : tie.Need-returns
 returns c = triggered-none _ _ _ (c .if1 .taken) _ (empty-length _ _ (c .before .descriptors-of .ensures .is))
 
-loop-holds : tie.Need-loop-holds Inv-loop μ-loop
-loop-holds c = failing-begin _ _ _ refl
+returns-2 : tie.Need-returns-2
+returns-2 c = triggered-by _ _ _ (c .before .if1 .left) _ (any-none _ _ _ (c .before .before .descriptors-of .ensures .is) (c .if2 .taken))
 
-name-at-requires : tie.Need-name-at-requires Inv-loop μ-loop
-name-at-requires c κs = record { names = c .before .before .before .descriptors-of .ensures .within; below = c .loop-test .taken }
+name-at-requires : tie.Need-name-at-requires
+name-at-requires c κs = record { names = c .before .before .before .descriptors-of .ensures .within; below = let l = c .if3 .taken in omega arith }
 
-matches-at-requires : tie.Need-matches-at-requires Inv-loop μ-loop
+matches-at-requires : tie.Need-matches-at-requires
 matches-at-requires c κs = slot-ready _ _ _ (c .before .before .before .before .before .before .before .before .pre .compiled) (c .name-at .ensures .below)
 
-returns-2 : tie.Need-returns-2 Inv-loop μ-loop
-returns-2 c = triggered-by _ _ _ (c .before .before .before .before .before .if1 .left) _ (failing-read-leave _ _ _ _ _ _ _ (c .before .before .before .before .loop .inv) (c .before .before .before .loop-test .taken) (c .before .before .before .before .before .before .descriptors-of .ensures .is) (c .before .before .name-at .ensures .is) (c .before .matches-at .ensures) (c .if2 .taken))
+returns-3 : tie.Need-returns-3
+returns-3 c =
+    triggered-by _ _ _ (c .before .before .before .before .if1 .left) _
+    (any-one _ _ _ _ _ (c .before .before .before .before .before .descriptors-of .ensures .is) (c .before .before .if3 .taken) (c .before .name-at .ensures .is) (c .matches-at .ensures))
 
-add-i : tie.Need-add-i Inv-loop μ-loop
-add-i c = search needs
+any-matches-requires : tie.Need-any-matches-requires
+any-matches-requires c κs =
+    let d = c .before .before .before .descriptors-of .ensures in
+    let n = c .before .if2 .left in
+    record { compiled = c .before .before .before .before .before .before .before .pre .compiled; within = d .within; some = omega arith; short = d .short }
 
-loop-less : tie.Need-loop-less Inv-loop μ-loop
-loop-less c = search needs
-
-loop-again : tie.Need-loop-again Inv-loop μ-loop
-loop-again c = failing-read-turn _ _ _ _ _ _ (c .before .before .before .before .loop .inv) (c .before .before .before .loop-test .taken) (c .before .before .name-at .ensures .is) (c .before .matches-at .ensures) (c .if2 .left)
-
-returns-3 : tie.Need-returns-3 Inv-loop μ-loop
-returns-3 c = triggered-by _ _ _ (c .before .before .if1 .left) _ (failing-done _ _ _ _ _ (c .before .loop .inv) (c .loop-test .left) (c .before .before .before .descriptors-of .ensures .is))
+returns-4 : tie.Need-returns-4
+returns-4 c =
+    triggered-by _ _ _ (c .before .before .before .if1 .left) _ (c .any-matches .ensures ∙ ap (any (matchesAt (nameAt _) _)) (c .before .before .before .before .descriptors-of .ensures .is))
 
 pub is-triggered-spec : {M : Type 1} → statement M
 is-triggered-spec =
     tie.close
     (tie.spec
-    Inv-loop
-    μ-loop
     descriptors-of-requires
     returns
-    loop-holds
+    returns-2
     name-at-requires
     matches-at-requires
-    returns-2
-    add-i
-    loop-less
-    loop-again
-    returns-3)
+    returns-3
+    any-matches-requires
+    returns-4)
