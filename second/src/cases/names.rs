@@ -201,6 +201,36 @@ fn pair(out: &mut String, descriptor: &[u8], event: &[u8]) {
     show(out, bare(descriptor));
 }
 
+// ---- several descriptors in one pass
+
+fn four(out: &mut String, words: &str) {
+    let words: Vec<&[u8]> = words.split(' ').map(str::as_bytes).collect();
+    let (descriptors, event) = (&words[..4], words[4]);
+    for descriptor in descriptors {
+        mark(out, matches(descriptor, event));
+    }
+    mark(out, descriptors.iter().any(|descriptor| matches(descriptor, event)));
+    out.push('\n');
+}
+
+fn short_words(letters: &[u8]) -> Vec<Vec<u8>> {
+    words(letters).into_iter().take_while(|w| w.len() <= 3).collect()
+}
+
+/// Every two short words as descriptors: a digit for each event, 1 if the first matches and 2 more if the second does.
+fn each_two(out: &mut String, letters: &[u8], more: &[u8]) {
+    let (descriptors, events) = (short_words(letters), short_words(more));
+    for one in &descriptors {
+        for two in &descriptors {
+            for event in &events {
+                let digit = u8::from(matches(one, event)) + 2 * u8::from(matches(two, event));
+                out.push(char::from(b'0' + digit));
+            }
+            out.push('\n');
+        }
+    }
+}
+
 /// What `names_run` prints for an input.
 pub fn expected(input: &str) -> String {
     let mut out = String::new();
@@ -218,10 +248,49 @@ pub fn expected(input: &str) -> String {
             b'q' => each_length_of_pair(&mut out, one, two),
             b'w' => each_word(&mut out, one, two, matches),
             b'e' => each_word(&mut out, one, two, equal),
+            b'f' => four(&mut out, &line[2..]),
+            b'o' => each_two(&mut out, one, two),
             other => panic!("no case is called {}", char::from(other)),
         }
     }
     out
+}
+
+/// Cases of one to four descriptors; where there are fewer, the first stands for the others too.
+fn several() -> Vec<String> {
+    let long = "n".repeat(62);
+    let dotted = "a.".repeat(31);
+    let mut cases = Vec::new();
+    for name in [&long, &dotted] {
+        // 63 bytes that differ in the last byte alone, in the first, not at all
+        cases.push(format!("f {name}a {name}b {name}c {name}d {name}e"));
+        cases.push(format!("f {name}a {name}b {name}c {name}d {name}c"));
+        cases.push(format!("f b{name} c{name} d{name} e{name} a{name}"));
+        cases.push(format!("f {name}a {name}a {name}a {name}a {name}a"));
+        cases.push(format!("f {} {}.* * {name} {name}a", &name[..60], &name[..60]));
+    }
+    let tokens = "abc.def.".repeat(8);
+    cases.push(format!("f {} {} {}.* {}* {}", &tokens[..63], &tokens[..55], &tokens[..59], &tokens[..60], &tokens[..63]));
+    let lists = [
+        "* * * *",
+        "a * b a.*",
+        "a.b a.b a.b a.b",
+        "a.b a.* a.b.* a",
+        "a.*.* a.* .* *.*",
+        "done.state.p done.state.* done.* done",
+        "done.state.pq done.stat done.state. done..state",
+        "e1 e1 e1 e1",
+        "e1.* e11 e1 e1",
+        "e e1.x e1.x.y e1",
+    ];
+    for list in lists {
+        for event in ["a", "a.b", "a.b.c", "a.*", "a.*.*", "b", "done.state.p", "done.statep", "e1", "e1.x", "e11", "*", ".", "", ".*.a", "a..b"] {
+            cases.push(format!("f {list} {event}"));
+        }
+    }
+    cases.push("o a.* a.".to_string());
+    cases.push("o ab ab".to_string());
+    cases
 }
 
 /// The cases.
@@ -310,5 +379,6 @@ pub fn input() -> String {
     }
     cases.push("w ab.* ab.".to_string());
     cases.push("e ab. ab.".to_string());
+    cases.extend(several());
     cases.join("\n") + "\n"
 }

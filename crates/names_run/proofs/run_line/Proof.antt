@@ -59,6 +59,12 @@ each-word-requires c κs = search needs
 each-word-requires-2 : tie.Need-each-word-requires-2
 each-word-requires-2 c κs = search needs
 
+four-requires : tie.Need-four-requires
+four-requires c κs = search needs
+
+each-two-requires : tie.Need-each-two-requires
+each-two-requires c κs = search needs
+
 put-requires : tie.Need-put-requires
 put-requires c κs = search needs
 
@@ -95,6 +101,12 @@ returns-11 c = search needs
 returns-12 : tie.Need-returns-12
 returns-12 c = search needs
 
+returns-13 : tie.Need-returns-13
+returns-13 c = search needs
+
+returns-14 : tie.Need-returns-14
+returns-14 c = search needs
+
 pub run-line-spec : {M : Type 1} → statement M
 run-line-spec =
     tie.close
@@ -117,6 +129,8 @@ run-line-spec =
     each-length-of-pair-requires
     each-word-requires
     each-word-requires-2
+    four-requires
+    each-two-requires
     put-requires
     returns-2
     returns-3
@@ -128,4 +142,6 @@ run-line-spec =
     returns-9
     returns-10
     returns-11
-    returns-12)
+    returns-12
+    returns-13
+    returns-14)
