@@ -76,7 +76,15 @@ uninstall: absolute
 linked: lib
 	@$(CARGO) --release $(LINKED) --bin linked
 
-bench: lib
+# Two ways to match four descriptors, for the benchmark alone.
+build/libmatch_bench.a: crates.txt $(shell find crates/match_bench crates/onepass crates/names -name '*.rt' -o -name '*.antt')
+	@rt staticlib match_bench
+	@mkdir -p build
+	@cp target/staticlib/libmatch_bench.a build/libmatch_bench.a
+
+bench: lib build/libmatch_bench.a
+	@AUTTERVIL_LIBRARY=$(CURDIR)/build $(CARGO) $(BENCH) --bin matches
+	@build/bench/release/matches
 	@$(CARGO) --profile measured $(LINKED) --bin bench
 	@build/linked/measured/bench
 	@AUTTERVIL_LIBRARY=$(CURDIR)/build $(CARGO) $(BENCH) --bin rounds

@@ -270,7 +270,8 @@ fn several() -> Vec<String> {
         cases.push(format!("f {} {}.* * {name} {name}a", &name[..60], &name[..60]));
     }
     let tokens = "abc.def.".repeat(8);
-    cases.push(format!("f {} {} {}.* {}* {}", &tokens[..63], &tokens[..55], &tokens[..59], &tokens[..60], &tokens[..63]));
+    let name = &tokens[..63];
+    cases.push(format!("f {name} {} {}.* {}* {name}", &name[..55], &name[..59], &name[..60]));
     let lists = [
         "* * * *",
         "a * b a.*",
@@ -284,7 +285,9 @@ fn several() -> Vec<String> {
         "e e1.x e1.x.y e1",
     ];
     for list in lists {
-        for event in ["a", "a.b", "a.b.c", "a.*", "a.*.*", "b", "done.state.p", "done.statep", "e1", "e1.x", "e11", "*", ".", "", ".*.a", "a..b"] {
+        // one of them is empty
+        for event in "a a.b a.b.c a.* a.*.* b done.state.p done.statep e1 e1.x e11 * .  .*.a a..b".split(' ')
+        {
             cases.push(format!("f {list} {event}"));
         }
     }
