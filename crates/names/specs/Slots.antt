@@ -7,7 +7,7 @@ use native.Mathlib.Nat.{le-refl, sub-zero, suc-sub-suc}
 use native.Mathlib.Omega.{arith}
 use lib.Dec.{eqb}
 use lib.ListN.{length, take, drop, replicate, length-append}
-use lib.Seq.{take-append-seam, drop-append-seam}
+use lib.Seq.{take-append-seam, drop-append-seam, length-take-le}
 use borrow.Author.Tests.{eqb-false, ne-eqb}
 use Rattle.definition.specs.Rows.{all, same, mem}
 use Rattle.definition.specs.Names.{Name, beforeZero, fromZero, zerosAfter, isName, isId, doneName, doneState}
@@ -15,7 +15,7 @@ use Rattle.definition.specs.Marked.{slotOf}
 use Rattle.laws.specs.Bools.{both-ways, no}
 use Rattle.laws.specs.Cells.{zeros-blank, blank-zeros}
 use Rattle.laws.specs.Lists.{same-eq, same-self}
-use Rattle.laws.specs.Parts.{laid}
+use Rattle.laws.specs.Parts.{laid, part-end}
 use Rattle.names.specs.Spelling.{name-short, name-no-zero, id-name, id-short}
 
 -- ---- a slot of any size: the name's bytes as far as they go in, zeros behind them
@@ -96,6 +96,21 @@ from-rest s =
 
 pub before-short : (s : List ℕ) → length (beforeZero s) ≤ length s
 before-short s = omega (arith, simp length-append at (ap length (zero-parts s)))
+
+-- n bytes stand before the first zero: they are the slot's front, and what is behind them begins with it
+module _ (s : List ℕ) (n : ℕ) (e : n ≡ length (beforeZero s)) where
+  pub before-inside : n ≤ length s
+  before-inside = omega (arith, before-short s)
+
+  pub front-length : n ≡ length (take n s)
+  front-length = sym (length-take-le n s before-inside)
+
+  pub front-before : take n s ≡ beforeZero s
+  front-before = ap (λ (k : ℕ). take k s) e ∙ sym (before-front s)
+
+  pub rest-zeros : (b : Bool) → b ≡ all (eqb 0) (take (length s - n) (drop n s)) → b ≡ zerosAfter s
+  unfolding zerosAfter
+  rest-zeros b q = q ∙ ap (all (eqb 0)) (part-end n s ∙ ap (λ (k : ℕ). drop k s) e ∙ sym (from-rest s))
 
 -- ---- a name in a slot is found again
 

@@ -1,7 +1,7 @@
 // Names, descriptors, matching and slots, for every slice of bytes, whatever its length and its bytes. The tests, matching and what a slot holds
 // answer as definition's Names; a name's slot is definition's slotOf, in Marked, and this crate's `padded` for a slot of another size.
 ghost use mathlib.Core.Path.{_≡_};
-ghost use mathlib.Core.Bool.{_&&_};
+ghost use mathlib.Core.Bool.{_&&_, cond};
 ghost use Prim.Native.Nat.{min};
 ghost use lib.Dec.{eqb};
 ghost use lib.ListN.{length, replicate};
@@ -11,9 +11,12 @@ ghost use Rattle.definition.specs.Marked.{slotOf};
 ghost use Rattle.laws.specs.Parts.{laid};
 ghost use Rattle.names.specs.Slots.{padded};
 ghost use Rattle.names.specs.Matching.{startsToken};
+ghost use Rattle.names.specs.Blank.{filledIn};
 
 // "A name has 1 to 63 bytes"
 const MOST_BYTES: usize = 63;
+
+const SLOT_BYTES: usize = 64;
 
 // "done.state." has so many bytes.
 const DONE_BYTES: usize = 11;
@@ -207,22 +210,65 @@ pub fn is_blank(s: &[u8]) -> bool
     any == 0
 }
 
+// A byte that is not zero counts 1.
+fn counted(b: u8) -> u8
+    ensures { λ n. ⌜ n ≡ cond (eqb b 0) 0 1 ⌝ }
+{
+    if b == 0 { 0 } else { 1 }
+}
+
+// How many bytes of a slot are not zero. Each of them is counted: so many are read at a time as the machine takes.
+fn filled(slot: &[u8]) -> u8
+    requires { ⌜ length (now slot) ≡ 64 ⌝ }
+    ensures { λ n. ⌜ n ≡ filledIn (now (slot .entry)) ⌝ }
+{
+    let mut n: u8 = 0;
+    let mut i = 0;
+    while i < SLOT_BYTES {
+        n += counted(slot[i]);
+        i += 1;
+    }
+    n
+}
+
+// Whether all behind the n bytes before the first zero is zero. No other byte is filled then.
+fn ends_blank(slot: &[u8], n: usize) -> bool
+    requires { ⌜ n ≡ length (beforeZero (now slot)) ⌝ }
+    ensures { λ r. ⌜ r ≡ zerosAfter (now (slot .entry)) ⌝ }
+{
+    if slot.len() == SLOT_BYTES {
+        return filled(slot) as usize == n;
+    }
+    is_blank(&slot[n..])
+}
+
 // Every byte from the first zero on is zero.
 pub fn zeros_after(slot: &[u8]) -> bool
     ensures { λ r. ⌜ r ≡ zerosAfter (now (slot .entry)) ⌝ }
 {
-    let n = name_len(slot);
-    is_blank(&slot[n..])
+    ends_blank(slot, name_len(slot))
 }
 
 // A slot of the chart's table: a name or descriptor, then zeros.
 pub fn slot_fits(slot: &[u8]) -> bool
     ensures { λ r. ⌜ r ≡ (zerosAfter (now (slot .entry)) && isDescriptor (beforeZero (now (slot .entry)))) ⌝ }
 {
-    if !zeros_after(slot) {
+    let n = name_len(slot);
+    if !ends_blank(slot, n) {
         return false;
     }
-    is_descriptor(name_of(slot))
+    is_descriptor(&slot[..n])
+}
+
+// A slot of a queue that a name waits in: the name, then zeros.
+pub fn slot_names(slot: &[u8]) -> bool
+    ensures { λ r. ⌜ r ≡ (zerosAfter (now (slot .entry)) && isName (beforeZero (now (slot .entry)))) ⌝ }
+{
+    let n = name_len(slot);
+    if !ends_blank(slot, n) {
+        return false;
+    }
+    is_name(&slot[..n])
 }
 
 fn least(a: usize, b: usize) -> usize

@@ -3,27 +3,37 @@ use borrow.Author.Needs.{needs}
 use borrow.Author.Tests.{not-true, not-false}
 use mathlib.Core.Path.{sym, ap, _∙_}
 use Rattle.definition.specs.Names.{isDescriptor}
+use Rattle.names.specs.Slots.{front-length, front-before}
 use Rattle.names.proofs.slot_fits.Statement.{statement}
 use Rattle.names.proofs.slot_fits.Tie as tie
 
-zeros-after-requires : tie.Need-zeros-after-requires
-zeros-after-requires c κs = search needs
+name-len-requires : tie.Need-name-len-requires
+name-len-requires c κs = search needs
+
+ends-blank-requires : tie.Need-ends-blank-requires
+ends-blank-requires c κs = search needs
 
 returns : tie.Need-returns
-returns c = rw (sym (c .before .zeros-after .ensures) ∙ not-true _ (c .if1 .taken))
+returns c = rw (sym (c .before .ends-blank .ensures) ∙ not-true _ (c .if1 .taken))
 
-name-of-requires : tie.Need-name-of-requires
-name-of-requires c κs = search needs
+slice-aggregate-is-descriptor : tie.Need-slice-aggregate-is-descriptor
+slice-aggregate-is-descriptor c = front-length _ _ (c .before .before .before .name-len .ensures)
 
 is-descriptor-requires : tie.Need-is-descriptor-requires
 is-descriptor-requires c κs = search needs
 
 returns-2 : tie.Need-returns-2
 returns-2 c =
-    rw (sym (c .before .before .before .zeros-after .ensures) ∙ not-false _ (c .before .before .if1 .left))
-    (c .is-descriptor .ensures ∙ ap isDescriptor (c .before .name-of .ensures))
+    rw (sym (c .before .before .before .ends-blank .ensures) ∙ not-false _ (c .before .before .if1 .left))
+    (c .is-descriptor .ensures ∙ ap isDescriptor (front-before _ _ (c .before .before .before .before .name-len .ensures)))
 
 pub slot-fits-spec : {M : Type 1} → statement M
 slot-fits-spec =
     tie.close
-    (tie.spec zeros-after-requires returns name-of-requires is-descriptor-requires returns-2)
+    (tie.spec
+    name-len-requires
+    ends-blank-requires
+    returns
+    slice-aggregate-is-descriptor
+    is-descriptor-requires
+    returns-2)
