@@ -1,5 +1,5 @@
 -- A queue of names as bytes: 32 slots of 64 bytes, the names from slot 0 on and zeros behind them.
-use mathlib.Core.Path.{_≡_, sym, ap, _∙_}
+use mathlib.Core.Path.{_≡_, refl, sym, ap, _∙_}
 use mathlib.Core.Bool.{Bool, true, false, not, _&&_}
 use mathlib.Core.List.{List, [], _∷_, _++_, map}
 use Prim.Native.Nat.{ℕ, zero, suc, _+_, _-_, _*_, _≤_, _<_}
@@ -18,6 +18,7 @@ use Rattle.definition.specs.Legal.{queueFits}
 use Rattle.laws.specs.Bools.{no, both-ways, bool-case, and-left, and-right, and-true}
 use Rattle.laws.specs.Lists.{same-eq, same-self}
 use Rattle.laws.specs.Loops.{each-below, below-each}
+use Rattle.laws.specs.Parts.{part-end}
 use Rattle.laws.specs.Cells.{cells, blank, cells-ext, cells-none, cells-length, cells-cut, cell-in, cell-behind, cells-last, cells-rest, zeros-blank, blank-zeros}
 use Rattle.laws.specs.Maps.{map-length, map-at, map-reads, each-map, all-at}
 use Rattle.names.specs.Slots.{slot-length, name-in-slot, zeros-in-slot, slot-of-name}
@@ -56,26 +57,13 @@ slotHolds false slot = all (eqb 0) slot
 unfoldable pub holdsAt : List ℕ → ℕ → ℕ → Bool
 holdsAt bytes count k = slotHolds (ltb k count) (slotAt bytes k)
 
--- a slot judged by the tests of its name and its zeros
-pub holds-unused : (used : Bool) (slot : List ℕ) (b : Bool) → not used ≡ true → b ≡ all (eqb 0) slot → b ≡ slotHolds used slot
-unfolding slotHolds
-holds-unused true slot b u e = absurd (no u)
-holds-unused false slot b u e = e
+-- a slot that a name waits in
+unfoldable pub namedAt : List ℕ → ℕ → Bool
+namedAt bytes k = zerosAfter (slotAt bytes k) && isName (beforeZero (slotAt bytes k))
 
-pub holds-not : (used : Bool) (slot : List ℕ) (z : Bool) → not used ≡ false → z ≡ zerosAfter slot → not z ≡ true → false ≡ slotHolds used slot
-unfolding slotHolds
-holds-not true slot z u e f = rw (sym e ∙ not-true z f)
-holds-not false slot z u e f = absurd (no (sym u))
-
-pub holds-name : (used : Bool) (slot name : List ℕ) (z b : Bool) → not used ≡ false → z ≡ zerosAfter slot → not z ≡ false → name ≡ beforeZero slot →
-    b ≡ isName name → b ≡ slotHolds used slot
-unfolding slotHolds
-holds-name true slot name z b u e f g h = rw (sym e ∙ not-false z f) (h ∙ ap isName g)
-holds-name false slot name z b u e f g h = absurd (no (sym u))
-
-pub holds-at : (bytes : List ℕ) (count k : ℕ) (slot : List ℕ) (b : Bool) → slot ≡ slotAt bytes k → b ≡ slotHolds (ltb k count) slot → b ≡ holdsAt bytes count k
-unfolding holdsAt
-holds-at bytes count k slot b e h = h ∙ ap (slotHolds (ltb k count)) e
+pub named-slot : (bytes : List ℕ) (k : ℕ) (slot : List ℕ) (b : Bool) → slot ≡ slotAt bytes k → b ≡ (zerosAfter slot && isName (beforeZero slot)) → b ≡ namedAt bytes k
+unfolding namedAt
+named-slot bytes k slot b e h = h ∙ rw e
 
 -- ---- the bytes, slot by slot
 
@@ -151,6 +139,20 @@ names-again names h =
     (λ k l. ap beforeZero (ap (slotAt (queueBytes names)) (zero-add k) ∙ slot-in names k (omega arith) l) ∙
     name-in-slot (getD names k []) (all-at isName names [] (and-right (leb (length names) mostQueued) _ h) k l))
 
+-- ---- tests of all bytes, of some of them
+
+all-drop : (p : ℕ → Bool) (n : ℕ) (xs : List ℕ) → all p xs ≡ true → all p (drop n xs) ≡ true
+unfolding all
+all-drop p zero xs h = h
+all-drop p (suc n) [] h = h
+all-drop p (suc n) (x ∷ xs) h = all-drop p n xs (and-right (p x) _ h)
+
+all-take : (p : ℕ → Bool) (n : ℕ) (xs : List ℕ) → all p xs ≡ true → all p (take n xs) ≡ true
+unfolding all
+all-take p zero xs h = refl
+all-take p (suc n) [] h = refl
+all-take p (suc n) (x ∷ xs) h = and-true (p x) _ (and-left (p x) _ h) (all-take p n xs (and-right (p x) _ h))
+
 -- ---- the test of the bytes, slot by slot
 
 module _ (bytes : List ℕ) (count : ℕ) (sized : QueueSized bytes) where
@@ -202,13 +204,54 @@ module _ (bytes : List ℕ) (count : ℕ) (sized : QueueSized bytes) where
       let s : slotAt bytes k ≡ blank 64 = ap (λ (x : List ℕ). slotAt x k) e ∙ slot-behind (queueOf bytes count) k l m in
       rw (b, s) (blank-zeros 64))
 
-  pub queue-holds : count ≤ 32 → all (holdsAt bytes count) (from 32 0) ≡ isQueue bytes count
-  queue-holds short =
-      both-ways (all (holdsAt bytes count) (from 32 0)) (isQueue bytes count) (holds-queue short) (λ h. below-each (holdsAt bytes count) 32 (queue-each h))
-
   pub queue-long : 32 < count → false ≡ isQueue bytes count
   unfolding isQueue queueFits
   queue-long long =
       both-ways false (isQueue bytes count) (λ h. absurd (no h))
       (λ h. let l : length (queueOf bytes count) ≤ 32 = leb-true _ _ (and-left (leb (length (queueOf bytes count)) mostQueued) _ (and-right (same bytes (queueBytes (queueOf bytes count))) _ h)) in
       let n = names-length bytes count in absurd (omega arith))
+
+  -- ---- the test with all that is unused as one part
+
+  module _ (short : count ≤ 32) where
+    unused : all (eqb 0) (drop (count * 64) bytes) ≡ true → (k : ℕ) → k < 32 → count ≤ k → all (eqb 0) (slotAt bytes k) ≡ true
+    unfolding slotAt
+    unused h k l m =
+        let e : count * 64 + (k * 64 - count * 64) ≡ k * 64 = omega arith in
+        let d : drop (k * 64) bytes ≡ drop (k * 64 - count * 64) (drop (count * 64) bytes) = sym (drop-drop (k * 64 - count * 64) (count * 64) bytes ∙ ap (λ (i : ℕ). drop i bytes) e) in
+        rw d (all-take (eqb 0) 64 (drop (k * 64 - count * 64) (drop (count * 64) bytes)) (all-drop (eqb 0) (k * 64 - count * 64) (drop (count * 64) bytes) h))
+
+    parts-hold : (all (eqb 0) (drop (count * 64) bytes) && all (namedAt bytes) (from count 0)) ≡ true → (k : ℕ) → k < 32 → holdsAt bytes count k ≡ true
+    unfolding holdsAt slotHolds namedAt
+    parts-hold h k l =
+        bool-case (ltb k count)
+        (λ b. rw b (each-below (namedAt bytes) count (and-right (all (eqb 0) (drop (count * 64) bytes)) _ h) k (ltb-true _ _ b)))
+        (λ b. rw b (unused (and-left (all (eqb 0) (drop (count * 64) bytes)) _ h) k l (ltb-false _ _ b)))
+
+    behind-names : isQueue bytes count ≡ true → all (eqb 0) (drop (count * 64) bytes) ≡ true
+    unfolding isQueue
+    behind-names h =
+        let n = names-length bytes count in
+        let e : bytes ≡ cells slotOf 64 32 (queueOf bytes count) = same-eq _ _ (and-left (same bytes (queueBytes (queueOf bytes count))) _ h) ∙ queue-cells (queueOf bytes count) in
+        let z : drop (count * 64) bytes ≡ blank (32 * 64 - length (queueOf bytes count) * 64) =
+        ap (drop (count * 64)) e ∙ ap (λ (i : ℕ). drop (i * 64) (cells slotOf 64 32 (queueOf bytes count))) (sym n) ∙ cells-behind 32 (queueOf bytes count) (omega arith) in
+        ap (all (eqb 0)) z ∙ blank-zeros (32 * 64 - length (queueOf bytes count) * 64)
+
+    pub queue-parts : (all (eqb 0) (drop (count * 64) bytes) && all (namedAt bytes) (from count 0)) ≡ isQueue bytes count
+    unfolding namedAt
+    queue-parts =
+        both-ways (all (eqb 0) (drop (count * 64) bytes) && all (namedAt bytes) (from count 0)) (isQueue bytes count)
+        (λ h. holds-queue short (below-each (holdsAt bytes count) 32 (parts-hold h)))
+        (λ h. and-true (all (eqb 0) (drop (count * 64) bytes)) _ (behind-names h)
+        (below-each (namedAt bytes) count (λ k l. unfold holdsAt slotHolds in rw (lt-ltb k count l) at (queue-each h k (omega arith)))))
+
+    -- what each way out of the test says
+    pub unused-filled : all (eqb 0) (drop (count * 64) bytes) ≡ false → false ≡ isQueue bytes count
+    unused-filled h = sym (sym queue-parts ∙ rw h)
+
+    pub unused-blank : all (eqb 0) (drop (count * 64) bytes) ≡ true → (t : Bool) → t ≡ all (namedAt bytes) (from count 0) → t ≡ isQueue bytes count
+    unused-blank h t e = e ∙ sym (sym queue-parts ∙ rw h)
+
+-- the part behind the names, as it is lent
+pub unused-said : (bytes : List ℕ) (n : ℕ) (b t : Bool) → b ≡ all (eqb 0) (take (length bytes - n) (drop n bytes)) → b ≡ t → all (eqb 0) (drop n bytes) ≡ t
+unused-said bytes n b t e h = ap (all (eqb 0)) (sym (part-end n bytes)) ∙ sym e ∙ h

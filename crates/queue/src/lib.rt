@@ -7,7 +7,7 @@ ghost use lib.ListN.{length, take, drop, replicate};
 ghost use Rattle.definition.specs.Names.{doneName};
 ghost use Rattle.definition.specs.Tables.{slotAt, nameAt};
 ghost use Rattle.definition.specs.Marked.{slotOf};
-ghost use Rattle.queue.specs.Queues.{isQueue, slotHolds, SlotInside, QueueSized, Waiting};
+ghost use Rattle.queue.specs.Queues.{isQueue, SlotInside, QueueSized, Waiting};
 
 // "at most 32 names each"
 pub const MOST_QUEUED: u64 = 32;
@@ -91,20 +91,8 @@ pub fn clear(queue: &mut [u8])
     names::put_name(queue, b"");
 }
 
-// A slot that holds a name, or one behind the names.
-fn slot_holds(slot: &[u8], used: bool) -> bool
-    ensures { λ b. ⌜ b ≡ slotHolds used (now (slot .entry)) ⌝ }
-{
-    if !used {
-        return names::is_blank(slot);
-    }
-    if !names::zeros_after(slot) {
-        return false;
-    }
-    names::is_name(names::name_of(slot))
-}
-
 // Whether the bytes are those of a queue of count names: at most 32, each a name and zeros to its slot's end, and zeros in every unused slot.
+// All that is unused is one part.
 pub fn queue_fits(queue: &[u8], count: u64) -> bool
     requires { ⌜ QueueSized (now queue) ⌝ }
     ensures { λ b. ⌜ b ≡ isQueue (now (queue .entry)) count ⌝ }
@@ -112,9 +100,13 @@ pub fn queue_fits(queue: &[u8], count: u64) -> bool
     if MOST_QUEUED < count {
         return false;
     }
+    let used = count as usize * SLOT;
+    if !names::is_blank(&queue[used..]) {
+        return false;
+    }
     let mut k = 0;
-    while k < MOST_QUEUED {
-        if !slot_holds(slot(queue, k as usize), k < count) {
+    while k < count {
+        if !names::slot_names(slot(queue, k as usize)) {
             return false;
         }
         k += 1;
