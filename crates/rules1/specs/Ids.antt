@@ -8,7 +8,7 @@ use lib.Dec.{eqb}
 use lib.ListN.{length}
 use borrow.Author.Tests.{eqb-false, eq-eqb, ne-eqb, not-true}
 use Rattle.definition.specs.Rows.{all, from, same}
-use Rattle.definition.specs.Names.{isId, beforeZero, zerosAfter}
+use Rattle.definition.specs.Names.{isDescriptor, isId, beforeZero, zerosAfter}
 use Rattle.definition.specs.Tables.{noNumber, rowCount, nameCount, idAt, slotAt, nameAt}
 use Rattle.definition.specs.Rules.{slotFits, idDiffers, idFits}
 use Rattle.laws.specs.Bools.{both-ways, eq-case, and-false, and-left, and-right, and-true, or-left, or-right}
@@ -151,6 +151,12 @@ module _ (numbers names : List ℕ) where
         differs-names i j k d ∙ rw (← o .is, ← q .is, a .is, b .is, e)
 
     -- ---- the row's own id, as it was read
+
+    -- every slot holds a descriptor
+    pub id-descriptor : (i n : ℕ) (xs ys : List ℕ) → IdOf numbers i n → eqb n noNumber ≡ false → SlotOf names n xs → ys ≡ beforeZero xs → isDescriptor ys ≡ true
+    unfolding slotFits nameAt
+    id-descriptor i n xs ys o e a q =
+        rw (q, a .is) (and-right (zerosAfter (slotAt names n)) _ (s .fit n (optional-below (nameCount numbers) n (o .low) (eqb-false _ _ e))))
 
     pub id-low-read : (i n : ℕ) → IdOf numbers i n → eqb n noNumber ≡ false → SlotIn names n
     id-low-read i n o e = slot-in numbers names n (s .slots) (optional-below (nameCount numbers) n (o .low) (eqb-false _ _ e))

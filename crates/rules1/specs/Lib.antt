@@ -3,3 +3,4 @@ pub mod Ids
 pub mod Keys
 pub mod Raises
 pub mod Verdicts
+pub mod Plain

@@ -4,11 +4,13 @@ ghost use mathlib.Core.Bool.{true};
 ghost use Prim.Native.Nat.{_+_, _<_};
 ghost use lib.Dec.{eqb};
 ghost use Rattle.definition.specs.Rows.{all, from};
+ghost use Rattle.definition.specs.Names.{isDescriptor, isId};
 ghost use Rattle.definition.specs.Tables.{rowCount, transitionCount, referenceCount, descriptorCount, actionCount, nameCount, rowCell, transitionCell, actionOf};
 ghost use Rattle.definition.specs.Rules.{inside, optionalBelow, countsFit, sizesFit, blockFits, rowInRange, transitionInRange, referenceInRange, descriptorInRange, argumentFits, actionInRange, rule1, slotFits, idFits, raiseFits, actionNamed, rule2};
 ghost use Rattle.tables.specs.Ranges.{Sized, InTables, RowIn, ActionIn, SlotsIn};
 ghost use Rattle.rules1.specs.Inside.{isShortList};
 ghost use Rattle.rules1.specs.Ids.{Slots, IdTurn, isIdOf, isNewId};
+ghost use Rattle.rules1.specs.Plain.{startsId};
 ghost use Rattle.rules1.specs.Keys.{keyFrom, keyAt};
 use definition::Action;
 use numbers::NameNumber;
@@ -256,6 +258,9 @@ pub fn keeps_sizes(numbers: &[u64], names: &[u8], room: usize, name_room: usize)
 
 // ---- rule 2
 
+// "every row's id has at most 52" bytes
+const MOST_ID: usize = 52;
+
 fn slots_fit(numbers: &[u64], names: &[u8]) -> bool
     requires { ⌜ InTables (now numbers) × SlotsIn (now numbers) (now names) ⌝ }
     ensures { λ b. ⌜ b ≡ all (slotFits (now (names .entry))) (from (nameCount (now (numbers .entry))) 0) ⌝ }
@@ -271,6 +276,26 @@ fn slots_fit(numbers: &[u64], names: &[u8]) -> bool
     true
 }
 
+// A letter or "_", which an id begins with.
+fn starts_id(b: u8) -> bool
+    ensures { λ r. ⌜ r ≡ startsId b ⌝ }
+{
+    ((b'A' <= b) & (b <= b'Z')) | ((b'a' <= b) & (b <= b'z')) | (b == b'_')
+}
+
+// Whether a descriptor is an id. It is a name unless a star ends it: no byte between is read again.
+fn is_id(descriptor: &[u8]) -> bool
+    requires { ⌜ isDescriptor (now descriptor) ≡ true ⌝ }
+    ensures { λ b. ⌜ b ≡ isId (now (descriptor .entry)) ⌝ }
+{
+    let n = descriptor.len();
+    if n == 0 {
+        return false;
+    }
+    let last = descriptor[n - 1];
+    (last != b'*') & starts_id(descriptor[0]) & (n <= MOST_ID)
+}
+
 // Whether the row's own id is one. The root has none.
 fn is_id_of(numbers: &[u64], names: &[u8], r: Row) -> bool
     requires { ⌜ Slots (now numbers) (now names) × (r .0 < rowCount (now numbers)) ⌝ }
@@ -284,7 +309,7 @@ fn is_id_of(numbers: &[u64], names: &[u8], r: Row) -> bool
     if none {
         return false;
     }
-    names::is_id(names::name_of(tables::slot_of(names, n)))
+    is_id(names::name_of(tables::slot_of(names, n)))
 }
 
 // Whether no row before it has the same id. Slots that end in zeros are equal if their names are.

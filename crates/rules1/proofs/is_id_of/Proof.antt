@@ -1,5 +1,5 @@
 use borrow.Author.Needs.{needs}
-use Rattle.rules1.specs.Ids.{id-root, id-none, id-low-read, id-some}
+use Rattle.rules1.specs.Ids.{id-root, id-none, id-low-read, id-descriptor, id-some}
 use Rattle.rules1.proofs.is_id_of.Statement.{statement}
 use Rattle.rules1.proofs.is_id_of.Tie as tie
 
@@ -22,7 +22,7 @@ name-of-requires : tie.Need-name-of-requires
 name-of-requires c κs = search needs
 
 is-id-requires : tie.Need-is-id-requires
-is-id-requires c κs = search needs
+is-id-requires c κs = id-descriptor _ _ (c .before .before .before .before .before .before .before .before .before .pre .0) _ _ _ _ (c .before .before .before .before .before .before .id-of .ensures) (c .before .before .if2 .left) (c .before .slot-of .ensures) (c .name-of .ensures)
 
 returns-3 : tie.Need-returns-3
 returns-3 c = id-some _ _ _ _ _ _ _ (c .before .before .before .before .if1 .left) (c .before .before .before .before .before .before .before .id-of .ensures) (c .before .before .before .if2 .left) (c .before .before .slot-of .ensures) (c .before .name-of .ensures) (c .is-id .ensures)
