@@ -153,7 +153,7 @@ module _ (c : Chart) (t : Tree c) where
       gathered-whole 1 a (λ b l. not-so _ (λ e. let p : parent c b < b = ltb-true _ _ (and-left (ltb (parent c b) b) _ e) in omega arith))
 
   -- a history has no descendants
-  ancestor-plain : (a x : ℕ) → mem a (ancestors c x) ≡ true → isHistory (kind c a) ≡ false
+  pub ancestor-plain : (a x : ℕ) → mem a (ancestors c x) ≡ true → isHistory (kind c a) ≡ false
   ancestor-plain a x m =
       let f = child-way (parent c) (low c t) a x (anc-below c t a x m) in rw (f .1) at (parent-plain c t (f .0))
 

@@ -6,6 +6,8 @@ pub mod Targets
 pub mod Turns
 pub mod Copies
 pub mod Whole
+pub mod Judged
+pub mod Judging
 pub mod Compared
 pub mod Results
 pub mod Theorems

@@ -19,7 +19,7 @@ use Rattle.compiler.specs.Writing.{words-set, column-cong}
 
 -- ---- ancestors
 
-insert-union : (x : ℕ) (xs : List ℕ) → insert x (union [] xs) ≡ union [] (x ∷ xs)
+pub insert-union : (x : ℕ) (xs : List ℕ) → insert x (union [] xs) ≡ union [] (x ∷ xs)
 insert-union x xs =
     ascends-ext 0 0 (insert x (union [] xs)) (union [] (x ∷ xs)) (ascends-insert x (union [] xs) (ascends-union [] xs tt)) (ascends-union [] (x ∷ xs) tt)
     (λ a. rw (mem-insert a x (union [] xs), mem-union a [] xs, mem-union a [] (x ∷ xs)) (unfold mem in refl))

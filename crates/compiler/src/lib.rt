@@ -2,10 +2,10 @@
 ghost use mathlib.Core.Path.{_≡_};
 ghost use mathlib.Core.Bool.{cond};
 ghost use mathlib.Core.List.{[], _++_};
-ghost use Prim.Native.Nat.{_+_, _*_, _≤_};
-ghost use lib.ListN.{length, take, drop};
-ghost use Rattle.definition.specs.Rows.{union, same};
-ghost use Rattle.definition.specs.Tables.{rowCount, transitionCount, nameCount, slotSize, part, chartOf};
+ghost use Prim.Native.Nat.{_+_, _*_, _≤_, _<_};
+ghost use lib.ListN.{length, drop};
+ghost use Rattle.definition.specs.Rows.{union, same, all, from, fold};
+ghost use Rattle.definition.specs.Tables.{rowCount, transitionCount, nameCount, slotSize, chartOf};
 ghost use Rattle.definition.specs.Tree.{ancestors, descendants, children, isDomainKind, defaultTargets, anchor, anchors};
 ghost use Rattle.definition.specs.Compiled.{columns, isCompiled};
 ghost use Rattle.definition.specs.Rules.{countsFit, compiledSize};
@@ -13,7 +13,8 @@ ghost use Rattle.compiler.specs.Results.{Compiles};
 ghost use Rattle.definition.specs.Follower.{nothingAt};
 ghost use Rattle.rowset.specs.Member.{rowsOf};
 ghost use Rattle.compiler.specs.Writing.{putAt, columnOver};
-ghost use Rattle.compiler.specs.Compilable.{RowRoom, TransitionRoom, TargetRoom, PairRoom, ColumnsRoom, childrenAndTargets};
+ghost use Rattle.compiler.specs.Compilable.{Compilable, RowRoom, TransitionRoom, TargetRoom, PairRoom, ColumnsRoom, childrenAndTargets};
+ghost use Rattle.compiler.specs.Judged.{isAbove, isJoined, isChildRow, withBelow, isDown, isAimed, isAnchored, SetsIn, KidsKnown};
 ghost use Rattle.compiler.specs.Targets.{WithChildren, RowKept, TransitionKept};
 use definition::Answer;
 use numbers::Row;
@@ -22,15 +23,10 @@ use rowset::Found;
 use rowset::RowSet;
 use tables::columns::ANCHORS;
 use tables::columns::CHILDREN;
+use tables::columns::DEFAULT_TARGETS;
 use tables::columns::DESCENDANTS;
 use tables::columns::SET_WIDTH;
 use tables::limits;
-
-// The words of two sets.
-const PAIR_WIDTH: usize = 8;
-
-// Two columns of 256 rows, or one of 512 transitions.
-const SCRATCH: usize = 2048;
 
 // ---- the sizes that a chart's counts ask of the two places; 0 where the counts break rule 1
 
@@ -267,14 +263,30 @@ fn copy_names(names: &[u8], place: &mut [u8])
     }
 }
 
-// Whether the place has the first `count` words of the sets from `at` on.
-fn holds(place: &[u64], at: usize, sets: &[u64], count: usize) -> bool
-    requires { ⌜ (at + count ≤ length (now place)) × (count ≤ length (now sets)) ⌝ }
-    ensures { λ b. ⌜ b ≡ same (part (now (place .entry)) at count) (take count (now (sets .entry))) ⌝ }
+// ---- the columns of a compiled chart, judged where they lie: the set of a row against those of its parent or its children, which are judged too
+
+// A row's ancestors are its parent's and the parent; the root has none.
+fn above_holds(numbers: &[u64], sets: &[u64], i: usize) -> bool
+    requires { ⌜ RowRoom (now numbers) (now sets) × (i < rowCount (now numbers)) ⌝ }
+    ensures { λ b. ⌜ b ≡ isAbove (chartOf (now (numbers .entry))) (now (sets .entry)) i ⌝ }
 {
+    let own = chart::set_at(sets, i * SET_WIDTH);
+    if i == 0 {
+        return own.is_empty();
+    }
+    let p = tables::parent_row(numbers, Row(i as u8));
+    let over = chart::set_at(sets, p.0 as usize * SET_WIDTH);
+    own.same(over.with(p))
+}
+
+fn ancestors_hold(numbers: &[u64], sets: &[u64]) -> bool
+    requires { ⌜ RowRoom (now numbers) (now sets) ⌝ }
+    ensures { λ b. ⌜ b ≡ all (isAbove (chartOf (now (numbers .entry))) (now (sets .entry))) (from (rowCount (now (numbers .entry))) 0) ⌝ }
+{
+    let rows = tables::row_count(numbers) as usize;
     let mut i = 0;
-    while i < count {
-        if place[at + i] != sets[i] {
+    while i < rows {
+        if !above_holds(numbers, sets, i) {
             return false;
         }
         i += 1;
@@ -282,28 +294,174 @@ fn holds(place: &[u64], at: usize, sets: &[u64], count: usize) -> bool
     true
 }
 
-// Whether the sets are those that the numbers give. Each column is derived apart and compared.
+// A row that is no history is among its parent's children.
+fn is_joined(numbers: &[u64], kids: &[u64], i: usize) -> bool
+    requires { ⌜ RowRoom (now numbers) (now kids) × (i < rowCount (now numbers)) ⌝ }
+    ensures { λ b. ⌜ b ≡ isJoined (chartOf (now (numbers .entry))) (now (kids .entry)) i ⌝ }
+{
+    if i == 0 {
+        return true;
+    }
+    let r = Row(i as u8);
+    if tables::is_history(tables::kind_of(numbers, r)) {
+        return true;
+    }
+    let p = tables::parent_row(numbers, r);
+    chart::set_at(kids, p.0 as usize * SET_WIDTH).has(r)
+}
+
+fn all_joined(numbers: &[u64], kids: &[u64]) -> bool
+    requires { ⌜ RowRoom (now numbers) (now kids) ⌝ }
+    ensures { λ b. ⌜ b ≡ all (isJoined (chartOf (now (numbers .entry))) (now (kids .entry))) (from (rowCount (now (numbers .entry))) 0) ⌝ }
+{
+    let rows = tables::row_count(numbers) as usize;
+    let mut i = 0;
+    while i < rows {
+        if !is_joined(numbers, kids, i) {
+            return false;
+        }
+        i += 1;
+    }
+    true
+}
+
+// Whether x is a row of the chart, and a child of row p.
+fn is_child_row(numbers: &[u64], p: Row, x: Row) -> bool
+    requires { ⌜ Compilable (now numbers) ⌝ }
+    ensures { λ b. ⌜ b ≡ isChildRow (chartOf (now (numbers .entry))) (p .0) (x .0) ⌝ }
+{
+    if tables::row_count(numbers) <= x.0 as u64 {
+        return false;
+    }
+    if tables::is_history(tables::kind_of(numbers, x)) {
+        return false;
+    }
+    let q = tables::parent_of(numbers, x);
+    (q < x.0 as u64) & (p.0 as u64 == q)
+}
+
+// Whether every row of the set is a child of row p.
+fn are_child_rows(numbers: &[u64], p: Row, set: RowSet) -> bool
+    requires { ⌜ Compilable (now numbers) ⌝ }
+    ensures { λ b. ⌜ b ≡ all (isChildRow (chartOf (now (numbers .entry))) (p .0)) (rowsOf set) ⌝ }
+{
+    let mut k = 0;
+    loop {
+        let Found::At(x) = set.next_from(k) else {
+            return true;
+        };
+        if !is_child_row(numbers, p, x) {
+            return false;
+        }
+        k = x.0 as u16 + 1;
+    }
+}
+
+// The rows of the set, with all that each of them has below it.
+fn gather(below: &[u64], set: RowSet) -> RowSet
+    requires { ⌜ SetsIn (now below) (rowsOf set) ⌝ }
+    ensures { λ s. ⌜ rowsOf s ≡ fold (withBelow (now (below .entry))) [] (rowsOf set) ⌝ }
+{
+    let mut all = RowSet::empty();
+    let mut k = 0;
+    loop {
+        let Found::At(x) = set.next_from(k) else {
+            return all;
+        };
+        let own = chart::set_at(below, x.0 as usize * SET_WIDTH).with(x);
+        all = all.union(own);
+        k = x.0 as u16 + 1;
+    }
+}
+
+// A row's descendants are its children and theirs.
+fn down_holds(numbers: &[u64], below: &[u64], kids: &[u64], i: usize) -> bool
+    requires { ⌜ RowRoom (now numbers) (now below) × RowRoom (now numbers) (now kids) × (i < rowCount (now numbers)) ⌝ }
+    ensures { λ b. ⌜ b ≡ isDown (chartOf (now (numbers .entry))) (now (below .entry)) (now (kids .entry)) i ⌝ }
+{
+    let own = chart::set_at(below, i * SET_WIDTH);
+    let set = chart::set_at(kids, i * SET_WIDTH);
+    if set.is_empty() {
+        return own.is_empty();
+    }
+    if !are_child_rows(numbers, Row(i as u8), set) {
+        return false;
+    }
+    own.same(gather(below, set))
+}
+
+fn all_down(numbers: &[u64], below: &[u64], kids: &[u64]) -> bool
+    requires { ⌜ RowRoom (now numbers) (now below) × RowRoom (now numbers) (now kids) ⌝ }
+    ensures { λ b. ⌜ b ≡ all (isDown (chartOf (now (numbers .entry))) (now (below .entry)) (now (kids .entry))) (from (rowCount (now (numbers .entry))) 0) ⌝ }
+{
+    let rows = tables::row_count(numbers) as usize;
+    let mut i = 0;
+    while i < rows {
+        if !down_holds(numbers, below, kids, i) {
+            return false;
+        }
+        i += 1;
+    }
+    true
+}
+
+// The default targets need no other set than the children.
+fn all_aimed(numbers: &[u64], kids: &[u64], targets: &[u64]) -> bool
+    requires { ⌜ KidsKnown (now numbers) (now kids) × RowRoom (now numbers) (now targets) ⌝ }
+    ensures { λ b. ⌜ b ≡ all (isAimed (chartOf (now (numbers .entry))) (now (targets .entry))) (from (rowCount (now (numbers .entry))) 0) ⌝ }
+{
+    let rows = tables::row_count(numbers) as usize;
+    let mut i = 0;
+    while i < rows {
+        let set = chart::set_at(kids, i * SET_WIDTH);
+        let own = chart::set_at(targets, i * SET_WIDTH);
+        if !own.same(default_targets(numbers, Row(i as u8), set)) {
+            return false;
+        }
+        i += 1;
+    }
+    true
+}
+
+fn all_anchored(numbers: &[u64], sets: &[u64]) -> bool
+    requires { ⌜ TransitionRoom (now numbers) (now sets) ⌝ }
+    ensures { λ b. ⌜ b ≡ all (isAnchored (chartOf (now (numbers .entry))) (now (sets .entry))) (from (transitionCount (now (numbers .entry))) 0) ⌝ }
+{
+    let transitions = tables::transition_count(numbers) as usize;
+    let mut t = 0;
+    while t < transitions {
+        let own = chart::set_at(sets, t * SET_WIDTH);
+        if !own.same(anchors(numbers, Transition(t as u16))) {
+            return false;
+        }
+        t += 1;
+    }
+    true
+}
+
+// Whether the sets are those that the numbers give. None is derived apart: each is compared where it lies.
 fn has_columns(numbers: &[u64], sets: &[u64]) -> bool
     requires { ⌜ ColumnsRoom (now numbers) (now sets) ⌝ }
     ensures { λ b. ⌜ b ≡ same (now (sets .entry)) (columns (chartOf (now (numbers .entry)))) ⌝ }
 {
     let rows = tables::row_count(numbers) as usize;
-    let transitions = tables::transition_count(numbers) as usize;
-    let mut scratch = [0u64; SCRATCH];
-    write_ancestors(numbers, &mut scratch);
-    if !holds(sets, 0, &scratch, rows * SET_WIDTH) {
+    if !ancestors_hold(numbers, sets) {
         return false;
     }
-    write_descendants(numbers, &mut scratch);
-    if !holds(sets, rows * DESCENDANTS, &scratch, rows * SET_WIDTH) {
+    let below = rows * DESCENDANTS;
+    let kids = rows * CHILDREN;
+    let targets = rows * DEFAULT_TARGETS;
+    let last = rows * ANCHORS;
+    if !all_joined(numbers, &sets[kids..]) {
         return false;
     }
-    write_children_and_targets(numbers, &mut scratch);
-    if !holds(sets, rows * CHILDREN, &scratch, rows * PAIR_WIDTH) {
+    if !all_down(numbers, &sets[below..], &sets[kids..]) {
         return false;
     }
-    write_anchors(numbers, &mut scratch);
-    holds(sets, rows * ANCHORS, &scratch, transitions * SET_WIDTH)
+    if !all_aimed(numbers, &sets[kids..], &sets[targets..]) {
+        return false;
+    }
+    all_anchored(numbers, &sets[last..])
 }
 
 // Compile a chart into two lent places. Answers 1 to 5 leave them as they were.

@@ -76,6 +76,7 @@ module _ (numbers names seen : List ℕ) where
             let q : keyAt numbers names i ≡ keyAt numbers names (suc j) = ap (keyFrom 0) (same-eq _ _ t) in
             let m : getD seen (keyAt numbers names (suc j)) 0 ≡ 1 = s .marked (suc j) (omega arith) l in
             clash (getD seen k 0) free (ap (λ (x : ℕ). getD seen x 0) (e ∙ q) ∙ m)
+
         differs : (j : ℕ) → j < i → idDiffers numbers names i j ≡ true
         differs zero l = differs-root numbers names i
         differs (suc j) l =

@@ -1,139 +1,167 @@
-use borrow.Author.Tests.{not-true, not-false}
-use Rattle.compiler.specs.Compared.{ancestors-differ, descendants-differ, targets-differ, columns-compare}
 use borrow.Author.Needs.{needs}
+use borrow.Author.Tests.{not-true, not-false}
 use native.Mathlib.Omega.{arith}
+use Rattle.compiler.specs.Compared.{above-differ, kids-differ, below-differ, targets-differ, columns-decide, kids-known, room-below, room-kids, room-targets}
 use Rattle.compiler.proofs.has_columns.Statement.{statement}
 use Rattle.compiler.proofs.has_columns.Tie as tie
 
 row-count-requires : tie.Need-row-count-requires
 row-count-requires c κs = search needs
 
-transition-count-requires : tie.Need-transition-count-requires
-transition-count-requires c κs = search needs
-
-slice-aggregate-write-ancestors : tie.Need-slice-aggregate-write-ancestors
-slice-aggregate-write-ancestors c = search needs
-
-write-ancestors-requires : tie.Need-write-ancestors-requires
-write-ancestors-requires c κs = search needs
-
-slice-aggregate-holds : tie.Need-slice-aggregate-holds
-slice-aggregate-holds c = search needs
-
-mul-holds : tie.Need-mul-holds
-mul-holds c = search needs
-
-holds-requires : tie.Need-holds-requires
-holds-requires c κs = search needs
+ancestors-hold-requires : tie.Need-ancestors-hold-requires
+ancestors-hold-requires c κs = search needs
 
 returns : tie.Need-returns
-returns c = ancestors-differ _ _ _ (c .before .before .before .before .before .before .before .row-count .ensures) (c .before .before .before .before .before .before .transition-count .ensures) _ _ _ _ (c .before .before .before .before .write-ancestors .ensures) (c .before .holds .ensures) (not-true _ (c .if1 .taken))
+returns c = above-differ _ _ (c .before .before .row-count .ensures) (c .before .before .before .before .before .pre .numbersKeep) _ (c .before .before .before .before .before .pre .room) _ (c .before .ancestors-hold .ensures) (not-true _ (c .if1 .taken))
 
-slice-aggregate-write-descendants : tie.Need-slice-aggregate-write-descendants
-slice-aggregate-write-descendants c = search needs
+mul-below : tie.Need-mul-below
+mul-below c = search needs
 
-write-descendants-requires : tie.Need-write-descendants-requires
-write-descendants-requires c κs = search needs
+mul-kids : tie.Need-mul-kids
+mul-kids c = search needs
 
-mul-holds-2 : tie.Need-mul-holds-2
-mul-holds-2 c = search needs
+mul-targets : tie.Need-mul-targets
+mul-targets c = search needs
 
-slice-aggregate-holds-2 : tie.Need-slice-aggregate-holds-2
-slice-aggregate-holds-2 c = search needs
+mul-last : tie.Need-mul-last
+mul-last c = search needs
 
-mul-holds-3 : tie.Need-mul-holds-3
-mul-holds-3 c = search needs
+mul-all-joined : tie.Need-mul-all-joined
+mul-all-joined c = search needs
 
-holds-requires-2 : tie.Need-holds-requires-2
-holds-requires-2 c κs = search needs
+sub-all-joined : tie.Need-sub-all-joined
+sub-all-joined c = search needs
+
+part-all-joined-start : tie.Need-part-all-joined-start
+part-all-joined-start c = search needs
+
+part-all-joined-end : tie.Need-part-all-joined-end
+part-all-joined-end c = search needs
+
+all-joined-requires : tie.Need-all-joined-requires
+all-joined-requires c κs = search needs
 
 returns-2 : tie.Need-returns-2
-returns-2 c = descendants-differ _ _ _ (c .before .before .before .before .before .before .before .before .before .before .before .before .before .row-count .ensures) (c .before .before .before .before .before .before .before .before .before .before .before .before .transition-count .ensures) _ _ _ _ (c .before .before .before .before .write-descendants .ensures) (c .before .holds2 .ensures) (not-true _ (c .if2 .taken))
+returns-2 c = kids-differ _ _ (c .before .before .before .before .before .row-count .ensures) (c .before .before .before .before .before .before .before .before .pre .numbersKeep) _ (c .before .before .before .before .before .before .before .before .pre .room) _ (c .before .all-joined .ensures) (not-true _ (c .if2 .taken))
 
-slice-aggregate-write-children-and-targets : tie.Need-slice-aggregate-write-children-and-targets
-slice-aggregate-write-children-and-targets c = search needs
+mul-all-down : tie.Need-mul-all-down
+mul-all-down c = search needs
 
-write-children-and-targets-requires : tie.Need-write-children-and-targets-requires
-write-children-and-targets-requires c κs = search needs
+sub-all-down : tie.Need-sub-all-down
+sub-all-down c = search needs
 
-mul-holds-4 : tie.Need-mul-holds-4
-mul-holds-4 c = search needs
+part-all-down-start : tie.Need-part-all-down-start
+part-all-down-start c = search needs
 
-slice-aggregate-holds-3 : tie.Need-slice-aggregate-holds-3
-slice-aggregate-holds-3 c = search needs
+part-all-down-end : tie.Need-part-all-down-end
+part-all-down-end c = search needs
 
-mul-holds-5 : tie.Need-mul-holds-5
-mul-holds-5 c = search needs
+mul-all-down-2 : tie.Need-mul-all-down-2
+mul-all-down-2 c = search needs
 
-holds-requires-3 : tie.Need-holds-requires-3
-holds-requires-3 c κs = search needs
+sub-all-down-2 : tie.Need-sub-all-down-2
+sub-all-down-2 c = search needs
+
+part-all-down-start-2 : tie.Need-part-all-down-start-2
+part-all-down-start-2 c = search needs
+
+part-all-down-end-2 : tie.Need-part-all-down-end-2
+part-all-down-end-2 c = search needs
+
+all-down-requires : tie.Need-all-down-requires
+all-down-requires c κs = (room-below _ _ (c .before .before .before .before .before .before .before .row-count .ensures) (c .before .before .before .before .before .before .before .before .before .before .pre .numbersKeep) (c .before .before .before .before .before .before .before .before .before .before .args .sets .now) (c .before .before .before .before .before .before .before .before .before .before .pre .room), room-kids _ _ (c .before .before .before .before .before .before .before .row-count .ensures) (c .before .before .before .before .before .before .before .before .before .before .pre .numbersKeep) (c .before .before .before .before .before .before .before .before .before .before .args .sets .now) (c .before .before .before .before .before .before .before .before .before .before .pre .room))
 
 returns-3 : tie.Need-returns-3
-returns-3 c = targets-differ _ _ _ (c .before .before .before .before .before .before .before .before .before .before .before .before .before .before .before .before .before .before .before .row-count .ensures) (c .before .before .before .before .before .before .before .before .before .before .before .before .before .before .before .before .before .before .transition-count .ensures) _ _ _ _ (c .before .before .before .before .write-children-and-targets .ensures) (c .before .holds3 .ensures) (not-true _ (c .if3 .taken))
+returns-3 c = below-differ _ _ (c .before .before .before .before .before .before .before .before .before .row-count .ensures) (c .before .before .before .before .before .before .before .before .before .before .before .before .pre .numbersKeep) _ (c .before .before .before .before .before .before .before .before .before .before .before .before .pre .room) _ (c .before .all-down .ensures) (not-true _ (c .if3 .taken))
 
-slice-aggregate-write-anchors : tie.Need-slice-aggregate-write-anchors
-slice-aggregate-write-anchors c = search needs
+mul-all-aimed : tie.Need-mul-all-aimed
+mul-all-aimed c = search needs
 
-write-anchors-requires : tie.Need-write-anchors-requires
-write-anchors-requires c κs = search needs
+sub-all-aimed : tie.Need-sub-all-aimed
+sub-all-aimed c = search needs
 
-mul-holds-6 : tie.Need-mul-holds-6
-mul-holds-6 c = search needs
+part-all-aimed-start : tie.Need-part-all-aimed-start
+part-all-aimed-start c = search needs
 
-slice-aggregate-holds-4 : tie.Need-slice-aggregate-holds-4
-slice-aggregate-holds-4 c = search needs
+part-all-aimed-end : tie.Need-part-all-aimed-end
+part-all-aimed-end c = search needs
 
-mul-holds-7 : tie.Need-mul-holds-7
-mul-holds-7 c = let e = c .before .before .before .before .before .before .before .before .before .before .before .before .before .before .before .before .before .before .before .before .before .before .transition-count .ensures in let l = c .before .before .before .before .before .before .before .before .before .before .before .before .before .before .before .before .before .before .before .before .before .before .before .before .before .before .pre .numbersKeep .tables .sized .counts .transitions in omega arith
+mul-all-aimed-2 : tie.Need-mul-all-aimed-2
+mul-all-aimed-2 c = search needs
 
-holds-requires-4 : tie.Need-holds-requires-4
-holds-requires-4 c κs =
-    let e = c .before .before .before .before .before .before .before .before .before .before .before .before .before .before .before .before .before .before .before .before .before .before .transition-count .ensures in
-    let f = c .before .before .before .before .before .before .before .before .before .before .before .before .before .before .before .before .before .before .before .before .before .before .before .row-count .ensures in
-    let p = c .before .before .before .before .before .before .before .before .before .before .before .before .before .before .before .before .before .before .before .before .before .before .before .before .before .before .pre .room in
-    let l = c .before .before .before .before .before .before .before .before .before .before .before .before .before .before .before .before .before .before .before .before .before .before .before .before .before .before .pre .numbersKeep .tables .sized .counts .transitions in
-    let g = c .scratch12 .given in
-    let h = c .before .scratch11 .given in
-    (omega arith, omega arith)
+sub-all-aimed-2 : tie.Need-sub-all-aimed-2
+sub-all-aimed-2 c = search needs
+
+part-all-aimed-start-2 : tie.Need-part-all-aimed-start-2
+part-all-aimed-start-2 c = search needs
+
+part-all-aimed-end-2 : tie.Need-part-all-aimed-end-2
+part-all-aimed-end-2 c = search needs
+
+all-aimed-requires : tie.Need-all-aimed-requires
+all-aimed-requires c κs = (kids-known _ _ (c .before .before .before .before .before .before .before .before .before .before .before .row-count .ensures) (c .before .before .before .before .before .before .before .before .before .before .before .before .before .before .pre .numbersKeep) (c .before .before .before .before .before .before .before .before .before .before .before .before .before .before .args .sets .now) (c .before .before .before .before .before .before .before .before .before .before .before .before .before .before .pre .room) _ _ (c .before .before .before .before .before .before .before .all-joined .ensures) (not-false _ (c .before .before .before .before .before .before .if2 .left)) (c .before .before .before .all-down .ensures) (not-false _ (c .before .before .if3 .left)), room-targets _ _ (c .before .before .before .before .before .before .before .before .before .before .before .row-count .ensures) (c .before .before .before .before .before .before .before .before .before .before .before .before .before .before .pre .numbersKeep) (c .before .before .before .before .before .before .before .before .before .before .before .before .before .before .args .sets .now) (c .before .before .before .before .before .before .before .before .before .before .before .before .before .before .pre .room))
 
 returns-4 : tie.Need-returns-4
-returns-4 c =
-    columns-compare _ _ _ (c .before .before .before .before .before .before .before .before .before .before .before .before .before .before .before .before .before .before .before .before .before .before .before .before .row-count .ensures) (c .before .before .before .before .before .before .before .before .before .before .before .before .before .before .before .before .before .before .before .before .before .before .before .transition-count .ensures) _ _ _ _ (c .holds4 .result) _ _ _ _ _ _ _ _ (c .before .before .before .before .before .before .before .before .before .before .before .before .before .before .before .before .before .before .before .before .before .before .before .before .before .before .before .pre .room)
-    (c .before .before .before .before .before .before .before .before .before .before .before .before .before .before .before .before .before .before .before .before .before .write-ancestors .ensures) (c .before .before .before .before .before .before .before .before .before .before .before .before .before .before .before .before .before .before .holds .ensures) (not-false _ (c .before .before .before .before .before .before .before .before .before .before .before .before .before .before .before .before .before .if1 .left))
-    (c .before .before .before .before .before .before .before .before .before .before .before .before .before .before .before .write-descendants .ensures) (c .before .before .before .before .before .before .before .before .before .before .before .before .holds2 .ensures) (not-false _ (c .before .before .before .before .before .before .before .before .before .before .before .if2 .left))
-    (c .before .before .before .before .before .before .before .before .before .write-children-and-targets .ensures) (c .before .before .before .before .before .before .holds3 .ensures) (not-false _ (c .before .before .before .before .before .if3 .left))
-    (c .before .before .before .write-anchors .ensures) (c .holds4 .ensures)
+returns-4 c = targets-differ _ _ (c .before .before .before .before .before .before .before .before .before .before .before .before .before .row-count .ensures) (c .before .before .before .before .before .before .before .before .before .before .before .before .before .before .before .before .pre .numbersKeep) _ (c .before .before .before .before .before .before .before .before .before .before .before .before .before .before .before .before .pre .room) _ (c .before .all-aimed .ensures) (not-true _ (c .if4 .taken))
+
+mul-all-anchored : tie.Need-mul-all-anchored
+mul-all-anchored c = search needs
+
+sub-all-anchored : tie.Need-sub-all-anchored
+sub-all-anchored c = search needs
+
+part-all-anchored-start : tie.Need-part-all-anchored-start
+part-all-anchored-start c = search needs
+
+part-all-anchored-end : tie.Need-part-all-anchored-end
+part-all-anchored-end c = search needs
+
+all-anchored-requires : tie.Need-all-anchored-requires
+all-anchored-requires c κs = search needs
+
+returns-5 : tie.Need-returns-5
+returns-5 c = columns-decide _ _ (c .before .before .before .before .before .before .before .before .before .before .before .before .before .before .before .row-count .ensures) (c .before .before .before .before .before .before .before .before .before .before .before .before .before .before .before .before .before .before .pre .numbersKeep) _ (c .before .before .before .before .before .before .before .before .before .before .before .before .before .before .before .before .before .before .pre .room) _ _ (c .before .before .before .before .before .before .before .before .before .before .before .all-joined .ensures) (not-false _ (c .before .before .before .before .before .before .before .before .before .before .if2 .left)) (c .before .before .before .before .before .before .before .all-down .ensures) (not-false _ (c .before .before .before .before .before .before .if3 .left)) _ _ _ (λ k. omega (arith, c .before .before .before .before .before .before .before .before .before .before .before .before .before .before .before .before .shared-slice-known2 .given k)) (c .before .before .before .before .before .before .before .before .before .before .before .before .before .before .ancestors-hold .ensures) (not-false _ (c .before .before .before .before .before .before .before .before .before .before .before .before .before .if1 .left)) (c .before .before .before .all-aimed .ensures) (not-false _ (c .before .before .if4 .left)) (c .all-anchored .ensures)
 
 pub has-columns-spec : {M : Type 1} → statement M
 has-columns-spec =
     tie.close
     (tie.spec
     row-count-requires
-    transition-count-requires
-    slice-aggregate-write-ancestors
-    write-ancestors-requires
-    slice-aggregate-holds
-    mul-holds
-    holds-requires
+    ancestors-hold-requires
     returns
-    slice-aggregate-write-descendants
-    write-descendants-requires
-    mul-holds-2
-    slice-aggregate-holds-2
-    mul-holds-3
-    holds-requires-2
+    mul-below
+    mul-kids
+    mul-targets
+    mul-last
+    mul-all-joined
+    sub-all-joined
+    part-all-joined-start
+    part-all-joined-end
+    all-joined-requires
     returns-2
-    slice-aggregate-write-children-and-targets
-    write-children-and-targets-requires
-    mul-holds-4
-    slice-aggregate-holds-3
-    mul-holds-5
-    holds-requires-3
+    mul-all-down
+    sub-all-down
+    part-all-down-start
+    part-all-down-end
+    mul-all-down-2
+    sub-all-down-2
+    part-all-down-start-2
+    part-all-down-end-2
+    all-down-requires
     returns-3
-    slice-aggregate-write-anchors
-    write-anchors-requires
-    mul-holds-6
-    slice-aggregate-holds-4
-    mul-holds-7
-    holds-requires-4
-    returns-4)
+    mul-all-aimed
+    sub-all-aimed
+    part-all-aimed-start
+    part-all-aimed-end
+    mul-all-aimed-2
+    sub-all-aimed-2
+    part-all-aimed-start-2
+    part-all-aimed-end-2
+    all-aimed-requires
+    returns-4
+    mul-all-anchored
+    sub-all-anchored
+    part-all-anchored-start
+    part-all-anchored-end
+    all-anchored-requires
+    returns-5)

@@ -1,0 +1,119 @@
+-- What each test of a set says, way out by way out.
+use mathlib.Core.Path.{_≡_, refl, sym, ap, _∙_}
+use mathlib.Core.Bool.{Bool, true, false, _&&_}
+use mathlib.Core.List.{List, [], _∷_}
+use Prim.Native.Nat.{ℕ, zero, suc, _+_, _*_, _≤_, _<_}
+use native.Mathlib.Omega.{arith}
+use lib.Dec.{eqb, ltb}
+use lib.ListN.{length}
+use borrow.Author.Tests.{lt-ltb, le-ltb, ltb-true}
+use Rattle.definition.specs.Rows.{all, mem, isEmpty, same, insert, union, fold}
+use Rattle.definition.specs.Chart.{Chart, kind, parent, isHistory}
+use Rattle.definition.specs.Tables.{rowCount, chartOf}
+use Rattle.definition.specs.Tree.{isChild, children, defaultTargets, anchors}
+use Rattle.laws.specs.Bools.{and-left}
+use Rattle.laws.specs.Lists.{all-mem, empty-list}
+use Rattle.rowset.specs.declared.RowSet.{RowSet}
+use Rattle.rowset.specs.Member.{rowsOf}
+use Rattle.chart.specs.Ready.{setAt}
+use Rattle.compiler.specs.Judged.{rowsIn, isAbove, isJoined, isChildRow, withBelow, isDown, isAimed, isAnchored, SetsIn, KidsKnown}
+
+module _ (c : Chart) (sets : List ℕ) (i : ℕ) (own : RowSet) (is : own ≡ setAt sets (i * 4)) where
+  abbrev here : rowsOf own ≡ rowsIn sets i
+  here = unfold rowsIn in ap rowsOf is
+
+  pub above-none : i ≡ 0 → (b : Bool) → b ≡ isEmpty (rowsOf own) → b ≡ isAbove c sets i
+  unfolding isAbove
+  above-none z b e = go i here z
+    where
+      go : (j : ℕ) → rowsOf own ≡ rowsIn sets j → j ≡ 0 → b ≡ isAbove c sets j
+      go zero h z = e ∙ ap isEmpty h
+      go (suc j) h z = absurd (omega arith)
+
+  pub above-same : (i ≡ 0 → ⊥) → (p : ℕ) (over more : RowSet) → p ≡ parent c i → over ≡ setAt sets (p * 4) → rowsOf more ≡ insert p (rowsOf over) →
+      (b : Bool) → b ≡ same (rowsOf own) (rowsOf more) → b ≡ isAbove c sets i
+  unfolding isAbove rowsIn
+  above-same z p over more q o m b e = go i here z q
+    where
+      go : (j : ℕ) → rowsOf own ≡ rowsIn sets j → (j ≡ 0 → ⊥) → p ≡ parent c j → b ≡ isAbove c sets j
+      go zero h z q = absurd (z refl)
+      go (suc j) h z q = e ∙ rw (m, o, h, q)
+
+  pub aimed-same : (aim : RowSet) → rowsOf aim ≡ union [] (defaultTargets c i) → (b : Bool) → b ≡ same (rowsOf own) (rowsOf aim) → b ≡ isAimed c sets i
+  unfolding isAimed
+  aimed-same aim f b e = e ∙ rw (here, f)
+
+  pub anchored-same : (set : RowSet) → rowsOf set ≡ anchors c i → (b : Bool) → b ≡ same (rowsOf own) (rowsOf set) → b ≡ isAnchored c sets i
+  unfolding isAnchored
+  anchored-same set f b e = e ∙ rw (here, f)
+
+module _ (c : Chart) (kids : List ℕ) where
+  pub joined-root : (i : ℕ) → i ≡ 0 → true ≡ isJoined c kids i
+  unfolding isJoined
+  joined-root zero z = refl
+  joined-root (suc i) z = absurd (omega arith)
+
+  pub joined-history : (i : ℕ) → (i ≡ 0 → ⊥) → isHistory (kind c i) ≡ true → true ≡ isJoined c kids i
+  unfolding isJoined
+  joined-history zero z h = absurd (z refl)
+  joined-history (suc i) z h = sym (rw h)
+
+  pub joined-has : (i : ℕ) → (i ≡ 0 → ⊥) → isHistory (kind c i) ≡ false → (p : ℕ) → p ≡ parent c i → (s : RowSet) → s ≡ setAt kids (p * 4) →
+      (b : Bool) → b ≡ mem i (rowsOf s) → b ≡ isJoined c kids i
+  unfolding isJoined rowsIn
+  joined-has zero z h p q s o b e = absurd (z refl)
+  joined-has (suc i) z h p q s o b e = e ∙ rw (h, ← q, ← o)
+
+module _ (c : Chart) (p x : ℕ) where
+  pub child-past : c .rows ≤ x → false ≡ isChildRow c p x
+  unfolding isChildRow
+  child-past l = sym (rw (le-ltb x (c .rows) l))
+
+  pub child-history : x < c .rows → isHistory (kind c x) ≡ true → false ≡ isChildRow c p x
+  unfolding isChildRow isChild
+  child-history l h = sym (rw (lt-ltb x (c .rows) l, h))
+
+  pub child-is : x < c .rows → isHistory (kind c x) ≡ false → (q : ℕ) → q ≡ parent c x → (ltb q x && eqb p q) ≡ isChildRow c p x
+  unfolding isChildRow isChild
+  child-is l h q e = sym (rw (lt-ltb x (c .rows) l, h, e))
+
+-- one more row of a set, with what it has below it
+pub gather-turn : (below : List ℕ) (all own more next : RowSet) (x : ℕ) → own ≡ setAt below (x * 4) → rowsOf more ≡ insert x (rowsOf own) →
+    rowsOf next ≡ union (rowsOf all) (rowsOf more) → rowsOf next ≡ withBelow below (rowsOf all) x
+unfolding withBelow rowsIn
+gather-turn below all own more next x o m e = e ∙ rw (m, o)
+
+-- children are rows of the chart, so their sets are there
+pub sets-in : (c : Chart) (p : ℕ) (sets : List ℕ) (set : RowSet) (b : Bool) → c .rows * 4 ≤ length sets → b ≡ all (isChildRow c p) (rowsOf set) → b ≡ true → SetsIn sets (rowsOf set)
+unfolding isChildRow
+sets-in c p sets set b room e h =
+    record { inside = λ x m. let l : x < c .rows = ltb-true _ _ (and-left (ltb x (c .rows)) (isChild c p x) (all-mem (isChildRow c p) (rowsOf set) (sym e ∙ h) x m)) in omega arith }
+
+same-none : (xs : List ℕ) → isEmpty xs ≡ same xs []
+unfolding isEmpty same
+same-none [] = refl
+same-none (x ∷ xs) = refl
+
+module _ (c : Chart) (below kids : List ℕ) (i : ℕ) (own set : RowSet) (is : own ≡ setAt below (i * 4)) (of : set ≡ setAt kids (i * 4)) where
+  abbrev mine : rowsOf own ≡ rowsIn below i
+  mine = unfold rowsIn in ap rowsOf is
+
+  abbrev ours : rowsOf set ≡ rowsIn kids i
+  ours = unfold rowsIn in ap rowsOf of
+
+  pub down-none : (n b : Bool) → n ≡ isEmpty (rowsOf set) → n ≡ true → b ≡ isEmpty (rowsOf own) → b ≡ isDown c below kids i
+  unfolding isDown all fold
+  down-none n b e h f = f ∙ rw (← ours, empty-list (rowsOf set) (sym e ∙ h), ← mine) (same-none (rowsOf own))
+
+  pub down-not : (b : Bool) → b ≡ all (isChildRow c i) (rowsOf set) → b ≡ false → false ≡ isDown c below kids i
+  unfolding isDown
+  down-not b e h = sym (rw (← ours, ← e, h))
+
+  pub down-same : (b t : Bool) (found : RowSet) → b ≡ all (isChildRow c i) (rowsOf set) → b ≡ true → rowsOf found ≡ fold (withBelow below) [] (rowsOf set) →
+      t ≡ same (rowsOf own) (rowsOf found) → t ≡ isDown c below kids i
+  unfolding isDown
+  down-same b t found e h f g = g ∙ rw (f, ← ours, ← e, h, ← mine)
+
+-- the children of a row, read from their column
+pub kids-read : (numbers kids : List ℕ) (i : ℕ) (s : RowSet) → KidsKnown numbers kids → i < rowCount numbers → s ≡ setAt kids (i * 4) → rowsOf s ≡ children (chartOf numbers) i
+kids-read numbers kids i s h l e = ap rowsOf e ∙ unfold rowsIn in h .are i l
