@@ -1,18 +1,23 @@
 -- The parts of a session, judged: each answer of the code is the test's.
-use mathlib.Core.Path.{_≡_, refl, ap, _∙_}
+use mathlib.Core.Path.{_≡_, refl, sym, ap, _∙_}
 use mathlib.Core.Bool.{Bool, true, false, not, _&&_}
-use mathlib.Core.List.{List}
-use Prim.Native.Nat.{ℕ, zero, suc, _*_, _≤_, _<_}
+use mathlib.Core.List.{List, [], _∷_}
+use Prim.Native.Nat.{ℕ, zero, suc, _+_, _*_, _≤_, _<_}
 use native.Mathlib.Omega.{arith}
 use lib.Dec.{eqb}
+use lib.ListN.{getD}
+use borrow.Author.Tests.{eqb-true}
 use Rattle.definition.specs.Rows.{any, all, from, isEmpty}
 use Rattle.definition.specs.Chart.{Chart, kind, isHistory}
 use Rattle.definition.specs.Tables.{chartOf}
 use Rattle.definition.specs.Follower.{isFinalUnderRoot}
 use Rattle.definition.specs.Legal.{isLegal, isStorable}
+use Rattle.laws.specs.Bools.{and-left, and-right}
+use Rattle.laws.specs.Loops.{below-each}
 use Rattle.theory.specs.Tree.{Tree}
 use Rattle.rowset.specs.declared.RowSet.{RowSet}
 use Rattle.rowset.specs.Member.{rowsOf}
+use Rattle.rowset.specs.Rows.{rows-empty}
 use Rattle.chart.specs.Ready.{setAt, Ready}
 use Rattle.legality.specs.Rows.{RowsReady, rows-ready}
 use Rattle.selection.specs.History.{storedAt}
@@ -22,6 +27,23 @@ use Rattle.session.specs.Sessions.{session, isSession}
 use Rattle.state.specs.Found.{legal-set}
 use Rattle.state.specs.Words.{Fits}
 use Rattle.session.specs.Judged.{Lengths, holdsPlace, modeHolds, sessionHolds, session-holds}
+
+-- ---- nothing is stored
+
+zero-at : (ws : List ℕ) → all (eqb 0) ws ≡ true → (k : ℕ) → getD ws k 0 ≡ 0
+unfolding all
+zero-at [] h k = refl
+zero-at (x ∷ ws) h zero = sym (eqb-true 0 x (and-left (eqb 0 x) _ h))
+zero-at (x ∷ ws) h (suc k) = zero-at ws (and-right (eqb 0 x) _ h) k
+
+none-stored : (ws : List ℕ) → all (eqb 0) ws ≡ true → (h : ℕ) → storedAt ws h ≡ []
+unfolding storedAt setAt
+none-stored ws e h =
+    ap rowsOf (λ i. record { w0 = zero-at ws e (h * 4) i; w1 = zero-at ws e (h * 4 + 1) i; w2 = zero-at ws e (h * 4 + 2) i; w3 = zero-at ws e (h * 4 + 3) i }) ∙ rows-empty
+
+pub blank-holds : (c : Chart) (ws : List ℕ) (b : Bool) → b ≡ all (eqb 0) ws → b ≡ true → true ≡ all (holdsPlace c ws) (from 256 0)
+unfolding holdsPlace isEmpty
+blank-holds c ws b e t = sym (below-each (holdsPlace c ws) 256 (λ h l. rw (none-stored ws (sym e ∙ t) h)))
 
 -- ---- the mode
 
