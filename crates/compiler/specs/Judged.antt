@@ -22,6 +22,7 @@ use Rattle.theory.specs.Tree.{Tree, low, climb-one, below-anc, under-below, und
 use Rattle.rowset.specs.Member.{rowsOf}
 use Rattle.rowset.specs.Rows.{ascends-rows}
 use Rattle.chart.specs.Ready.{setAt}
+use Rattle.rules3.specs.Parents.{TreeIn}
 use Rattle.compiler.specs.Compilable.{Compilable}
 use Rattle.compiler.specs.Upward.{insert-union}
 use Rattle.compiler.specs.Downward.{ancestor-plain}
@@ -57,6 +58,15 @@ isAimed c targets i = same (rowsIn targets i) (union [] (defaultTargets c i))
 
 unfoldable pub isAnchored : Chart → List ℕ → ℕ → Bool
 isAnchored c sets t = same (rowsIn sets t) (anchors c t)
+
+-- rows in a tree, and room for a set of each
+pub record TreeRoom (numbers sets : List ℕ) : Type 0 where
+  pub tree : TreeIn numbers
+  pub room : rowCount numbers * 4 ≤ length sets
+
+-- a column of the ancestors, judged
+pub record AboveKnown (numbers sets : List ℕ) : Type 0 where
+  pub are : all (isAbove (chartOf numbers) sets) (from (rowCount numbers) 0) ≡ true
 
 -- the sets of these rows are there
 pub record SetsIn (sets rows : List ℕ) : Type 0 where

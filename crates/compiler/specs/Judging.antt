@@ -15,6 +15,8 @@ use Rattle.laws.specs.Bools.{and-left}
 use Rattle.laws.specs.Lists.{all-mem, empty-list}
 use Rattle.rowset.specs.declared.RowSet.{RowSet}
 use Rattle.rowset.specs.Member.{rowsOf}
+use Rattle.tables.specs.Ranges.{HasParent}
+use Rattle.rules3.specs.Parents.{TreeIn, tree-parent}
 use Rattle.chart.specs.Ready.{setAt}
 use Rattle.compiler.specs.Judged.{rowsIn, isAbove, isJoined, isChildRow, withBelow, isDown, isAimed, isAnchored, SetsIn, KidsKnown}
 
@@ -117,3 +119,7 @@ module _ (c : Chart) (below kids : List ℕ) (i : ℕ) (own set : RowSet) (is : 
 -- the children of a row, read from their column
 pub kids-read : (numbers kids : List ℕ) (i : ℕ) (s : RowSet) → KidsKnown numbers kids → i < rowCount numbers → s ≡ setAt kids (i * 4) → rowsOf s ≡ children (chartOf numbers) i
 kids-read numbers kids i s h l e = ap rowsOf e ∙ unfold rowsIn in h .are i l
+
+-- a row of a tree has a parent
+pub tree-has-parent : (numbers : List ℕ) → TreeIn numbers → (i : ℕ) → i < rowCount numbers → 0 < i → HasParent numbers i
+tree-has-parent numbers t i l s = let p = tree-parent numbers t i s l in record { row = record { tables = t .tables; below = l }; parent = omega arith }

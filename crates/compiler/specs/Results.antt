@@ -7,23 +7,31 @@ use native.Mathlib.Omega.{arith}
 use lib.Dec.{eqb}
 use lib.ListN.{length, take, drop, length-append, length-drop, take-append-drop}
 use lib.Seq.{length-take-le}
-use borrow.Author.Tests.{eq-eqb}
+use borrow.Author.Tests.{eq-eqb, eqb-true, le-ltb}
 use Rattle.definition.specs.declared.Answer.{Answer}
 use Rattle.definition.specs.declared.Answer.the-variants.{Done}
-use Rattle.definition.specs.Rows.{same}
-use Rattle.definition.specs.Tables.{tablesSize, chartOf}
-use Rattle.definition.specs.Rules.{countsFit, compiledSize, verdict}
+use Rattle.definition.specs.Rows.{same, all, from, mem}
+use Rattle.definition.specs.Tables.{tablesSize, rowCount, rowCell, kindAt, parentAt, chartOf}
+use Rattle.definition.specs.Tree.{ancestors}
+use Rattle.definition.specs.Rules.{countsFit, compiledSize, rule1, rule2, rule3, rule4, rule5, verdict}
 use Rattle.definition.specs.Answers.{answerNo}
 use Rattle.definition.specs.Compiled.{columns, compiled, ownNumbers, isCompiled}
-use Rattle.laws.specs.Bools.{clash, not-so}
+use Rattle.laws.specs.Bools.{clash, not-so, and-left}
+use Rattle.laws.specs.Sets.{mem-union}
 use Rattle.laws.specs.Passes.{drop-end}
 use Rattle.laws.specs.Parts.{part-end}
-use Rattle.theory.specs.Accepted.{verdict-rule1, verdict-sound}
-use Rattle.tables.specs.Ranges.{rule1-tables}
-use Rattle.chart.specs.Own.{Sizes, rule1-sizes, compiled-ready}
+use Rattle.theory.specs.Tree.{Tree}
+use Rattle.theory.specs.Accepted.{verdict-rule1, verdict-rule2, verdict-sound}
+use Rattle.tables.specs.Ranges.{InTables, rule1-tables}
+use Rattle.rules3.specs.Parents.{tree-kept}
+use Rattle.rules3.specs.Ancestry.{setOf, Climbed}
+use Rattle.rules.specs.Verdict.{firstThree, three-3, three-parts, unbroken}
+use Rattle.chart.specs.Own.{Sizes, rule1-sizes, answer-done, compiled-ready}
 use Rattle.chart.specs.Readers.{counts-fit}
 use Rattle.compiler.specs.Compilable.{Compilable, ColumnsRoom}
 use Rattle.compiler.specs.Whole.{lent, back, lent-is, back-is}
+use Rattle.compiler.specs.Judged.{rowsIn, isAbove, above-are, TreeRoom}
+use Rattle.compiler.specs.Compared.{above-differ}
 
 abbrev pub isDone : Answer → Bool
 isDone a = eqb (answerNo a) 0
@@ -124,11 +132,6 @@ module _ (place names : List ℕ) where
   too-short n e l =
       sym (not-so (isCompiled place names) (λ h. let s = compiled-ready place names h .ready .tables .sized .size in omega arith))
 
-  pub check-refused : (n : ℕ) (a : Answer) → n ≡ tablesSize place → a ≡ verdict (take n place) names (length place) (length names) → isDone a ≡ false →
-      false ≡ isCompiled place names
-  unfolding isCompiled ownNumbers
-  check-refused n a e f d = rw (← e, ← f, d)
-
 same-behind : (p xs ys : List ℕ) → same (p ++ xs) (p ++ ys) ≡ same xs ys
 unfolding same
 same-behind [] xs ys = refl
@@ -147,3 +150,74 @@ module _ (place names : List ℕ) (n : ℕ) (a : Answer) (size : n ≡ tablesSiz
       f ∙ rw (part-end n place, ← size, ← e, d)
       (sym (ap (λ (xs : List ℕ). same xs (take n place ++ columns (chartOf (take n place)))) (sym (take-append-drop n place)) ∙
       same-behind (take n place) (drop n place) (columns (chartOf (take n place)))))
+
+-- ---- the check, rule by rule
+
+tree-of : (numbers : List ℕ) → InTables numbers → rule3 (chartOf numbers) ≡ true → Tree (chartOf numbers)
+unfolding kindAt parentAt rowCell
+tree-of numbers t h =
+    record { rule = h; some = t .sized .counts .some; beyondKind = λ i l. rw (le-ltb i (rowCount numbers) l); beyondParent = λ i l. rw (le-ltb i (rowCount numbers) l) }
+
+module _ (place names : List ℕ) (n : ℕ) (size : n ≡ tablesSize place) (l : n ≤ length place) where
+  abbrev own : List ℕ
+  own = take n place
+
+  abbrev held : List ℕ
+  held = lent n place
+
+  kept-done : isCompiled place names ≡ true → verdict own names (length place) (length names) ≡ Done
+  unfolding isCompiled ownNumbers
+  kept-done h =
+      rw size (answer-done _ (eqb-true _ _ (and-left (eqb (answerNo (verdict (take (tablesSize place) place) names (length place) (length names))) 0) _ h)))
+
+  refuse : (b : Bool) → (verdict own names (length place) (length names) ≡ Done → b ≡ true) → b ≡ false → false ≡ isCompiled place names
+  refuse b f h = sym (not-so (isCompiled place names) (λ e. clash b (f (kept-done e)) h))
+
+  pub refused-tables : (b : Bool) → b ≡ firstThree own names (length place) (length names) → b ≡ false → false ≡ isCompiled place names
+  refused-tables b e =
+      refuse b (λ d. e ∙ sym (three-3 own names (length place) (length names) true (verdict-rule1 own names (length place) (length names) d)
+      (verdict-rule2 own names (length place) (length names) d) (sym (verdict-sound own names (length place) (length names) d .tree .rule))))
+
+  pub refused-lists : (b : Bool) → b ≡ rule4 (chartOf own) → b ≡ false → false ≡ isCompiled place names
+  refused-lists b e = refuse b (λ d. e ∙ verdict-sound own names (length place) (length names) d .listRule)
+
+  pub refused-transitions : (b : Bool) → b ≡ rule5 (chartOf own) → b ≡ false → false ≡ isCompiled place names
+  refused-transitions b e = refuse b (λ d. e ∙ verdict-sound own names (length place) (length names) d .transitionRule)
+
+  pub refused-above : (b : Bool) → b ≡ all (isAbove (chartOf own) held) (from (rowCount own) 0) → b ≡ false → false ≡ isCompiled place names
+  refused-above b e h =
+      sym (not-so (isCompiled place names) (λ k.
+      let d = kept-done k in
+      let r = check-room place names n Done size (sym d) refl l in
+      clash (isCompiled place names) k
+      (sym (above-differ own (rowCount own) refl (r .numbersKeep) held (r .room) b e h ∙ checked place names n Done size (sym d) refl l (same held (columns (chartOf own))) refl))))
+
+  module _ (b1 : Bool) (e1 : b1 ≡ firstThree own names (length place) (length names)) (g1 : b1 ≡ true) where
+    abbrev parts : (rule1 own names (length place) (length names) ≡ true) × (rule2 own names ≡ true) × (rule3 (chartOf own) ≡ true)
+    parts = three-parts own names (length place) (length names) (sym e1 ∙ g1)
+
+    pub own-tables : InTables own
+    own-tables = rule1-tables own names (length place) (length names) (parts .0)
+
+    pub own-tree : TreeRoom own held
+    unfolding compiledSize
+    own-tree =
+        let z = rule1-sizes own names (length place) (length names) (parts .0) in
+        let p = z .place in
+        let q = z .tables in
+        let s = length-take-le n place l in
+        record { tree = tree-kept own own-tables (parts .2); room = rw (part-end n place, length-drop n place) (omega arith) }
+
+    pub own-climbed : (b2 : Bool) → b2 ≡ all (isAbove (chartOf own) held) (from (rowCount own) 0) → b2 ≡ true → Climbed own held
+    unfolding setOf rowsIn mem
+    own-climbed b2 e2 g2 =
+        record {
+          tree = own-tree .tree;
+          ancestry = record {
+            size = own-tree .room;
+            at = λ i k a. ap (mem a) (above-are (chartOf own) (tree-of own own-tables (parts .2)) held (sym e2 ∙ g2) i k) ∙ mem-union a [] (ancestors (chartOf own) i);
+          };
+        }
+
+    pub own-kept : (b4 b5 : Bool) → b4 ≡ rule4 (chartOf own) → b4 ≡ true → b5 ≡ rule5 (chartOf own) → b5 ≡ true → Done ≡ verdict own names (length place) (length names)
+    own-kept b4 b5 e4 g4 e5 g5 = unbroken own names (length place) (length names) (parts .0) (parts .1) (parts .2) (sym e4 ∙ g4) (sym e5 ∙ g5)

@@ -14,7 +14,7 @@ ghost use Rattle.definition.specs.Follower.{nothingAt};
 ghost use Rattle.rowset.specs.Member.{rowsOf};
 ghost use Rattle.compiler.specs.Writing.{putAt, columnOver};
 ghost use Rattle.compiler.specs.Compilable.{Compilable, RowRoom, TransitionRoom, TargetRoom, PairRoom, ColumnsRoom, childrenAndTargets};
-ghost use Rattle.compiler.specs.Judged.{isAbove, isJoined, isChildRow, withBelow, isDown, isAimed, isAnchored, SetsIn, KidsKnown};
+ghost use Rattle.compiler.specs.Judged.{isAbove, isJoined, isChildRow, withBelow, isDown, isAimed, isAnchored, TreeRoom, AboveKnown, SetsIn, KidsKnown};
 ghost use Rattle.compiler.specs.Targets.{WithChildren, RowKept, TransitionKept};
 use definition::Answer;
 use numbers::Row;
@@ -267,7 +267,7 @@ fn copy_names(names: &[u8], place: &mut [u8])
 
 // A row's ancestors are its parent's and the parent; the root has none.
 fn above_holds(numbers: &[u64], sets: &[u64], i: usize) -> bool
-    requires { ⌜ RowRoom (now numbers) (now sets) × (i < rowCount (now numbers)) ⌝ }
+    requires { ⌜ TreeRoom (now numbers) (now sets) × (i < rowCount (now numbers)) ⌝ }
     ensures { λ b. ⌜ b ≡ isAbove (chartOf (now (numbers .entry))) (now (sets .entry)) i ⌝ }
 {
     let own = chart::set_at(sets, i * SET_WIDTH);
@@ -280,7 +280,7 @@ fn above_holds(numbers: &[u64], sets: &[u64], i: usize) -> bool
 }
 
 fn ancestors_hold(numbers: &[u64], sets: &[u64]) -> bool
-    requires { ⌜ RowRoom (now numbers) (now sets) ⌝ }
+    requires { ⌜ TreeRoom (now numbers) (now sets) ⌝ }
     ensures { λ b. ⌜ b ≡ all (isAbove (chartOf (now (numbers .entry))) (now (sets .entry))) (from (rowCount (now (numbers .entry))) 0) ⌝ }
 {
     let rows = tables::row_count(numbers) as usize;
@@ -439,15 +439,12 @@ fn all_anchored(numbers: &[u64], sets: &[u64]) -> bool
     true
 }
 
-// Whether the sets are those that the numbers give. None is derived apart: each is compared where it lies.
+// Whether the sets are those that the numbers give, the ancestors being judged. None is derived apart: each is compared where it lies.
 fn has_columns(numbers: &[u64], sets: &[u64]) -> bool
-    requires { ⌜ ColumnsRoom (now numbers) (now sets) ⌝ }
+    requires { ⌜ ColumnsRoom (now numbers) (now sets) × AboveKnown (now numbers) (now sets) ⌝ }
     ensures { λ b. ⌜ b ≡ same (now (sets .entry)) (columns (chartOf (now (numbers .entry)))) ⌝ }
 {
     let rows = tables::row_count(numbers) as usize;
-    if !ancestors_hold(numbers, sets) {
-        return false;
-    }
     let below = rows * DESCENDANTS;
     let kids = rows * CHILDREN;
     let targets = rows * DEFAULT_TARGETS;
@@ -479,7 +476,8 @@ pub fn compile(numbers: &[u64], names: &[u8], place: &mut [u64], name_place: &mu
     Answer::Done
 }
 
-// The check behind refusal 8: the place holds what its own numbers compile to, and they keep the rules.
+// The check behind refusal 8: the place holds what its own numbers compile to, and they keep the rules. Rule 4 reads the ancestors that it holds, once
+// they are judged.
 pub fn check(place: &[u64], names: &[u8]) -> bool
     ensures { λ b. ⌜ b ≡ isCompiled (now (place .entry)) (now (names .entry)) ⌝ }
 {
@@ -491,8 +489,18 @@ pub fn check(place: &[u64], names: &[u8]) -> bool
         return false;
     }
     let numbers = &place[..size];
-    let Answer::Done = rules::verdict(numbers, names, place.len(), names.len()) else {
+    let sets = &place[size..];
+    if !rules::keeps_tables(numbers, names, place.len(), names.len()) {
         return false;
-    };
-    has_columns(numbers, &place[size..])
+    }
+    if !ancestors_hold(numbers, sets) {
+        return false;
+    }
+    if !rules::lists_keep(numbers, sets) {
+        return false;
+    }
+    if !rules::keeps_transitions(numbers) {
+        return false;
+    }
+    has_columns(numbers, sets)
 }

@@ -12,6 +12,7 @@ ghost use Rattle.tables.specs.Parts.{RowOf};
 ghost use Rattle.rules3.specs.Parents.{TreeIn, Marks};
 ghost use Rattle.rules3.specs.Ancestry.{Climbed, highest};
 ghost use Rattle.rules.specs.Apart.{isApartFrom};
+ghost use Rattle.rules.specs.Verdict.{firstThree};
 use definition::Answer;
 use numbers::Row;
 use numbers::Transition;
@@ -270,18 +271,26 @@ fn all_targets_fit(numbers: &[u64], sets: &[u64]) -> bool
     true
 }
 
+// The rule, where the ancestors of each row are there.
+pub fn lists_keep(numbers: &[u64], sets: &[u64]) -> bool
+    requires { ⌜ Climbed (now numbers) (now sets) ⌝ }
+    ensures { λ b. ⌜ b ≡ rule4 (chartOf (now (numbers .entry))) ⌝ }
+{
+    let both = rules3::gather_parents(numbers);
+    let children = both.children;
+    if !lists_fit(numbers, sets, children) {
+        return false;
+    }
+    all_targets_fit(numbers, sets)
+}
+
 fn keeps_lists(numbers: &[u64]) -> bool
     requires { ⌜ TreeIn (now numbers) ⌝ }
     ensures { λ b. ⌜ b ≡ rule4 (chartOf (now (numbers .entry))) ⌝ }
 {
     let mut sets = [0u64; 1024];
     rules3::put_ancestors(numbers, &mut sets);
-    let both = rules3::gather_parents(numbers);
-    let children = both.children;
-    if !lists_fit(numbers, &sets, children) {
-        return false;
-    }
-    all_targets_fit(numbers, &sets)
+    lists_keep(numbers, &sets)
 }
 
 // ---- rule 5
@@ -382,7 +391,7 @@ fn transition_fits(numbers: &[u64], t: Transition) -> bool
         & !spins(numbers, t)
 }
 
-fn keeps_transitions(numbers: &[u64]) -> bool
+pub fn keeps_transitions(numbers: &[u64]) -> bool
     requires { ⌜ InTables (now numbers) ⌝ }
     ensures { λ b. ⌜ b ≡ rule5 (chartOf (now (numbers .entry))) ⌝ }
 {
@@ -398,6 +407,19 @@ fn keeps_transitions(numbers: &[u64]) -> bool
 }
 
 // ---- the verdict
+
+// Rules 1 to 3: what has to hold before the sets of a compiled chart are looked at.
+pub fn keeps_tables(numbers: &[u64], names: &[u8], room: usize, name_room: usize) -> bool
+    ensures { λ b. ⌜ b ≡ firstThree (now (numbers .entry)) (now (names .entry)) room «name_room» ⌝ }
+{
+    if !rules1::keeps_sizes(numbers, names, room, name_room) {
+        return false;
+    }
+    if !rules1::keeps_names(numbers, names) {
+        return false;
+    }
+    rules3::keeps_tree(numbers)
+}
 
 // The answer to compiling the chart into places of room numbers and name_room bytes: the first rule broken, for any numbers and bytes.
 pub fn verdict(numbers: &[u64], names: &[u8], room: usize, name_room: usize) -> Answer

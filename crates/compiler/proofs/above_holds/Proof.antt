@@ -1,7 +1,6 @@
 use borrow.Author.Needs.{needs}
 use native.Mathlib.Omega.{arith}
-use Rattle.compiler.specs.Compilable.{has-parent}
-use Rattle.compiler.specs.Judging.{above-none, above-same}
+use Rattle.compiler.specs.Judging.{above-none, above-same, tree-has-parent}
 use Rattle.compiler.proofs.above_holds.Statement.{statement}
 use Rattle.compiler.proofs.above_holds.Tie as tie
 
@@ -21,7 +20,7 @@ cast-t9 : tie.Need-cast-t9
 cast-t9 c = search needs
 
 parent-row-requires : tie.Need-parent-row-requires
-parent-row-requires c κs = has-parent _ (c .before .before .before .before .pre .0 .numbersKeep) _ (omega arith) (omega arith)
+parent-row-requires c κs = tree-has-parent _ (c .before .before .before .before .pre .0 .tree) _ (omega arith) (omega arith)
 
 cast-set-at : tie.Need-cast-set-at
 cast-set-at c = search needs

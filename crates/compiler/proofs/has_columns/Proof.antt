@@ -1,18 +1,14 @@
 use borrow.Author.Needs.{needs}
 use borrow.Author.Tests.{not-true, not-false}
+use mathlib.Core.Path.{refl, sym}
+use mathlib.Core.Bool.{true}
 use native.Mathlib.Omega.{arith}
-use Rattle.compiler.specs.Compared.{above-differ, kids-differ, below-differ, targets-differ, columns-decide, kids-known, room-below, room-kids, room-targets}
+use Rattle.compiler.specs.Compared.{kids-differ, below-differ, targets-differ, columns-decide, kids-known, room-below, room-kids, room-targets}
 use Rattle.compiler.proofs.has_columns.Statement.{statement}
 use Rattle.compiler.proofs.has_columns.Tie as tie
 
 row-count-requires : tie.Need-row-count-requires
 row-count-requires c κs = search needs
-
-ancestors-hold-requires : tie.Need-ancestors-hold-requires
-ancestors-hold-requires c κs = search needs
-
-returns : tie.Need-returns
-returns c = above-differ _ _ (c .before .before .row-count .ensures) (c .before .before .before .before .before .pre .numbersKeep) _ (c .before .before .before .before .before .pre .room) _ (c .before .ancestors-hold .ensures) (not-true _ (c .if1 .taken))
 
 mul-below : tie.Need-mul-below
 mul-below c = search needs
@@ -41,8 +37,8 @@ part-all-joined-end c = search needs
 all-joined-requires : tie.Need-all-joined-requires
 all-joined-requires c κs = search needs
 
-returns-2 : tie.Need-returns-2
-returns-2 c = kids-differ _ _ (c .before .before .before .before .before .row-count .ensures) (c .before .before .before .before .before .before .before .before .pre .numbersKeep) _ (c .before .before .before .before .before .before .before .before .pre .room) _ (c .before .all-joined .ensures) (not-true _ (c .if2 .taken))
+returns : tie.Need-returns
+returns c = kids-differ _ _ (c .before .before .before .row-count .ensures) (c .before .before .before .before .before .before .pre .0 .numbersKeep) _ (c .before .before .before .before .before .before .pre .0 .room) _ (c .before .all-joined .ensures) (not-true _ (c .if1 .taken))
 
 mul-all-down : tie.Need-mul-all-down
 mul-all-down c = search needs
@@ -69,10 +65,10 @@ part-all-down-end-2 : tie.Need-part-all-down-end-2
 part-all-down-end-2 c = search needs
 
 all-down-requires : tie.Need-all-down-requires
-all-down-requires c κs = (room-below _ _ (c .before .before .before .before .before .before .before .row-count .ensures) (c .before .before .before .before .before .before .before .before .before .before .pre .numbersKeep) (c .before .before .before .before .before .before .before .before .before .before .args .sets .now) (c .before .before .before .before .before .before .before .before .before .before .pre .room), room-kids _ _ (c .before .before .before .before .before .before .before .row-count .ensures) (c .before .before .before .before .before .before .before .before .before .before .pre .numbersKeep) (c .before .before .before .before .before .before .before .before .before .before .args .sets .now) (c .before .before .before .before .before .before .before .before .before .before .pre .room))
+all-down-requires c κs = (room-below _ _ (c .before .before .before .before .before .row-count .ensures) (c .before .before .before .before .before .before .before .before .pre .0 .numbersKeep) (c .before .before .before .before .before .before .before .before .args .sets .now) (c .before .before .before .before .before .before .before .before .pre .0 .room), room-kids _ _ (c .before .before .before .before .before .row-count .ensures) (c .before .before .before .before .before .before .before .before .pre .0 .numbersKeep) (c .before .before .before .before .before .before .before .before .args .sets .now) (c .before .before .before .before .before .before .before .before .pre .0 .room))
 
-returns-3 : tie.Need-returns-3
-returns-3 c = below-differ _ _ (c .before .before .before .before .before .before .before .before .before .row-count .ensures) (c .before .before .before .before .before .before .before .before .before .before .before .before .pre .numbersKeep) _ (c .before .before .before .before .before .before .before .before .before .before .before .before .pre .room) _ (c .before .all-down .ensures) (not-true _ (c .if3 .taken))
+returns-2 : tie.Need-returns-2
+returns-2 c = below-differ _ _ (c .before .before .before .before .before .before .before .row-count .ensures) (c .before .before .before .before .before .before .before .before .before .before .pre .0 .numbersKeep) _ (c .before .before .before .before .before .before .before .before .before .before .pre .0 .room) _ (c .before .all-down .ensures) (not-true _ (c .if2 .taken))
 
 mul-all-aimed : tie.Need-mul-all-aimed
 mul-all-aimed c = search needs
@@ -99,10 +95,10 @@ part-all-aimed-end-2 : tie.Need-part-all-aimed-end-2
 part-all-aimed-end-2 c = search needs
 
 all-aimed-requires : tie.Need-all-aimed-requires
-all-aimed-requires c κs = (kids-known _ _ (c .before .before .before .before .before .before .before .before .before .before .before .row-count .ensures) (c .before .before .before .before .before .before .before .before .before .before .before .before .before .before .pre .numbersKeep) (c .before .before .before .before .before .before .before .before .before .before .before .before .before .before .args .sets .now) (c .before .before .before .before .before .before .before .before .before .before .before .before .before .before .pre .room) _ _ (c .before .before .before .before .before .before .before .all-joined .ensures) (not-false _ (c .before .before .before .before .before .before .if2 .left)) (c .before .before .before .all-down .ensures) (not-false _ (c .before .before .if3 .left)), room-targets _ _ (c .before .before .before .before .before .before .before .before .before .before .before .row-count .ensures) (c .before .before .before .before .before .before .before .before .before .before .before .before .before .before .pre .numbersKeep) (c .before .before .before .before .before .before .before .before .before .before .before .before .before .before .args .sets .now) (c .before .before .before .before .before .before .before .before .before .before .before .before .before .before .pre .room))
+all-aimed-requires c κs = (kids-known _ _ (c .before .before .before .before .before .before .before .before .before .row-count .ensures) (c .before .before .before .before .before .before .before .before .before .before .before .before .pre .0 .numbersKeep) (c .before .before .before .before .before .before .before .before .before .before .before .before .args .sets .now) (c .before .before .before .before .before .before .before .before .before .before .before .before .pre .0 .room) _ _ (c .before .before .before .before .before .before .before .all-joined .ensures) (not-false _ (c .before .before .before .before .before .before .if1 .left)) (c .before .before .before .all-down .ensures) (not-false _ (c .before .before .if2 .left)), room-targets _ _ (c .before .before .before .before .before .before .before .before .before .row-count .ensures) (c .before .before .before .before .before .before .before .before .before .before .before .before .pre .0 .numbersKeep) (c .before .before .before .before .before .before .before .before .before .before .before .before .args .sets .now) (c .before .before .before .before .before .before .before .before .before .before .before .before .pre .0 .room))
 
-returns-4 : tie.Need-returns-4
-returns-4 c = targets-differ _ _ (c .before .before .before .before .before .before .before .before .before .before .before .before .before .row-count .ensures) (c .before .before .before .before .before .before .before .before .before .before .before .before .before .before .before .before .pre .numbersKeep) _ (c .before .before .before .before .before .before .before .before .before .before .before .before .before .before .before .before .pre .room) _ (c .before .all-aimed .ensures) (not-true _ (c .if4 .taken))
+returns-3 : tie.Need-returns-3
+returns-3 c = targets-differ _ _ (c .before .before .before .before .before .before .before .before .before .before .before .row-count .ensures) (c .before .before .before .before .before .before .before .before .before .before .before .before .before .before .pre .0 .numbersKeep) _ (c .before .before .before .before .before .before .before .before .before .before .before .before .before .before .pre .0 .room) _ (c .before .all-aimed .ensures) (not-true _ (c .if3 .taken))
 
 mul-all-anchored : tie.Need-mul-all-anchored
 mul-all-anchored c = search needs
@@ -119,16 +115,14 @@ part-all-anchored-end c = search needs
 all-anchored-requires : tie.Need-all-anchored-requires
 all-anchored-requires c κs = search needs
 
-returns-5 : tie.Need-returns-5
-returns-5 c = columns-decide _ _ (c .before .before .before .before .before .before .before .before .before .before .before .before .before .before .before .row-count .ensures) (c .before .before .before .before .before .before .before .before .before .before .before .before .before .before .before .before .before .before .pre .numbersKeep) _ (c .before .before .before .before .before .before .before .before .before .before .before .before .before .before .before .before .before .before .pre .room) _ _ (c .before .before .before .before .before .before .before .before .before .before .before .all-joined .ensures) (not-false _ (c .before .before .before .before .before .before .before .before .before .before .if2 .left)) (c .before .before .before .before .before .before .before .all-down .ensures) (not-false _ (c .before .before .before .before .before .before .if3 .left)) _ _ _ (λ k. omega (arith, c .before .before .before .before .before .before .before .before .before .before .before .before .before .before .before .before .shared-slice-known2 .given k)) (c .before .before .before .before .before .before .before .before .before .before .before .before .before .before .ancestors-hold .ensures) (not-false _ (c .before .before .before .before .before .before .before .before .before .before .before .before .before .if1 .left)) (c .before .before .before .all-aimed .ensures) (not-false _ (c .before .before .if4 .left)) (c .all-anchored .ensures)
+returns-4 : tie.Need-returns-4
+returns-4 c = columns-decide _ _ (c .before .before .before .before .before .before .before .before .before .before .before .before .before .row-count .ensures) (c .before .before .before .before .before .before .before .before .before .before .before .before .before .before .before .before .pre .0 .numbersKeep) _ (c .before .before .before .before .before .before .before .before .before .before .before .before .before .before .before .before .pre .0 .room) _ _ (c .before .before .before .before .before .before .before .before .before .before .before .all-joined .ensures) (not-false _ (c .before .before .before .before .before .before .before .before .before .before .if1 .left)) (c .before .before .before .before .before .before .before .all-down .ensures) (not-false _ (c .before .before .before .before .before .before .if2 .left)) true _ _ (λ k. omega (arith, c .before .before .before .before .before .before .before .before .before .before .before .before .before .before .shared-slice-known2 .given k)) (sym (c .before .before .before .before .before .before .before .before .before .before .before .before .before .before .before .before .pre .1 .are)) refl (c .before .before .before .all-aimed .ensures) (not-false _ (c .before .before .if3 .left)) (c .all-anchored .ensures)
 
 pub has-columns-spec : {M : Type 1} → statement M
 has-columns-spec =
     tie.close
     (tie.spec
     row-count-requires
-    ancestors-hold-requires
-    returns
     mul-below
     mul-kids
     mul-targets
@@ -138,7 +132,7 @@ has-columns-spec =
     part-all-joined-start
     part-all-joined-end
     all-joined-requires
-    returns-2
+    returns
     mul-all-down
     sub-all-down
     part-all-down-start
@@ -148,7 +142,7 @@ has-columns-spec =
     part-all-down-start-2
     part-all-down-end-2
     all-down-requires
-    returns-3
+    returns-2
     mul-all-aimed
     sub-all-aimed
     part-all-aimed-start
@@ -158,10 +152,10 @@ has-columns-spec =
     part-all-aimed-start-2
     part-all-aimed-end-2
     all-aimed-requires
-    returns-4
+    returns-3
     mul-all-anchored
     sub-all-anchored
     part-all-anchored-start
     part-all-anchored-end
     all-anchored-requires
-    returns-5)
+    returns-4)
