@@ -234,7 +234,7 @@ module _ (conf history internal external : List ℕ) (inner outer mode : ℕ) (a
 -- ---- the checks
 
 module _ (chart names : List ℕ) (s : Session) (k : Checks) (e : k ≡ checksOf chart names s) where
-  chart-is : k .chart ≡ isCompiled chart names
+  pub chart-is : k .chart ≡ isCompiled chart names
   unfolding checksOf
   chart-is = ap (λ (x : Checks). x .chart) e
 
@@ -274,7 +274,7 @@ module _ (chart names : List ℕ) (name : Name) (s : Session) where
       (λ h. ap (λ (x : Posted). isSession (chartOf chart) (x .session)) (sym e) ∙ post-passes (chartOf chart) (r .sound) (omega arith) s h name ∙ sym h)
       (λ h. ap (λ (x : Posted). isSession (chartOf chart) (x .session)) (sym (post-bad-session (chartOf chart) s name h ∙ e)))
 
-  post-checks : checksOf chart names s ≡ checksOf chart names ((postOf s chart names name) .session)
+  pub post-checks : checksOf chart names s ≡ checksOf chart names ((postOf s chart names name) .session)
   unfolding checksOf
   post-checks = bool-case (isCompiled chart names) (λ k. rw (k, same-checks k)) (λ k. rw k)
 
