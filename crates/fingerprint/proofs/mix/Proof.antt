@@ -13,7 +13,7 @@ wrapping-add-u64-requires-3 : tie.Need-wrapping-add-u64-requires-3
 wrapping-add-u64-requires-3 c κs = search needs
 
 returns : tie.Need-returns
-returns c = mixed _ _ _ _ _ (c .wrapping-add-u64 .ensures) (c .wrapping-add-u642 .ensures) (c .wrapping-add-u643 .ensures)
+returns c = mixed _ _ _ _ _ (c .before .before .wrapping-add-u64 .ensures) (c .before .wrapping-add-u642 .ensures) (c .wrapping-add-u643 .ensures)
 
 pub mix-spec : {M : Type 1} → statement M
 mix-spec =

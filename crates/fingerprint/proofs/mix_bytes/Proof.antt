@@ -31,10 +31,10 @@ loop-less : tie.Need-loop-less Inv-loop μ-loop
 loop-less c = search needs
 
 loop-again : tie.Need-loop-again Inv-loop μ-loop
-loop-again c = mixed-more _ _ _ _ _ (c .loop .inv) (c .loop-test .taken) (c .mix .ensures ∙ ap (mix _) (c .wide .ensures))
+loop-again c = mixed-more _ _ _ _ _ (c .before .before .before .before .loop .inv) (c .before .before .before .loop-test .taken) (c .mix .ensures ∙ ap (mix _) (c .before .wide .ensures))
 
 returns : tie.Need-returns Inv-loop μ-loop
-returns c = mixed-all _ _ _ _ (c .loop .inv) (c .loop-test .left)
+returns c = mixed-all _ _ _ _ (c .before .loop .inv) (c .loop-test .left)
 
 pub mix-bytes-spec : {M : Type 1} → statement M
 mix-bytes-spec =
