@@ -176,7 +176,16 @@ pub extern "C" fn auttervil_raw2_step(
 ) -> StepResult
     ensures { λ r. ⌜ StepsTo (sessionIn (now (numbers .entry)) (now (internal .entry)) (now (external .entry))) (now (chart .entry)) (now (names .entry)) (now (name .entry)) rounds (now (trace .entry)) (sessionIn (now (numbers .exit)) (now (internal .exit)) (now (external .exit))) r (now (trace .exit)) ⌝ }
 {
-    let stepped = lent::step(numbers, internal, external, chart, names, name, rounds, trace);
+    let stepped = lent::step(
+        numbers,
+        internal,
+        external,
+        chart,
+        names,
+        name,
+        rounds,
+        trace,
+    );
     let answer = stepped.answer;
     let status = stepped.status;
     let number = stepped.rounds;
@@ -207,5 +216,15 @@ pub extern "C" fn auttervil_raw2_perform(
 ) -> usize
     ensures { λ n. ⌜ Performs (sessionIn (now (numbers .entry)) (now (internal .entry)) (now (external .entry))) (now (chart .entry)) (now (names .entry)) (callsIn (lengthsFit (length (now (numbers .entry))) (length (now (internal .entry))) (length (now (external .entry)))) (now (calls .entry))) (now (text .entry)) (now (results .entry)) (now (trace .entry)) (sessionIn (now (numbers .exit)) (now (internal .exit)) (now (external .exit))) n (now (results .exit)) (now (trace .exit)) ⌝ }
 {
-    calls::perform(numbers, internal, external, chart, names, calls, text, results, trace)
+    calls::perform(
+        numbers,
+        internal,
+        external,
+        chart,
+        names,
+        calls,
+        text,
+        results,
+        trace,
+    )
 }

@@ -139,14 +139,31 @@ fn perform_call(
     if kind == POST {
         let from = a as usize;
         let to = b as usize;
-        let answer = lent::post_checked(checks, numbers, internal, external, chart, names, &text[from..to]);
+        let answer = lent::post_checked(
+            checks,
+            numbers,
+            internal,
+            external,
+            chart,
+            names,
+            &text[from..to],
+        );
         return Called {
             number: answer_number(answer),
             rounds: 0,
             count: 0,
         };
     }
-    let ran = lent::run_checked(checks, numbers, internal, external, chart, names, a as u32, trace);
+    let ran = lent::run_checked(
+        checks,
+        numbers,
+        internal,
+        external,
+        chart,
+        names,
+        a as u32,
+        trace,
+    );
     let status = ran.status;
     let number = ran.rounds;
     let count = ran.count;

@@ -389,7 +389,6 @@ left-session numbers history internal external numbers₁ p size l w f s =
     numbers-session (words (rowsOf (p .configuration))) history internal external (p .internal) (p .external) (modeNo (p .mode)) (words-length _) (back-size numbers history size l) ∙
     parts-session f p (words (rowsOf (p .configuration))) history internal external (modeNo (p .mode)) s refl refl
 
-
 -- 8 or 9: the places as they were
 refused-run : (s : Session) (a : Answer) (r : RanIn) → r ≡ refusedIn a → ranIn s r ≡ refusedRun s a
 unfolding refusedRun

@@ -118,7 +118,12 @@ fn put_state(numbers: &mut [u64], state: State)
     let outer = state.external;
     let mode = state.mode;
     put_set(&mut numbers[..HISTORY], set);
-    put_counts(&mut numbers[INNER..NUMBERS], inner, outer, state::mode_number(mode));
+    put_counts(
+        &mut numbers[INNER..NUMBERS],
+        inner,
+        outer,
+        state::mode_number(mode),
+    );
 }
 
 // ---- 8 and 9
@@ -140,7 +145,13 @@ fn holds(chart: &[u64], numbers: &[u64], internal: &[u8], external: &[u8]) -> bo
         & session::history_holds(chart, &numbers[HISTORY..INNER])
 }
 
-pub fn check(numbers: &[u64], internal: &[u8], external: &[u8], chart: &[u64], names: &[u8]) -> Checks
+pub fn check(
+    numbers: &[u64],
+    internal: &[u8],
+    external: &[u8],
+    chart: &[u64],
+    names: &[u8],
+) -> Checks
     ensures { λ r. ⌜ r ≡ checksOf (now (chart .entry)) (now (names .entry)) (sessionIn (now (numbers .entry)) (now (internal .entry)) (now (external .entry))) ⌝ }
 {
     if !compiler::check(chart, names) {
@@ -325,7 +336,16 @@ pub fn run(
     ensures { λ r. ⌜ (ranIn (sessionIn (now (numbers .exit)) (now (internal .exit)) (now (external .exit))) r ≡ runOf (sessionIn (now (numbers .entry)) (now (internal .entry)) (now (external .entry))) (now (chart .entry)) (now (names .entry)) rounds (length (now (trace .entry)))) × (now (trace .exit) ≡ traceWith (now (trace .entry)) (runEffects (sessionIn (now (numbers .entry)) (now (internal .entry)) (now (external .entry))) (now (chart .entry)) (now (names .entry)) rounds (length (now (trace .entry))))) ⌝ }
 {
     let checks = check(numbers, internal, external, chart, names);
-    run_checked(checks, numbers, internal, external, chart, names, rounds, trace)
+    run_checked(
+        checks,
+        numbers,
+        internal,
+        external,
+        chart,
+        names,
+        rounds,
+        trace,
+    )
 }
 
 // A post and then a run, with one check.
@@ -343,7 +363,16 @@ pub fn step(
 {
     let checks = check(numbers, internal, external, chart, names);
     let answer = post_checked(checks, numbers, internal, external, chart, names, name);
-    let ran = run_checked(checks, numbers, internal, external, chart, names, rounds, trace);
+    let ran = run_checked(
+        checks,
+        numbers,
+        internal,
+        external,
+        chart,
+        names,
+        rounds,
+        trace,
+    );
     let status = ran.status;
     let number = ran.rounds;
     let count = ran.count;
