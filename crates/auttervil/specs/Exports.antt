@@ -11,21 +11,21 @@ use Rattle.definition.specs.Rules.{verdict}
 use Rattle.definition.specs.Answers.{answerNo, statusNo}
 use Rattle.definition.specs.Compiled.{compiled, isCompiled}
 use Rattle.compiler.specs.Results.{Compiles}
+use Rattle.definition.specs.Names.{Name}
+use Rattle.definition.specs.Blocks.{Effect}
+use Rattle.state.specs.State.{traceWith}
+use Rattle.session.specs.declared.Session.{Session}
 use Rattle.session.specs.declared.Started.{Started}
 use Rattle.session.specs.declared.Posted.{Posted}
 use Rattle.session.specs.declared.Ran.{Ran}
-use Rattle.auttervil.specs.declared.StartResult.{StartResult}
-use Rattle.auttervil.specs.declared.PostResult.{PostResult}
-use Rattle.calls.specs.declared.Performed.{Performed}
-use Rattle.auttervil.specs.declared.RunResult.{RunResult}
-use Rattle.auttervil.specs.declared.PerformResult.{PerformResult}
-use Rattle.auttervil.specs.declared.LeftResult.{LeftResult}
-use Rattle.definition.specs.Names.{Name}
-use Rattle.state.specs.State.{traceWith}
-use Rattle.session.specs.declared.Session.{Session}
-use Rattle.session.specs.Sessions.{session, postOf, runOf, runEffects}
+use Rattle.session.specs.Sessions.{posted, postOf, runOf, runEffects}
+use Rattle.lent.specs.declared.StartedIn.{StartedIn}
 use Rattle.lent.specs.declared.RanIn.{RanIn}
-use Rattle.lent.specs.Lent.{ranIn, Steps}
+use Rattle.lent.specs.declared.Stepped.{Stepped}
+use Rattle.lent.specs.Places.{startedIn, ranIn, steppedIn, Steps}
+use Rattle.auttervil.specs.declared.StartResult.{StartResult}
+use Rattle.auttervil.specs.declared.RunResult.{RunResult}
+use Rattle.auttervil.specs.declared.StepResult.{StepResult}
 
 -- compiling: the answer's number; and the two places afterwards, the compiled chart and its names, or what was there
 pub record CompilesTo (numbers names place namePlace : List ℕ) (answer : ℕ) (after namesAfter : List ℕ) : Type 0 where
@@ -42,58 +42,57 @@ pub compiles-to : (numbers names place namePlace : List ℕ) (a : Answer) (n : �
 compiles-to numbers names place namePlace a n after namesAfter h e =
     record { is = e ∙ ap answerNo (h .is); chart = rw e (h .chart); slots = rw e (h .slots) }
 
--- ---- calls of a session: answers as numbers
+-- ---- calls of a session: the session that is left in the places, answers and statuses as numbers
 
-unfoldable pub startResult : Started → StartResult
-startResult r = record { session = r .session; answer = answerNo (r .answer); count = r .count }
+pub record StartsTo (x : Started) (effects : List Effect) (old : List ℕ) (s : Session) (r : StartResult) (trace : List ℕ) : Type 0 where
+  pub session : s ≡ x .session
+  pub answer : r .answer ≡ answerNo (x .answer)
+  pub count : r .count ≡ x .count
+  pub written : trace ≡ traceWith old effects
 
-unfoldable pub runResult : Ran → RunResult
-runResult r = record { session = r .session; status = statusNo (r .status); rounds = r .rounds; count = r .count }
+pub record PostsTo (x : Posted) (s : Session) (n : ℕ) : Type 0 where
+  pub session : s ≡ x .session
+  pub answer : n ≡ answerNo (x .answer)
 
-unfoldable pub postResult : Posted → PostResult
-postResult r = record { session = r .session; answer = answerNo (r .answer) }
+pub record RunsTo (x : Ran) (effects : List Effect) (old : List ℕ) (s : Session) (r : RunResult) (trace : List ℕ) : Type 0 where
+  pub session : s ≡ x .session
+  pub status : r .status ≡ statusNo (x .status)
+  pub rounds : r .rounds ≡ x .rounds
+  pub count : r .count ≡ x .count
+  pub written : trace ≡ traceWith old effects
 
-pub post-result : (r : Posted) (n : ℕ) (t : Posted) → r ≡ t → n ≡ answerNo (r .answer) → record { session = r .session; answer = n } ≡ postResult t
-unfolding postResult
-post-result r n t e g =
-    let b = g ∙ ap (λ (x : Posted). answerNo (x .answer)) e in
-    λ i. record { session = e i .session; answer = b i }
+-- a post and then a run
+pub record StepsTo (first : Session) (chart names : List ℕ) (name : Name) (rounds : ℕ) (old : List ℕ) (s : Session) (r : StepResult) (trace : List ℕ) : Type 0 where
+  pub answered : r .answer ≡ answerNo ((postOf first chart names name) .answer)
+  pub ran : RunsTo (runOf ((postOf first chart names name) .session) chart names rounds (length old)) (runEffects ((postOf first chart names name) .session) chart names rounds (length old))
+      old s (record { status = r .status; rounds = r .rounds; count = r .count }) trace
 
-pub start-result : (r : Started) (n : ℕ) (t : Started) → r ≡ t → n ≡ answerNo (r .answer) → record { session = r .session; answer = n; count = r .count } ≡ startResult t
-unfolding startResult
-start-result r n t e g =
-    let b = g ∙ ap (λ (x : Started). answerNo (x .answer)) e in
-    λ i. record { session = e i .session; answer = b i; count = e i .count }
+pub starts-to : (x : Started) (effects : List Effect) (old : List ℕ) (s : Session) (q : StartedIn) (n : ℕ) (trace : List ℕ) → (startedIn s q ≡ x) × (trace ≡ traceWith old effects) →
+    n ≡ answerNo (q .answer) → StartsTo x effects old s (record { answer = n; count = q .count }) trace
+starts-to x effects old s q n trace e g = record {
+  session = ap (λ (y : Started). y .session) (e .0);
+  answer = g ∙ ap (λ (y : Started). answerNo (y .answer)) (e .0);
+  count = ap (λ (y : Started). y .count) (e .0);
+  written = e .1;
+}
 
-pub run-result : (r : Ran) (n : ℕ) (t : Ran) → r ≡ t → n ≡ statusNo (r .status) → record { session = r .session; status = n; rounds = r .rounds; count = r .count } ≡ runResult t
-unfolding runResult
-run-result r n t e g =
-    let b = g ∙ ap (λ (x : Ran). statusNo (x .status)) e in
-    λ i. record { session = e i .session; status = b i; rounds = e i .rounds; count = e i .count }
+pub posts-to : (x : Posted) (s : Session) (a : Answer) (n : ℕ) → posted s a ≡ x → n ≡ answerNo a → PostsTo x s n
+posts-to x s a n e g = record { session = ap (λ (y : Posted). y .session) e; answer = g ∙ ap (λ (y : Posted). answerNo (y .answer)) e }
 
--- ---- a list of calls
+pub runs-to : (x : Ran) (effects : List Effect) (old : List ℕ) (s : Session) (q : RanIn) (n : ℕ) (trace : List ℕ) → (ranIn s q ≡ x) × (trace ≡ traceWith old effects) →
+    n ≡ statusNo (q .status) → RunsTo x effects old s (record { status = n; rounds = q .rounds; count = q .count }) trace
+runs-to x effects old s q n trace e g = record {
+  session = ap (λ (y : Ran). y .session) (e .0);
+  status = g ∙ ap (λ (y : Ran). statusNo (y .status)) (e .0);
+  rounds = ap (λ (y : Ran). y .rounds) (e .0);
+  count = ap (λ (y : Ran). y .count) (e .0);
+  written = e .1;
+}
 
-abbrev pub performedBy : PerformResult → Performed
-performedBy r = record { session = r .session; performed = r .performed }
-
--- ---- a session lent in parts
-
--- what a run hands back, with the parts that it leaves
-abbrev pub leftBy : List ℕ → List ℕ → List ℕ → List ℕ → LeftResult → RunResult
-leftBy configuration history internal external r =
-    record { session = session configuration history internal external (r .inner) (r .outer) (r .mode); status = r .status; rounds = r .rounds; count = r .count }
-
--- a post and then a run, in numbers
-pub record StepsTo (s : Session) (chart names : List ℕ) (name : Name) (rounds : ℕ) (old : List ℕ) (answer : ℕ) (configuration history internal external : List ℕ) (r : LeftResult) (trace : List ℕ) : Type 0 where
-  pub answered : answer ≡ answerNo ((postOf s chart names name) .answer)
-  pub ran : leftBy configuration history internal external r ≡ runResult (runOf ((postOf s chart names name) .session) chart names rounds (length old))
-  pub written : trace ≡ traceWith old (runEffects ((postOf s chart names name) .session) chart names rounds (length old))
-
-pub steps-to : (s : Session) (chart names : List ℕ) (name : Name) (rounds : ℕ) (old : List ℕ) (a : Answer) (configuration history internal external : List ℕ) (r : RanIn) (trace : List ℕ) (n m : ℕ) →
-    Steps s chart names name rounds old a (ranIn configuration history internal external r) trace → n ≡ answerNo a → m ≡ statusNo (r .status) →
-    StepsTo s chart names name rounds old n configuration history internal external (record { inner = r .inner; outer = r .outer; mode = r .mode; status = m; rounds = r .rounds; count = r .count }) trace
-steps-to s chart names name rounds old a configuration history internal external r trace n m h e g = record {
+pub steps-to : (first : Session) (chart names : List ℕ) (name : Name) (rounds : ℕ) (old : List ℕ) (s : Session) (q : Stepped) (n m : ℕ) (trace : List ℕ) →
+    Steps first chart names name rounds old (q .answer) (steppedIn s q) trace → n ≡ answerNo (q .answer) → m ≡ statusNo (q .status) →
+    StepsTo first chart names name rounds old s (record { answer = n; status = m; rounds = q .rounds; count = q .count }) trace
+steps-to first chart names name rounds old s q n m trace h e g = record {
   answered = e ∙ ap answerNo (h .answered);
-  ran = run-result (ranIn configuration history internal external r) m _ (h .ran) g;
-  written = h .written;
+  ran = runs-to _ _ old s (record { status = q .status; rounds = q .rounds; count = q .count }) m trace (h .ran, h .written) g;
 }

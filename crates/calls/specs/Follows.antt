@@ -15,7 +15,6 @@ use Rattle.session.specs.Sessions.{endedSession}
 use Rattle.faithful.specs.Program.{Step, callAll}
 use Rattle.faithful.specs.Alike.{Alike, AllAlike}
 use Rattle.faithful.specs.Demand3.{Demand3, demand-3-checked}
-use Rattle.calls.specs.declared.Performed.{Performed}
 use Rattle.calls.specs.Calls.{callsOf}
 use Rattle.calls.specs.Performing.{Gives, leaves, stepOf, followed, startsFirst, Performs}
 
@@ -55,11 +54,11 @@ calls-length chart names s [] = refl
 calls-length chart names s (x ∷ xs) = ap suc (calls-length chart names _ xs)
 
 -- the equations give the whole contract
-pub performs : (first : Session) (chart names cells text results₀ trace₀ : List ℕ) (r : Performed) (results trace : List ℕ) →
-    r .performed ≡ length (callsOf cells text (length results₀) (length trace₀)) →
-    Gives first cells results₀ trace₀ (callAll chart names first (callsOf cells text (length results₀) (length trace₀))) (r .session) results trace →
-    Performs first chart names cells text results₀ trace₀ r results trace
-performs first chart names cells text results₀ trace₀ r results trace n g = record {
+pub performs : (first : Session) (chart names cells text results₀ trace₀ : List ℕ) (last : Session) (count : ℕ) (results trace : List ℕ) →
+    count ≡ length (callsOf cells text (length results₀) (length trace₀)) →
+    Gives first cells results₀ trace₀ (callAll chart names first (callsOf cells text (length results₀) (length trace₀))) last results trace →
+    Performs first chart names cells text results₀ trace₀ last count results trace
+performs first chart names cells text results₀ trace₀ last count results trace n g = record {
   performed = n;
   by = g;
   follows = λ c h. rw (steps-follow chart names c first (callsOf cells text (length results₀) (length trace₀)) h) at g;

@@ -1,6 +1,6 @@
 -- What performing a list of calls hands back and leaves.
 use mathlib.Core.Path.{_≡_}
-use mathlib.Core.Bool.{Bool, true, false}
+use mathlib.Core.Bool.{Bool, true, false, cond}
 use mathlib.Core.Logic.{_⊎_}
 use mathlib.Core.List.{List, [], _∷_, _++_, map}
 use Prim.Native.Nat.{ℕ}
@@ -14,7 +14,6 @@ use Rattle.session.specs.declared.Session.{Session}
 use Rattle.session.specs.Sessions.{sessionOf, endedSession}
 use Rattle.faithful.specs.Program.{Step, callAll}
 use Rattle.calls.specs.Calls.{callsOf}
-use Rattle.calls.specs.declared.Performed.{Performed}
 
 -- the session that the last step hands back
 unfoldable pub lastSession : Session → List Step → Session
@@ -71,10 +70,14 @@ startsFirst (runs rounds room ∷ xs) = false
 
 -- ---- the contract
 
-pub record Performs (first : Session) (chart names cells text results₀ trace₀ : List ℕ) (r : Performed) (results trace : List ℕ) : Type 0 where
+pub record Performs (first : Session) (chart names cells text results₀ trace₀ : List ℕ) (last : Session) (count : ℕ) (results trace : List ℕ) : Type 0 where
   -- whatever is lent: the calls up to the first that is none, each as the contracts of start, post and run say, the session handed on
-  pub performed : r .performed ≡ length (callsOf cells text (length results₀) (length trace₀))
-  pub by : Gives first cells results₀ trace₀ (callAll chart names first (callsOf cells text (length results₀) (length trace₀))) (r .session) results trace
+  pub performed : count ≡ length (callsOf cells text (length results₀) (length trace₀))
+  pub by : Gives first cells results₀ trace₀ (callAll chart names first (callsOf cells text (length results₀) (length trace₀))) last results trace
   -- demand 3, over a compiled chart and from a session of zeros or a start on: as the plain follower of the chart's own rows
   pub follows : isCompiled chart names ≡ true → (first ≡ endedSession) ⊎ (startsFirst (callsOf cells text (length results₀) (length trace₀)) ≡ true) →
-      Gives first cells results₀ trace₀ (followed chart names (callsOf cells text (length results₀) (length trace₀))) (r .session) results trace
+      Gives first cells results₀ trace₀ (followed chart names (callsOf cells text (length results₀) (length trace₀))) last results trace
+
+-- no call is performed over places of other lengths
+unfoldable pub callsIn : Bool → List ℕ → List ℕ
+callsIn fits cells = cond fits cells []

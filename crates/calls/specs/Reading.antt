@@ -8,6 +8,7 @@ use lib.Dec.{eqb, leb}
 use lib.ListN.{length, getD, take, drop, set}
 use lib.Seq.{drop-cons}
 use borrow.Author.Tests.{leb-true, le-leb, lt-leb, ne-eqb}
+use Rattle.definition.specs.declared.Answer.{Answer}
 use Rattle.definition.specs.Answers.{answerNo, statusNo}
 use Rattle.definition.specs.Calls.{Call}
 use Rattle.laws.specs.Bools.{and-left, and-right}
@@ -15,9 +16,12 @@ use Rattle.session.specs.declared.Session.{Session}
 use Rattle.session.specs.declared.Started.{Started}
 use Rattle.session.specs.declared.Posted.{Posted}
 use Rattle.session.specs.declared.Ran.{Ran}
-use Rattle.session.specs.Sessions.{startOf, startEffects, postOf, runOf, runEffects}
+use Rattle.session.specs.Sessions.{startOf, startEffects, posted, postOf, runOf, runEffects}
 use Rattle.state.specs.State.{traceWith}
 use Rattle.faithful.specs.Program.{startStep, postStep, runStep, call}
+use Rattle.lent.specs.declared.StartedIn.{StartedIn}
+use Rattle.lent.specs.declared.RanIn.{RanIn}
+use Rattle.lent.specs.Places.{startedIn, ranIn}
 use Rattle.calls.specs.Calls.{mostRounds, isKind, isCall, callOf, callsOf}
 use Rattle.calls.specs.Performing.{Told, Did}
 
@@ -108,27 +112,19 @@ calls-short (k ∷ r ∷ a ∷ b ∷ cells) text results left l = absurd (omega 
 
 -- ---- one call told
 
--- the three results
-pub three : (old : List ℕ) (n r k : ℕ) → length old ≡ 3 → set (set (set old 0 n) 1 r) 2 k ≡ n ∷ r ∷ k ∷ []
-three [] n r k l = absurd (omega arith)
-three (x ∷ []) n r k l = absurd (omega arith)
-three (x ∷ y ∷ []) n r k l = absurd (omega arith)
-three (x ∷ y ∷ z ∷ []) n r k l = refl
-three (x ∷ y ∷ z ∷ w ∷ old) n r k l = absurd (omega arith)
-
 module _ (chart names : List ℕ) where
-  pub start-did : (room : ℕ) (r : Started) (n : ℕ) (old cells after : List ℕ) → r ≡ startOf chart names room → n ≡ answerNo (r .answer) → cells ≡ n ∷ 0 ∷ r .count ∷ [] →
+  start-did : (room : ℕ) (r : Started) (n : ℕ) (old cells after : List ℕ) → r ≡ startOf chart names room → n ≡ answerNo (r .answer) → cells ≡ n ∷ 0 ∷ r .count ∷ [] →
       after ≡ traceWith old (startEffects chart names room) → Did (startStep chart names room) old (r .session) cells after
   unfolding startStep
   start-did room r n old cells after e a c w =
       record { told = record { session = ap (λ (x : Started). x .session) e; result = c ∙ rw (a, e) }; written = w }
 
-  pub post-told : (s : Session) (name : List ℕ) (r : Posted) (n : ℕ) (cells : List ℕ) → r ≡ postOf s chart names name → n ≡ answerNo (r .answer) → cells ≡ n ∷ 0 ∷ 0 ∷ [] →
+  post-told : (s : Session) (name : List ℕ) (r : Posted) (n : ℕ) (cells : List ℕ) → r ≡ postOf s chart names name → n ≡ answerNo (r .answer) → cells ≡ n ∷ 0 ∷ 0 ∷ [] →
       Told (postStep chart names s name) (r .session) cells
   unfolding postStep
   post-told s name r n cells e a c = record { session = ap (λ (x : Posted). x .session) e; result = c ∙ rw (a, e) }
 
-  pub run-did : (s : Session) (rounds room : ℕ) (r : Ran) (n : ℕ) (old cells after : List ℕ) → r ≡ runOf s chart names rounds room → n ≡ statusNo (r .status) →
+  run-did : (s : Session) (rounds room : ℕ) (r : Ran) (n : ℕ) (old cells after : List ℕ) → r ≡ runOf s chart names rounds room → n ≡ statusNo (r .status) →
       cells ≡ n ∷ r .rounds ∷ r .count ∷ [] → after ≡ traceWith old (runEffects s chart names rounds room) → Did (runStep chart names s rounds room) old (r .session) cells after
   unfolding runStep
   run-did s rounds room r n old cells after e a c w =
@@ -136,14 +132,34 @@ module _ (chart names : List ℕ) where
 
   -- as the call that the cells spell
   module _ (s : Session) (kind room a b : ℕ) (text window : List ℕ) (t : Session) (cells : List ℕ) where
-    pub start-called : (after : List ℕ) → kind ≡ 0 → Did (startStep chart names room) window t cells after → Did (call chart names s (callOf kind room a b text)) window t cells after
+    start-called : (after : List ℕ) → kind ≡ 0 → Did (startStep chart names room) window t cells after → Did (call chart names s (callOf kind room a b text)) window t cells after
     unfolding call callOf
     start-called after e d = rw e d
 
-    pub post-called : kind ≡ 1 → Told (postStep chart names s (take (b - a) (drop a text))) t cells → Did (call chart names s (callOf kind room a b text)) window t cells window
+    post-called : kind ≡ 1 → Told (postStep chart names s (take (b - a) (drop a text))) t cells → Did (call chart names s (callOf kind room a b text)) window t cells window
     unfolding call callOf
     post-called e d = rw e (record { told = d; written = unfold postStep in refl })
 
-    pub run-called : (after : List ℕ) → (kind ≡ 0 → ⊥) → (kind ≡ 1 → ⊥) → Did (runStep chart names s a room) window t cells after → Did (call chart names s (callOf kind room a b text)) window t cells after
+    run-called : (after : List ℕ) → (kind ≡ 0 → ⊥) → (kind ≡ 1 → ⊥) → Did (runStep chart names s a room) window t cells after → Did (call chart names s (callOf kind room a b text)) window t cells after
     unfolding call callOf
     run-called after n m d = rw (ne-eqb kind 0 n, ne-eqb kind 1 m) d
+
+-- what a call over the places of a session hands back, told
+module _ (chart names : List ℕ) (s : Session) (kind a b : ℕ) (text : List ℕ) where
+  pub started-did : (t : Session) (r : StartedIn) (n : ℕ) (old after : List ℕ) → kind ≡ 0 →
+      (startedIn t r ≡ startOf chart names (length old)) × (after ≡ traceWith old (startEffects chart names (length old))) → n ≡ answerNo (r .answer) →
+      Did (call chart names s (callOf kind (length old) a b text)) old t (n ∷ 0 ∷ r .count ∷ []) after
+  started-did t r n old after e d m =
+      start-called chart names s kind (length old) a b text old t (n ∷ 0 ∷ r .count ∷ []) after e (start-did chart names (length old) (startedIn t r) n old (n ∷ 0 ∷ r .count ∷ []) after (d .0) m refl (d .1))
+
+  pub posted-did : (t : Session) (r : Answer) (n : ℕ) (old : List ℕ) → kind ≡ 1 → posted t r ≡ postOf s chart names (take (b - a) (drop a text)) → n ≡ answerNo r →
+      Did (call chart names s (callOf kind (length old) a b text)) old t (n ∷ 0 ∷ 0 ∷ []) old
+  posted-did t r n old e d m =
+      post-called chart names s kind (length old) a b text old t (n ∷ 0 ∷ 0 ∷ []) e (post-told chart names s (take (b - a) (drop a text)) (posted t r) n (n ∷ 0 ∷ 0 ∷ []) d m refl)
+
+  pub ran-did : (t : Session) (r : RanIn) (n : ℕ) (old after : List ℕ) → (kind ≡ 0 → ⊥) → (kind ≡ 1 → ⊥) →
+      (ranIn t r ≡ runOf s chart names a (length old)) × (after ≡ traceWith old (runEffects s chart names a (length old))) → n ≡ statusNo (r .status) →
+      Did (call chart names s (callOf kind (length old) a b text)) old t (n ∷ r .rounds ∷ r .count ∷ []) after
+  ran-did t r n old after e f d m =
+      run-called chart names s kind (length old) a b text old t (n ∷ r .rounds ∷ r .count ∷ []) after e f
+      (run-did chart names s a (length old) (ranIn t r) n old (n ∷ r .rounds ∷ r .count ∷ []) after (d .0) m refl (d .1))

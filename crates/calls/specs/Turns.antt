@@ -10,7 +10,6 @@ use lib.Seq.{take-at, drop-at, drop-drop, getD-drop, length-take-le}
 use Rattle.definition.specs.Rows.{flat}
 use Rattle.session.specs.declared.Session.{Session}
 use Rattle.faithful.specs.Program.{Step, call, callAll}
-use Rattle.calls.specs.declared.Performed.{Performed}
 use Rattle.calls.specs.Calls.{isKind, callOf, callsOf}
 use Rattle.calls.specs.Performing.{lastSession, report, resultsAfter, traceAfter, Did, Gives, Performs}
 use Rattle.calls.specs.Follows.{calls-length, performs}
@@ -172,15 +171,12 @@ module _ (first : Session) (chart names cells text results₀ trace₀ : List �
           rw (a, b) (left-turn (omega arith) fits room refl t cell after (rw (window-part, b) at d) (z ∙ window-part))
 
     -- no call more
-    abbrev whole : Performed
-    whole = record { session = s; performed = i }
-
-    pub left-ends : length cells / 4 ≤ i → Performs first chart names cells text results₀ trace₀ whole results trace
+    pub left-ends : length cells / 4 ≤ i → Performs first chart names cells text results₀ trace₀ s i results trace
     left-ends l =
         let d = left-done (calls-short (drop (i * 4) cells) text _ _ (rw length-drop (omega arith))) in
-        performs first chart names cells text results₀ trace₀ whole results trace (d .0) (d .1)
+        performs first chart names cells text results₀ trace₀ s i results trace (d .0) (d .1)
 
-    pub left-stops : i < length cells / 4 → fitsAt cells text (i * 4) (length results - put) (length trace - used) ≡ false → Performs first chart names cells text results₀ trace₀ whole results trace
+    pub left-stops : i < length cells / 4 → fitsAt cells text (i * 4) (length results - put) (length trace - used) ≡ false → Performs first chart names cells text results₀ trace₀ s i results trace
     left-stops l f =
         let d = left-done (calls-none cells text (i * 4) _ _ (omega arith) f) in
-        performs first chart names cells text results₀ trace₀ whole results trace (d .0) (d .1)
+        performs first chart names cells text results₀ trace₀ s i results trace (d .0) (d .1)

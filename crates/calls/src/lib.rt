@@ -1,15 +1,17 @@
-// A whole list of calls, performed one after the other with the session handed on.
+// A whole list of calls, performed one after the other over a session lent in place.
 ghost use mathlib.Core.Path.{_≡_};
 ghost use mathlib.Core.Bool.{true};
 ghost use mathlib.Core.List.{[], _∷_};
 ghost use lib.ListN.{length};
 ghost use Rattle.definition.specs.Answers.{answerNo, statusNo};
-ghost use Rattle.faithful.specs.Program.{startStep, postStep, runStep, call};
+ghost use Rattle.faithful.specs.Program.{call};
 ghost use Rattle.calls.specs.Calls.{isKind, isCall, callOf};
-ghost use Rattle.calls.specs.Performing.{Told, Did, Performs};
+ghost use Rattle.lent.specs.Places.{sessionIn, lengthsFit, checksOf};
+ghost use Rattle.calls.specs.Kept.{checksAfter};
+ghost use Rattle.calls.specs.Performing.{Did, Performs, callsIn};
 use definition::Answer;
 use definition::Status;
-use session::Session;
+use lent::Checks;
 
 // ---- answers and statuses in the numbers of document 01
 
@@ -91,109 +93,121 @@ fn put_result(result: &mut [u64], number: u32, rounds: u32, count: usize)
     result[2] = count as u64;
 }
 
-fn start_call(
-    session: Session,
-    chart: &[u64],
-    names: &[u8],
-    result: &mut [u64],
-    trace: &mut [u32],
-) -> Session
-    requires { ⌜ length (now result) ≡ 3 ⌝ }
-    ensures { λ s. ⌜ Did (startStep (now (chart .entry)) (now (names .entry)) (length (now (trace .entry)))) (now (trace .entry)) s (now (result .exit)) (now (trace .exit)) ⌝ }
-{
-    let started = session.start(chart, names, trace);
-    let after = started.session;
-    let answer = started.answer;
-    let count = started.count;
-    put_result(result, answer_number(answer), 0, count);
-    after
-}
-
-fn post_call(
-    session: Session,
-    chart: &[u64],
-    names: &[u8],
-    name: &[u8],
-    result: &mut [u64],
-) -> Session
-    requires { ⌜ length (now result) ≡ 3 ⌝ }
-    ensures { λ s. ⌜ Told (postStep (now (chart .entry)) (now (names .entry)) session (now (name .entry))) s (now (result .exit)) ⌝ }
-{
-    let posted = session.post(chart, names, name);
-    let after = posted.session;
-    let answer = posted.answer;
-    put_result(result, answer_number(answer), 0, 0);
-    after
-}
-
-fn run_call(
-    session: Session,
-    chart: &[u64],
-    names: &[u8],
-    rounds: u32,
-    result: &mut [u64],
-    trace: &mut [u32],
-) -> Session
-    requires { ⌜ length (now result) ≡ 3 ⌝ }
-    ensures { λ s. ⌜ Did (runStep (now (chart .entry)) (now (names .entry)) session rounds (length (now (trace .entry)))) (now (trace .entry)) s (now (result .exit)) (now (trace .exit)) ⌝ }
-{
-    let ran = session.run(chart, names, rounds, trace);
-    let next = ran.session;
-    let status = ran.status;
-    let number = ran.rounds;
-    let count = ran.count;
-    put_result(result, status_number(status), number, count);
-    next
-}
-
-// One call of a list: its kind, a and b, its three results and its window.
-fn perform_call(
-    session: Session,
-    chart: &[u64],
-    names: &[u8],
+// What a call of a list is: its kind, and for a post where its name begins and ends in the text, for a run its rounds in a.
+struct Cells {
     kind: u64,
     a: u64,
     b: u64,
+}
+
+// What it gives: the number of its answer or status, the rounds done and the count of its entries.
+struct Called {
+    number: u32,
+    rounds: u32,
+    count: usize,
+}
+
+// One call of a list, over its window of the trace.
+fn perform_call(
+    checks: Checks,
+    numbers: &mut [u64],
+    internal: &mut [u8],
+    external: &mut [u8],
+    chart: &[u64],
+    names: &[u8],
+    cells: Cells,
     text: &[u8],
-    result: &mut [u64],
     trace: &mut [u32],
-) -> Session
-    requires { ⌜ (isKind kind a b (length (now text)) ≡ true) × (length (now result) ≡ 3) ⌝ }
-    ensures { λ s. ⌜ Did (call (now (chart .entry)) (now (names .entry)) session (callOf kind (length (now (trace .entry))) a b (now (text .entry)))) (now (trace .entry)) s (now (result .exit)) (now (trace .exit)) ⌝ }
+) -> Called
+    requires { ⌜ (checks ≡ checksOf (now chart) (now names) (sessionIn (now numbers) (now internal) (now external))) × (lengthsFit (length (now numbers)) (length (now internal)) (length (now external)) ≡ true) × (isKind (cells .kind) (cells .a) (cells .b) (length (now text)) ≡ true) ⌝ }
+    ensures { λ r. ⌜ Did (call (now (chart .entry)) (now (names .entry)) (sessionIn (now (numbers .entry)) (now (internal .entry)) (now (external .entry))) (callOf (cells .kind) (length (now (trace .entry))) (cells .a) (cells .b) (now (text .entry)))) (now (trace .entry)) (sessionIn (now (numbers .exit)) (now (internal .exit)) (now (external .exit))) (r .number ∷ r .rounds ∷ r .count ∷ []) (now (trace .exit)) ⌝ }
 {
+    let kind = cells.kind;
+    let a = cells.a;
+    let b = cells.b;
     if kind == START {
-        return start_call(session, chart, names, result, trace);
+        let good = checks.chart;
+        let started = lent::start_checked(good, numbers, internal, external, chart, names, trace);
+        let answer = started.answer;
+        let count = started.count;
+        return Called {
+            number: answer_number(answer),
+            rounds: 0,
+            count: count,
+        };
     }
     if kind == POST {
         let from = a as usize;
         let to = b as usize;
-        return post_call(session, chart, names, &text[from..to], result);
+        let answer = lent::post_checked(
+            checks,
+            numbers,
+            internal,
+            external,
+            chart,
+            names,
+            &text[from..to],
+        );
+        return Called {
+            number: answer_number(answer),
+            rounds: 0,
+            count: 0,
+        };
     }
-    run_call(session, chart, names, a as u32, result, trace)
+    let ran = lent::run_checked(
+        checks,
+        numbers,
+        internal,
+        external,
+        chart,
+        names,
+        a as u32,
+        trace,
+    );
+    let status = ran.status;
+    let number = ran.rounds;
+    let count = ran.count;
+    Called {
+        number: status_number(status),
+        rounds: number,
+        count: count,
+    }
+}
+
+// Behind a start the session passes if the chart does; every other call keeps it as it was.
+fn checks_after(checks: Checks, kind: u64) -> Checks
+    ensures { λ r. ⌜ r ≡ checksAfter checks kind ⌝ }
+{
+    if kind == START {
+        return Checks {
+            chart: checks.chart,
+            session: checks.chart,
+        };
+    }
+    checks
 }
 
 // ---- the list
 
-// What a list of calls hands back: the session after the last of them, and how many were performed.
-pub struct Performed {
-    pub session: Session,
-    pub performed: usize,
-}
-
-// The calls up to the first four cells that are none, or that results or trace have no room for. Three results a call: the number of its answer or status, the rounds done,
-// the count of its entries, which stand at the beginning of its window.
+// The calls up to the first four cells that are none, or that results or trace have no room for; chart and session are checked once. Three results a call: the number of its
+// answer or status, the rounds done, the count of its entries, which stand at the beginning of its window. What is handed back is how many were performed.
 pub fn perform(
-    session: Session,
+    numbers: &mut [u64],
+    internal: &mut [u8],
+    external: &mut [u8],
     chart: &[u64],
     names: &[u8],
     calls: &[u64],
     text: &[u8],
     results: &mut [u64],
     trace: &mut [u32],
-) -> Performed
-    ensures { λ r. ⌜ Performs session (now (chart .entry)) (now (names .entry)) (now (calls .entry)) (now (text .entry)) (now (results .entry)) (now (trace .entry)) r (now (results .exit)) (now (trace .exit)) ⌝ }
+) -> usize
+    ensures { λ r. ⌜ Performs (sessionIn (now (numbers .entry)) (now (internal .entry)) (now (external .entry))) (now (chart .entry)) (now (names .entry)) (callsIn (lengthsFit (length (now (numbers .entry))) (length (now (internal .entry))) (length (now (external .entry)))) (now (calls .entry))) (now (text .entry)) (now (results .entry)) (now (trace .entry)) (sessionIn (now (numbers .exit)) (now (internal .exit)) (now (external .exit))) r (now (results .exit)) (now (trace .exit)) ⌝ }
 {
-    let mut current = session;
+    if !lent::lengths_fit(numbers.len(), internal.len(), external.len()) {
+        return 0;
+    }
+    let mut checks = lent::check(numbers, internal, external, chart, names);
     let mut performed = 0;
     let mut put = 0;
     let mut used = 0;
@@ -211,23 +225,30 @@ pub fn perform(
         }
         let put_end = put + RESULT_WIDTH;
         let end = used + room as usize;
-        current = perform_call(
-            current,
+        let cells = Cells {
+            kind: kind,
+            a: a,
+            b: b,
+        };
+        let called = perform_call(
+            checks,
+            numbers,
+            internal,
+            external,
             chart,
             names,
-            kind,
-            a,
-            b,
+            cells,
             text,
-            &mut results[put..put_end],
             &mut trace[used..end],
         );
+        let number = called.number;
+        let rounds = called.rounds;
+        let count = called.count;
+        put_result(&mut results[put..put_end], number, rounds, count);
+        checks = checks_after(checks, kind);
         put = put_end;
         used = end;
         performed += 1;
     }
-    Performed {
-        session: current,
-        performed: performed,
-    }
+    performed
 }

@@ -3,20 +3,30 @@ use Prim.Native.Nat.{_-_, _/_}
 use native.Mathlib.Omega.{arith}
 use lib.ListN.{length}
 use Rattle.laws.specs.Loops.{said-not-yes, said-not-no}
-use Rattle.calls.specs.Turns.{Left, left-begin, left-fits, result-part, left-again, left-ends, left-stops}
+use Rattle.calls.specs.Turns.{left-fits, result-part}
+use Rattle.calls.specs.InPlace.{LeftIn, none-performed, in-begin, in-again, in-ends, in-stops, fewer-left, same-sizes}
 use Rattle.calls.proofs.perform.Statement.{statement}
 use Rattle.calls.proofs.perform.Tie as tie
 
 abbrev Inv-loop : tie.InvT-loop
-Inv-loop chart names calls text results₀ trace₀ current₀ performed₀ put₀ used₀ results trace current performed put used =
-    Left current₀ chart names calls text results₀ trace₀ current results trace performed put used
+Inv-loop numbers₀ internal₀ external₀ chart names calls text results₀ trace₀ checks₀ performed₀ put₀ used₀ numbers internal external results trace checks performed put used =
+    LeftIn numbers₀ internal₀ external₀ chart names calls text results₀ trace₀ numbers internal external results trace checks performed put used
 
 abbrev μ-loop : tie.MeasureT-loop
-μ-loop chart names calls text results₀ trace₀ current₀ performed₀ put₀ used₀ results trace current performed put used =
+μ-loop numbers₀ internal₀ external₀ chart names calls text results₀ trace₀ checks₀ performed₀ put₀ used₀ numbers internal external results trace checks performed put used =
     length calls / 4 - performed
 
+lengths-fit-requires : tie.Need-lengths-fit-requires Inv-loop μ-loop
+lengths-fit-requires c κs = search needs
+
+returns : tie.Need-returns Inv-loop μ-loop
+returns c = none-performed _ _ _ _ _ _ _ _ (said-not-yes _ _ (c .before .lengths-fit .ensures) (c .if1 .taken))
+
+check-requires : tie.Need-check-requires Inv-loop μ-loop
+check-requires c κs = search needs
+
 loop-holds : tie.Need-loop-holds Inv-loop μ-loop
-loop-holds c = left-begin _ _ _ _ _ _ _
+loop-holds c = in-begin _ _ _ _ _ _ _ _ _ _ (c .check .ensures) (said-not-no _ _ (c .before .before .before .before .before .lengths-fit .ensures) (c .before .before .before .before .if1 .left))
 
 mul-at : tie.Need-mul-at Inv-loop μ-loop
 mul-at c = search needs
@@ -64,18 +74,13 @@ is-call-requires : tie.Need-is-call-requires Inv-loop μ-loop
 is-call-requires c κs = search needs
 
 add-put-end : tie.Need-add-put-end Inv-loop μ-loop
-add-put-end c = search needs
+add-put-end c = let g = left-fits _ _ _ _ _ _ _ _ _ _ _ _ _ ((c .before .before .before .before .before .before .before .loop .inv) .left) (c .before .before .before .before .before .before .loop-test .taken) (said-not-no _ _ (c .before .is-call .ensures) (c .if2 .left)) .0 in let e = (c .before .before .before .before .before .before .before .loop .inv) .left .resultsSize in let l = c .before .before .before .before .before .before .before .before .before .before .before .before .before .before .before .before .before .before .before .before .before .before .before .good .1 .1 .1 .1 .1 .1 .1 .0 in record { fits = omega arith }
 
 add-end : tie.Need-add-end Inv-loop μ-loop
-add-end c =
-    let h = c .before .before .before .before .before .before .before .loop .inv in
-    let t = c .before .before .before .before .before .before .loop-test .taken in
-    let f = said-not-no _ _ (c .before .is-call .ensures) (c .if1 .left) in
-    let g = left-fits _ _ _ _ _ _ _ _ _ _ _ _ _ h t f in
-    search needs
+add-end c = let g = left-fits _ _ _ _ _ _ _ _ _ _ _ _ _ ((c .before .before .before .before .before .before .before .loop .inv) .left) (c .before .before .before .before .before .before .loop-test .taken) (said-not-no _ _ (c .before .is-call .ensures) (c .if2 .left)) .1 in let e = (c .before .before .before .before .before .before .before .loop .inv) .left .traceSize in let l = c .before .before .before .before .before .before .before .before .before .before .before .before .before .before .before .before .before .before .before .before .before .before .before .good .1 .1 .1 .1 .1 .1 .1 .1 .0 in record { fits = omega arith }
 
 mul-perform-call : tie.Need-mul-perform-call Inv-loop μ-loop
-mul-perform-call c = search needs
+mul-perform-call c = let g = (c .before .before .before .before .before .before .before .before .before .before .loop .inv) .left .windowsIn in let e = (c .before .before .before .before .before .before .before .before .before .before .loop .inv) .left .traceSize in let l = c .before .before .before .before .before .before .before .before .before .before .before .before .before .before .before .before .before .before .before .before .before .before .before .before .before .before .good .1 .1 .1 .1 .1 .1 .1 .1 .0 in record { fits = omega arith }
 
 sub-perform-call : tie.Need-sub-perform-call Inv-loop μ-loop
 sub-perform-call c = search needs
@@ -84,70 +89,73 @@ part-perform-call-start : tie.Need-part-perform-call-start Inv-loop μ-loop
 part-perform-call-start c = search needs
 
 part-perform-call-end : tie.Need-part-perform-call-end Inv-loop μ-loop
-part-perform-call-end c =
-    let h = c .before .before .before .before .before .before .before .loop .inv in
-    let t = c .before .before .before .before .before .before .loop-test .taken in
-    let f = said-not-no _ _ (c .before .is-call .ensures) (c .if1 .left) in
-    let g = left-fits _ _ _ _ _ _ _ _ _ _ _ _ _ h t f in
-    search needs
-
-mul-perform-call-2 : tie.Need-mul-perform-call-2 Inv-loop μ-loop
-mul-perform-call-2 c = search needs
-
-sub-perform-call-2 : tie.Need-sub-perform-call-2 Inv-loop μ-loop
-sub-perform-call-2 c = search needs
-
-part-perform-call-start-2 : tie.Need-part-perform-call-start-2 Inv-loop μ-loop
-part-perform-call-start-2 c = search needs
-
-part-perform-call-end-2 : tie.Need-part-perform-call-end-2 Inv-loop μ-loop
-part-perform-call-end-2 c =
-    let h = c .before .before .before .before .before .before .before .before .loop .inv in
-    let t = c .before .before .before .before .before .before .before .loop-test .taken in
-    let f = said-not-no _ _ (c .before .before .is-call .ensures) (c .before .if1 .left) in
-    let g = left-fits _ _ _ _ _ _ _ _ _ _ _ _ _ h t f in
-    search needs
+part-perform-call-end c = let g = left-fits _ _ _ _ _ _ _ _ _ _ _ _ _ ((c .before .before .before .before .before .before .before .before .before .before .loop .inv) .left) (c .before .before .before .before .before .before .before .before .before .loop-test .taken) (said-not-no _ _ (c .before .before .before .before .is-call .ensures) (c .before .before .before .if2 .left)) in search needs
 
 perform-call-requires : tie.Need-perform-call-requires Inv-loop μ-loop
-perform-call-requires c κs =
-    let h = c .before .before .before .before .before .before .before .before .before .loop .inv in
-    let t = c .before .before .before .before .before .before .before .before .loop-test .taken in
-    let f = said-not-no _ _ (c .before .before .before .is-call .ensures) (c .before .before .if1 .left) in
-    (left-fits _ _ _ _ _ _ _ _ _ _ _ _ _ h t f .2, result-part _ _ _ _ _ _ _ _ _ _ _ _ _ h t f)
+perform-call-requires c κs = ((c .before .before .before .before .before .before .before .before .before .before .before .loop .inv) .checks, (c .before .before .before .before .before .before .before .before .before .before .before .loop .inv) .lengths, left-fits _ _ _ _ _ _ _ _ _ _ _ _ _ ((c .before .before .before .before .before .before .before .before .before .before .before .loop .inv) .left) (c .before .before .before .before .before .before .before .before .before .before .loop-test .taken) (said-not-no _ _ (c .before .before .before .before .before .is-call .ensures) (c .before .before .before .before .if2 .left)) .2)
+
+mul-put-result : tie.Need-mul-put-result Inv-loop μ-loop
+mul-put-result c = let g = (c .before .before .before .before .before .before .before .before .before .before .before .before .before .before .before .before .before .before .before .before .loop .inv) .left .resultsIn in let e = (c .before .before .before .before .before .before .before .before .before .before .before .before .before .before .before .before .before .before .before .before .loop .inv) .left .resultsSize in let l = c .before .before .before .before .before .before .before .before .before .before .before .before .before .before .before .before .before .before .before .before .before .before .before .before .before .before .before .before .before .before .before .before .before .before .before .before .good .1 .1 .1 .1 .1 .1 .1 .0 in record { fits = omega arith }
+
+sub-put-result : tie.Need-sub-put-result Inv-loop μ-loop
+sub-put-result c = search needs
+
+part-put-result-start : tie.Need-part-put-result-start Inv-loop μ-loop
+part-put-result-start c = search needs
+
+part-put-result-end : tie.Need-part-put-result-end Inv-loop μ-loop
+part-put-result-end c = let g = left-fits _ _ _ _ _ _ _ _ _ _ _ _ _ ((c .before .before .before .before .before .before .before .before .before .before .before .before .before .before .before .before .before .before .before .before .loop .inv) .left) (c .before .before .before .before .before .before .before .before .before .before .before .before .before .before .before .before .before .before .before .loop-test .taken) (said-not-no _ _ (c .before .before .before .before .before .before .before .before .before .before .before .before .before .before .is-call .ensures) (c .before .before .before .before .before .before .before .before .before .before .before .before .before .if2 .left)) in search needs
+
+put-result-requires : tie.Need-put-result-requires Inv-loop μ-loop
+put-result-requires c κs = result-part _ _ _ _ _ _ _ _ _ _ _ _ _ ((c .before .before .before .before .before .before .before .before .before .before .before .before .before .before .before .before .before .before .before .before .before .loop .inv) .left) (c .before .before .before .before .before .before .before .before .before .before .before .before .before .before .before .before .before .before .before .before .loop-test .taken) (said-not-no _ _ (c .before .before .before .before .before .before .before .before .before .before .before .before .before .before .before .is-call .ensures) (c .before .before .before .before .before .before .before .before .before .before .before .before .before .before .if2 .left))
+
+checks-after-requires : tie.Need-checks-after-requires Inv-loop μ-loop
+checks-after-requires c κs = search needs
 
 add-performed : tie.Need-add-performed Inv-loop μ-loop
-add-performed c =
-    let h = c .before .before .before .before .before .before .before .before .before .before .before .before .before .before .loop .inv .cellsIn in
-    let l = c .before .before .before .before .before .before .before .before .before .before .before .before .before .before .before .before .before .before .before .before .before .good .1 .1 .1 .0 in
-    record { fits = omega arith }
+add-performed c = let h = c .before .before .before .before .before .before .before .before .before .before .before .before .before .before .before .before .before .before .before .before .before .before .before .before .before .loop .inv .left .cellsIn in let l = c .before .before .before .before .before .before .before .before .before .before .before .before .before .before .before .before .before .before .before .before .before .before .before .before .before .before .before .before .before .before .before .before .before .before .before .before .before .before .before .before .before .good .1 .1 .1 .1 .1 .0 in record { fits = omega arith }
 
 loop-less : tie.Need-loop-less Inv-loop μ-loop
-loop-less c = search needs
+loop-less c = fewer-left (c .before .before .before .before .before .before .before .before .before .before .before .before .before .before .before .before .before .before .before .before .before .before .before .before .before .before .before .before .before .before .before .before .before .before .before .before .before .before .before .before .before .args .calls .now) _ (c .before .before .before .before .before .before .before .before .before .before .before .before .before .before .before .before .before .before .before .before .before .before .before .before .loop-test .taken)
 
 loop-again : tie.Need-loop-again Inv-loop μ-loop
-loop-again c =
-    let h = c .before .before .before .before .before .before .before .before .before .before .before .before .before .before .loop .inv in
-    let t = c .before .before .before .before .before .before .before .before .before .before .before .before .before .loop-test .taken in
-    let f = said-not-no _ _ (c .before .before .before .before .before .before .before .before .is-call .ensures) (c .before .before .before .before .before .before .before .if1 .left) in
-    left-again _ _ _ _ _ _ _ _ _ _ _ _ _ h t f _ _ _ (c .before .before .before .before .perform-call .ensures) (c .before .trace .given .0)
+loop-again c = in-again _ _ _ _ _ _ _ _ _ _ _ _ _ _ _ _ _ _ (c .before .before .before .before .before .before .before .before .before .before .before .before .before .before .before .before .before .before .before .before .before .before .before .before .before .loop .inv) (c .before .before .before .before .before .before .before .before .before .before .before .before .before .before .before .before .before .before .before .before .before .before .before .before .loop-test .taken) (said-not-no _ _ (c .before .before .before .before .before .before .before .before .before .before .before .before .before .before .before .before .before .before .before .is-call .ensures) (c .before .before .before .before .before .before .before .before .before .before .before .before .before .before .before .before .before .before .if2 .left)) _ _ _ _ _ _ (c .before .before .before .before .before .before .before .before .before .before .before .before .before .perform-call .ensures) (c .before .before .before .put-result .ensures) (c .before .before .before .before .before .before .trace .given .0) _ (c .checks-after .ensures) (c .before .before .before .before .before .before .before .before .before .before .before .before .numbers .given) (c .before .before .before .before .before .before .before .before .before .before .internal .given) (c .before .before .before .before .before .before .before .before .external .given)
 
 same-length : tie.Need-same-length Inv-loop μ-loop
-same-length c = search needs
+same-length c = same-sizes _ _ _ _ _ _ ((c .before .loop .inv) .lengths) (said-not-no _ _ (c .before .before .before .before .before .before .before .lengths-fit .ensures) (c .before .before .before .before .before .before .if1 .left)) .0
 
 same-length-2 : tie.Need-same-length-2 Inv-loop μ-loop
-same-length-2 c = search needs
-
-returns : tie.Need-returns Inv-loop μ-loop
-returns c = left-ends _ _ _ _ _ _ _ _ _ _ _ _ _ (c .before .loop .inv) (c .loop-test .left)
+same-length-2 c = same-sizes _ _ _ _ _ _ ((c .before .loop .inv) .lengths) (said-not-no _ _ (c .before .before .before .before .before .before .before .lengths-fit .ensures) (c .before .before .before .before .before .before .if1 .left)) .1
 
 same-length-3 : tie.Need-same-length-3 Inv-loop μ-loop
-same-length-3 c = search needs
+same-length-3 c = same-sizes _ _ _ _ _ _ ((c .before .loop .inv) .lengths) (said-not-no _ _ (c .before .before .before .before .before .before .before .lengths-fit .ensures) (c .before .before .before .before .before .before .if1 .left)) .2
 
 same-length-4 : tie.Need-same-length-4 Inv-loop μ-loop
 same-length-4 c = search needs
 
+same-length-5 : tie.Need-same-length-5 Inv-loop μ-loop
+same-length-5 c = search needs
+
 returns-2 : tie.Need-returns-2 Inv-loop μ-loop
-returns-2 c = left-stops _ _ _ _ _ _ _ _ _ _ _ _ _ (c .before .before .before .before .before .before .before .loop .inv) (c .before .before .before .before .before .before .loop-test .taken) (said-not-yes _ _ (c .before .is-call .ensures) (c .if1 .taken))
+returns-2 c = in-ends _ _ _ _ _ _ _ _ _ _ _ _ _ _ _ _ _ _ (c .before .loop .inv) (said-not-no _ _ (c .before .before .before .before .before .before .before .lengths-fit .ensures) (c .before .before .before .before .before .before .if1 .left)) (c .loop-test .left)
+
+same-length-6 : tie.Need-same-length-6 Inv-loop μ-loop
+same-length-6 c = same-sizes _ _ _ _ _ _ ((c .before .before .before .before .before .before .before .loop .inv) .lengths) (said-not-no _ _ (c .before .before .before .before .before .before .before .before .before .before .before .before .before .lengths-fit .ensures) (c .before .before .before .before .before .before .before .before .before .before .before .before .if1 .left)) .0
+
+same-length-7 : tie.Need-same-length-7 Inv-loop μ-loop
+same-length-7 c = same-sizes _ _ _ _ _ _ ((c .before .before .before .before .before .before .before .loop .inv) .lengths) (said-not-no _ _ (c .before .before .before .before .before .before .before .before .before .before .before .before .before .lengths-fit .ensures) (c .before .before .before .before .before .before .before .before .before .before .before .before .if1 .left)) .1
+
+same-length-8 : tie.Need-same-length-8 Inv-loop μ-loop
+same-length-8 c = same-sizes _ _ _ _ _ _ ((c .before .before .before .before .before .before .before .loop .inv) .lengths) (said-not-no _ _ (c .before .before .before .before .before .before .before .before .before .before .before .before .before .lengths-fit .ensures) (c .before .before .before .before .before .before .before .before .before .before .before .before .if1 .left)) .2
+
+same-length-9 : tie.Need-same-length-9 Inv-loop μ-loop
+same-length-9 c = search needs
+
+same-length-10 : tie.Need-same-length-10 Inv-loop μ-loop
+same-length-10 c = search needs
+
+returns-3 : tie.Need-returns-3 Inv-loop μ-loop
+returns-3 c = in-stops _ _ _ _ _ _ _ _ _ _ _ _ _ _ _ _ _ _ (c .before .before .before .before .before .before .before .loop .inv) (said-not-no _ _ (c .before .before .before .before .before .before .before .before .before .before .before .before .before .lengths-fit .ensures) (c .before .before .before .before .before .before .before .before .before .before .before .before .if1 .left)) (c .before .before .before .before .before .before .loop-test .taken) (said-not-yes _ _ (c .before .is-call .ensures) (c .if2 .taken))
 
 pub perform-spec : {M : Type 1} → statement M
 perform-spec =
@@ -155,6 +163,9 @@ perform-spec =
     (tie.spec
     Inv-loop
     μ-loop
+    lengths-fit-requires
+    returns
+    check-requires
     loop-holds
     mul-at
     mul-kind
@@ -177,17 +188,25 @@ perform-spec =
     sub-perform-call
     part-perform-call-start
     part-perform-call-end
-    mul-perform-call-2
-    sub-perform-call-2
-    part-perform-call-start-2
-    part-perform-call-end-2
     perform-call-requires
+    mul-put-result
+    sub-put-result
+    part-put-result-start
+    part-put-result-end
+    put-result-requires
+    checks-after-requires
     add-performed
     loop-less
     loop-again
     same-length
     same-length-2
-    returns
     same-length-3
     same-length-4
-    returns-2)
+    same-length-5
+    returns-2
+    same-length-6
+    same-length-7
+    same-length-8
+    same-length-9
+    same-length-10
+    returns-3)

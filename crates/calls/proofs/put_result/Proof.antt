@@ -1,5 +1,5 @@
 use borrow.Author.Needs.{needs}
-use Rattle.calls.specs.Reading.{three}
+use Rattle.lent.specs.Lent.{three}
 use Rattle.calls.proofs.put_result.Statement.{statement}
 use Rattle.calls.proofs.put_result.Tie as tie
 

@@ -1,5 +1,5 @@
 use mathlib.Core.Path.{refl}
-use Rattle.lent.specs.Lent.{lengthsFit}
+use Rattle.lent.specs.Places.{lengthsFit}
 use Rattle.lent.proofs.lengths_fit.Statement.{statement}
 use Rattle.lent.proofs.lengths_fit.Tie as tie
 
