@@ -142,7 +142,7 @@ fn compare_calls(seeds: Range<u64>, outcome: &mut Outcome) {
             demands.push((format!("{what} {number}"), counts[number] >= OFTEN));
         }
     };
-    demand("starts with answer", &[0, 7, 8, 10], &counts.starts);
+    demand("starts with answer", &[0, 8, 10], &counts.starts);
     demand("runs with status", &[100, 101, 102, 7, 8, 9, 10], &counts.runs);
     demand("steps with answer", &[0, 6, 7, 8, 9, 11], &counts.step_answers);
     demand("steps with status", &[100, 101, 102, 7, 8, 9, 10], &counts.step_statuses);
