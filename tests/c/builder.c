@@ -131,6 +131,61 @@ static void says_what_is_needed(void)
     CHECK(is_needed(counts(1, 0, 0, 0, 0, 0)));
 }
 
+/* Calls at will, the same for the same state of the generator: few ids, so that many are there, and few that make another fault. */
+static void random_calls(void)
+{
+    static const char *const ids[] = {"a", "b", "c", "d", "e", "f", "g", "h"};
+    static const char *const events[] = {"x", "x y", " y.* z x", "p q r s", "", "a b"};
+    static const char *const targets[] = {"a", "a b", " b a ", "", "a a a a"};
+    size_t rows = 2 + next_random() % 6;
+    size_t calls = next_random() % 30;
+    size_t i;
+    for (i = 0; i < rows; i++)
+        auttervil_add_row(&b, next_random() % 6, next_random() % 4 == 0 && i > 0 ? "a" : NULL, ids[i]);
+    for (i = 0; i < calls; i++) {
+        uint64_t random = next_random();
+        const char *id = ids[next_random() % (random % 64 == 0 ? COUNT(ids) : 2)];
+        switch (random % 6) {
+        case 0: auttervil_add_entry(&b, id); break;
+        case 1: auttervil_add_list(&b, id, targets[next_random() % COUNT(targets)]); break;
+        case 2: auttervil_add_host(&b, next_random() % 64 == 0 ? 65536 : 1); break;
+        case 3: auttervil_add_raise(&b, events[0]); break;
+        default: auttervil_add_transition(&b, id, events[next_random() % COUNT(events)], targets[next_random() % COUNT(targets)]);
+        }
+    }
+}
+
+/* With tables at will, then with what the builder said is needed: nothing is too small any more, and what fitted at once needs no more than it had. */
+static void one_try_is_enough(size_t tries)
+{
+    size_t too_small = 0;
+    size_t fitted = 0;
+    int enough = 1;
+    for (; tries > 0; tries--) {
+        auttervil_counts most = counts(1 + next_random() % 9, next_random() % 20, next_random() % 40, next_random() % 40, next_random() % 20, next_random() % 20);
+        uint64_t state = random_state;
+        auttervil_counts needed;
+        uint32_t fault;
+        begin_with(most);
+        random_calls();
+        needed = b.needed;
+        fault = auttervil_finish(&b, &tables);
+        if (fault == AUTTERVIL_FAULT_NONE) {
+            fitted++;
+            enough = enough && memcmp(&b.have, &needed, sizeof needed) == 0;
+        }
+        if (fault == AUTTERVIL_FAULT_NONE || fault > AUTTERVIL_FAULT_NAMES)
+            continue;
+        too_small++;
+        random_state = state;
+        begin_with(needed);
+        random_calls();
+        fault = auttervil_finish(&b, &tables);
+        enough = enough && (fault == AUTTERVIL_FAULT_NONE || fault > AUTTERVIL_FAULT_NAMES);
+    }
+    CHECK(enough && too_small > 100 && fitted > 10);
+}
+
 /* The limits of a transition, a block and an action: which, and of what. */
 static void more_than_each_may_have(void)
 {
@@ -446,6 +501,7 @@ int main(void)
     fits_exactly();
     does_not_fit();
     says_what_is_needed();
+    one_try_is_enough(3000);
     more_than_each_may_have();
     mistakes();
     white_space();
