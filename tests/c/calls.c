@@ -1,4 +1,6 @@
 /* Every wrapper on charts that are well formed: what it answers, writes and leaves. */
+#include <stdlib.h>
+
 #include "test.h"
 
 static lent a, other, door;
@@ -173,6 +175,20 @@ static void small_rooms(void)
     CHECK(ran.status == AUTTERVIL_IDLE && ran.rounds == 2 && ran.count == 3 && a.trace[3] == 0x5a5a5a5a);
 }
 
+/* A start reads nothing of the session: valgrind would tell of memory that was never written. */
+static void unwritten(void)
+{
+    auttervil_session *session = (auttervil_session *)malloc(sizeof *session);
+    auttervil_started started;
+    CHECK(session != NULL);
+    if (session == NULL)
+        return;
+    started = auttervil_start(session, &a.chart, a.trace, COUNT(a.trace));
+    start(&a);
+    CHECK(started.answer == AUTTERVIL_DONE && memcmp(session, &a.session, sizeof *session) == 0);
+    free(session);
+}
+
 /* With the room that auttervil_room() says, no start and no first round of a run gets 10. */
 static void enough_room(void)
 {
@@ -338,6 +354,7 @@ int main(void)
     door_runs();
     names_and_queues();
     small_rooms();
+    unwritten();
     enough_room();
     endless_loop();
     versions();
