@@ -1,5 +1,5 @@
-//! With the feature `linked`, the folder of libauttervil.a is taken from AUTTERVIL_LIBRARY, and the
-//! header's wrappers are compiled by the C compiler, CC or cc.
+//! With the feature `linked`, package `linked` links libauttervil.a of the folder that
+//! AUTTERVIL_LIBRARY names, and the header's wrappers are compiled by the C compiler, CC or cc.
 
 use std::env;
 use std::path::{Path, PathBuf};
@@ -21,7 +21,7 @@ fn main() {
     wrappers();
 }
 
-/// src/wrappers.c as an archive, which has to stand before the library that it calls.
+/// src/wrappers.c as an archive; the library that it calls comes with package `linked`.
 fn wrappers() {
     let out = PathBuf::from(env::var_os("OUT_DIR").expect("cargo says where"));
     let (object, archive) = (out.join("wrappers.o"), out.join("libwrappers.a"));
@@ -34,7 +34,6 @@ fn wrappers() {
     println!("cargo:rerun-if-changed=../include/auttervil.h");
     println!("cargo:rustc-link-search=native={}", out.display());
     println!("cargo:rustc-link-lib=static=wrappers");
-    println!("cargo:rustc-link-lib=static=auttervil");
 }
 
 fn run(command: &mut Command) {

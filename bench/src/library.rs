@@ -1,97 +1,52 @@
-//! The proved library, as a C program calls it.
+//! The proved library, as a C program calls it. Its functions are declared in package `linked`.
 
 #![allow(unsafe_code)]
 
 use crate::contenders::{Calls, Lent};
 use crate::engine::{Posted, Ran, Session, Started};
+use linked::library::{self, Compiled};
+use std::mem::{align_of, offset_of, size_of};
 
-// A lent slice is a pointer and the count of its elements. The session and the results have the
-// same layout as the engine's.
-unsafe extern "C" {
-    fn auttervil_raw_start(
-        session: Session,
-        chart: *const u64,
-        chart_count: usize,
-        names: *const u8,
-        names_count: usize,
-        trace: *mut u32,
-        trace_count: usize,
-    ) -> Started;
+// The engine's session lies as the library's does.
+const _: () = assert!(size_of::<Session>() == size_of::<library::Session>());
+const _: () = assert!(align_of::<Session>() == align_of::<library::Session>());
+const _: () = assert!(offset_of!(Session, configuration) == 0);
+const _: () = assert!(offset_of!(Session, history) == 8 * library::HISTORY.start);
+const _: () = assert!(offset_of!(Session, internal_count) == 8 * library::INTERNAL_COUNT);
+const _: () = assert!(offset_of!(Session, external_count) == 8 * library::EXTERNAL_COUNT);
+const _: () = assert!(offset_of!(Session, mode) == 8 * library::MODE);
+const _: () = assert!(offset_of!(Session, internal) == offset_of!(library::Session, internal));
+const _: () = assert!(offset_of!(Session, external) == offset_of!(library::Session, external));
 
-    fn auttervil_raw_post(
-        session: Session,
-        chart: *const u64,
-        chart_count: usize,
-        names: *const u8,
-        names_count: usize,
-        name: *const u8,
-        name_count: usize,
-    ) -> Posted;
+/// The same bytes as the library's own struct.
+fn lent_session(session: &mut Session) -> &mut library::Session {
+    // Safety: both are made of plain numbers without padding, at the same places.
+    unsafe { &mut *std::ptr::from_mut(session).cast() }
+}
 
-    fn auttervil_raw_run(
-        session: Session,
-        chart: *const u64,
-        chart_count: usize,
-        names: *const u8,
-        names_count: usize,
-        rounds: u32,
-        trace: *mut u32,
-        trace_count: usize,
-    ) -> Ran;
+fn compiled(lent: Lent<'_>) -> Compiled<'_> {
+    Compiled { numbers: lent.numbers, names: lent.names }
 }
 
 pub struct Library;
 
-// Safety, of all three: the library asks that lent places are there, aligned and as long as is
-// said, and that none that it writes overlaps another. Slices keep all of that.
 impl Calls for Library {
     fn name(&self) -> &'static str {
         "library"
     }
 
-    fn start(&self, session: Session, lent: Lent, trace: &mut [u32]) -> Started {
-        let Lent { numbers, names } = lent;
-        unsafe {
-            auttervil_raw_start(
-                session,
-                numbers.as_ptr(),
-                numbers.len(),
-                names.as_ptr(),
-                names.len(),
-                trace.as_mut_ptr(),
-                trace.len(),
-            )
-        }
+    fn start(&self, mut session: Session, lent: Lent, trace: &mut [u32]) -> Started {
+        let given = lent_session(&mut session).lend().start(compiled(lent), trace);
+        Started { session, answer: given.answer, count: given.count }
     }
 
-    fn post(&self, session: Session, lent: Lent, name: &[u8]) -> Posted {
-        let Lent { numbers, names } = lent;
-        unsafe {
-            auttervil_raw_post(
-                session,
-                numbers.as_ptr(),
-                numbers.len(),
-                names.as_ptr(),
-                names.len(),
-                name.as_ptr(),
-                name.len(),
-            )
-        }
+    fn post(&self, mut session: Session, lent: Lent, name: &[u8]) -> Posted {
+        let answer = lent_session(&mut session).lend().post(compiled(lent), name);
+        Posted { session, answer }
     }
 
-    fn run(&self, session: Session, lent: Lent, rounds: u32, trace: &mut [u32]) -> Ran {
-        let Lent { numbers, names } = lent;
-        unsafe {
-            auttervil_raw_run(
-                session,
-                numbers.as_ptr(),
-                numbers.len(),
-                names.as_ptr(),
-                names.len(),
-                rounds,
-                trace.as_mut_ptr(),
-                trace.len(),
-            )
-        }
+    fn run(&self, mut session: Session, lent: Lent, rounds: u32, trace: &mut [u32]) -> Ran {
+        let given = lent_session(&mut session).lend().run(compiled(lent), rounds, trace);
+        Ran { session, status: given.status, rounds: given.rounds, count: given.count }
     }
 }

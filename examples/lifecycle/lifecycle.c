@@ -1,5 +1,5 @@
-/* Plays an init that drives a container's life cycle: reads event names from standard input, one to a line, posts each, runs the session until it is
- * idle, and prints the trace in words. A real one would perform each host action where this one prints it.
+/* Plays an init that drives a container's life cycle: reads event names from standard input, one to a line, hands each to the session by one call, and prints
+ * the trace in words. A real one would perform each host action where this one prints it.
  *
  * The line 'new' starts another container, an empty one or one that begins with # does nothing.
  *
@@ -11,9 +11,11 @@
 
 #include "chart.h"
 
-enum { ROOM = 64 };
+/* Entries of the trace, which have to be enough for any round of the chart; rounds of a call; and calls for one event: no chart keeps the init for ever. */
+enum { ROOM = 256, ROUNDS = 100, CALLS = 100 };
 
 static auttervil_session session;
+static uint32_t trace[ROOM];
 static unsigned host_actions; /* asked for so far */
 
 static const char *host_words(uint32_t action)
@@ -57,7 +59,7 @@ static void print_entry(const auttervil_chart *chart, uint32_t entry)
     }
 }
 
-static void print_entries(const auttervil_chart *chart, const uint32_t *trace, size_t count)
+static void print_entries(const auttervil_chart *chart, size_t count)
 {
     size_t i;
     for (i = 0; i < count; i++)
@@ -94,21 +96,39 @@ static void show_incident(void)
     printf("    host actions asked for so far: %u\n\n", host_actions);
 }
 
-/* Runs until nothing is left to do. A trace that is too small for a single round would refuse it for ever, so that ends the program. */
-static int run_to_idle(const auttervil_chart *chart, int quiet)
+static void print_rounds(const auttervil_chart *chart, auttervil_ran ran)
 {
-    static uint32_t trace[ROOM];
-    auttervil_ran ran;
-    do {
-        ran = auttervil_run(&session, chart, 100, trace, ROOM);
-        if (!quiet) {
-            print_entries(chart, trace, ran.count);
-            printf("    rounds: %u, then %s\n", (unsigned)ran.rounds, auttervil_strstatus(ran.status));
-        }
-    } while (ran.status == AUTTERVIL_MORE || (ran.status == AUTTERVIL_NO_ROOM && ran.rounds > 0));
+    print_entries(chart, ran.count);
+    printf("    rounds: %u, then %s\n", (unsigned)ran.rounds, auttervil_strstatus(ran.status));
+}
+
+/* Goes on where a run stopped, until nothing is left to do. The trace has room for any round, so that each call does one at least. */
+static int run_on(const auttervil_chart *chart, auttervil_ran ran, int quiet)
+{
+    int calls;
+    if (!quiet)
+        print_rounds(chart, ran);
+    for (calls = 1; calls < CALLS && (ran.status == AUTTERVIL_MORE || ran.status == AUTTERVIL_NO_ROOM); calls++) {
+        ran = auttervil_run(&session, chart, ROUNDS, trace, ROOM);
+        if (!quiet)
+            print_rounds(chart, ran);
+    }
     if (!quiet)
         print_active(chart);
     return ran.status == AUTTERVIL_IDLE || ran.status == AUTTERVIL_ENDED;
+}
+
+/* One event: posted, and the rounds that it leads to. What is no event's name is refused, and the container goes on. */
+static int handle(const auttervil_chart *chart, const char *event, int quiet)
+{
+    auttervil_stepped stepped = auttervil_step_text(&session, chart, event, ROUNDS, trace, ROOM);
+    auttervil_ran ran;
+    ran.status = stepped.status;
+    ran.rounds = stepped.rounds;
+    ran.count = stepped.count;
+    if (!quiet)
+        printf("%s: %s\n", event, auttervil_strstatus(stepped.answer));
+    return stepped.answer != AUTTERVIL_DONE || run_on(chart, ran, quiet);
 }
 
 static void print_tables(const auttervil_tables *tables, const auttervil_chart *chart)
@@ -131,13 +151,12 @@ static void print_tables(const auttervil_tables *tables, const auttervil_chart *
 /* A container of its own: the session begins anew. */
 static int start_container(const auttervil_chart *chart, int quiet)
 {
-    static uint32_t trace[ROOM];
     auttervil_started started = auttervil_start(&session, chart, trace, ROOM);
     if (!quiet) {
         printf("a new container: %s\n", auttervil_strstatus(started.answer));
-        print_entries(chart, trace, started.count);
+        print_entries(chart, started.count);
     }
-    return started.answer == AUTTERVIL_DONE && run_to_idle(chart, quiet);
+    return started.answer == AUTTERVIL_DONE && run_on(chart, auttervil_run(&session, chart, ROUNDS, trace, ROOM), quiet);
 }
 
 /* The next line without its end; what does not fit is left out. A zero byte stands as '?', which is in no name, so that it cannot cut a line to one. */
@@ -162,7 +181,6 @@ static int play(const auttervil_chart *chart, int quiet)
     if (!start_container(chart, quiet))
         return 0;
     while (read_line(line, sizeof line)) {
-        uint32_t answer;
         if (line[0] == '#' && !quiet)
             printf("\n%s\n", line);
         if (line[0] == 0 || line[0] == '#')
@@ -172,10 +190,7 @@ static int play(const auttervil_chart *chart, int quiet)
                 return 0;
             continue;
         }
-        answer = auttervil_post_text(&session, chart, line);
-        if (!quiet)
-            printf("%s: %s\n", line, auttervil_strstatus(answer));
-        if (answer == AUTTERVIL_DONE && !run_to_idle(chart, quiet))
+        if (!handle(chart, line, quiet))
             return 0;
     }
     return 1;
@@ -192,6 +207,10 @@ int main(int count, char **arguments)
     compiled = compile_chart(&b, "mounted", &tables);
     if (compiled.answer != AUTTERVIL_DONE) {
         fprintf(stderr, "chart: %s; builder: %s: %s\n", auttervil_strstatus(compiled.answer), auttervil_strfault(b.fault), text(b.culprit));
+        return 1;
+    }
+    if (auttervil_room(&compiled.chart) > ROOM) {
+        fprintf(stderr, "chart: a round may write %lu entries, more than the trace has\n", (unsigned long)auttervil_room(&compiled.chart));
         return 1;
     }
     if (!play(&compiled.chart, quiet))

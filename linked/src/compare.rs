@@ -1,7 +1,7 @@
 //! One seed: a generated chart, a near miss of it, compiled charts and tables with one cell
 //! changed. The library and the second program must answer alike and leave the same behind.
 
-use crate::library;
+use crate::library::{self, Compiled};
 use second::compiled::{compile, needed_place, CompiledChart, Places};
 use second::damage::{self, damaged, Part};
 use second::encode::{Layout, Spelt};
@@ -145,7 +145,7 @@ pub fn difference<T: PartialEq + std::fmt::Debug>(what: &str, given: &[T], own: 
 fn checks_alike(places: &Places) -> Result<bool, String> {
     let before = places.clone();
     let own = CompiledChart::open(&places.numbers, &places.names).is_some();
-    let answer = library::check(&places.numbers, &places.names);
+    let answer = Compiled::from(places).check();
     let own_answer = if own { 0 } else { 8 };
     ensure(answer == own_answer, || format!("check answers {answer}, not {own_answer}"))?;
     ensure(*places == before, || "the places are not as they were".to_string())?;

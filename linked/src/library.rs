@@ -1,107 +1,65 @@
-//! The functions of the static library, one safe function for each: slices that are lent here are
-//! there, aligned and apart, which is all that the library asks.
+//! One safe function for each function of the static library: slices that are lent here are there,
+//! aligned and apart, which is all that the library asks.
 
+use crate::exports::*;
 use second::limits::{HISTORY_PLACES, QUEUE_NAMES, ROW_SET_WORDS, SLOT_BYTES};
-use std::os::raw::c_uint;
+use std::ops::Range;
 
+/// Where the parts of a session's numbers stand.
+pub const CONFIGURATION: Range<usize> = 0..ROW_SET_WORDS;
+pub const HISTORY: Range<usize> = CONFIGURATION.end..CONFIGURATION.end + ROW_SET_WORDS * HISTORY_PLACES;
+pub const INTERNAL_COUNT: usize = HISTORY.end;
+pub const EXTERNAL_COUNT: usize = INTERNAL_COUNT + 1;
+pub const MODE: usize = EXTERNAL_COUNT + 1;
+pub const NUMBERS: usize = MODE + 1;
 pub const QUEUE_BYTES: usize = SLOT_BYTES * QUEUE_NAMES;
-
-extern "C" {
-    fn auttervil_raw_numbers_size(numbers: *const u64, numbers_count: usize) -> usize;
-    fn auttervil_raw_names_size(numbers: *const u64, numbers_count: usize) -> usize;
-    fn auttervil_raw_compile(
-        numbers: *const u64,
-        numbers_count: usize,
-        names: *const u8,
-        names_count: usize,
-        place: *mut u64,
-        place_count: usize,
-        name_place: *mut u8,
-        name_place_count: usize,
-    ) -> c_uint;
-    fn auttervil_raw_check(
-        place: *const u64,
-        place_count: usize,
-        name_place: *const u8,
-        name_place_count: usize,
-    ) -> c_uint;
-    fn auttervil_raw_start(
-        session: Session,
-        chart: *const u64,
-        chart_count: usize,
-        names: *const u8,
-        names_count: usize,
-        trace: *mut u32,
-        trace_count: usize,
-    ) -> Started;
-    fn auttervil_raw_post(
-        session: Session,
-        chart: *const u64,
-        chart_count: usize,
-        names: *const u8,
-        names_count: usize,
-        name: *const u8,
-        name_count: usize,
-    ) -> Posted;
-    fn auttervil_raw_run(
-        session: Session,
-        chart: *const u64,
-        chart_count: usize,
-        names: *const u8,
-        names_count: usize,
-        rounds: c_uint,
-        trace: *mut u32,
-        trace_count: usize,
-    ) -> Ran;
-}
 
 /// A session as C holds it: 12,344 bytes with nothing between the fields.
 #[repr(C)]
 #[derive(Clone, PartialEq, Eq, Debug)]
 pub struct Session {
-    pub configuration: [u64; ROW_SET_WORDS],
-    pub history: [u64; ROW_SET_WORDS * HISTORY_PLACES],
+    pub numbers: [u64; NUMBERS],
     pub internal: [u8; QUEUE_BYTES],
     pub external: [u8; QUEUE_BYTES],
-    pub internal_count: u64,
-    pub external_count: u64,
-    pub mode: u64,
 }
 
 const _: () = assert!(size_of::<Session>() == 12_344);
 
-#[repr(C)]
-pub struct Started {
-    pub session: Session,
-    pub answer: c_uint,
-    pub count: usize,
+/// The three places that a session is lent in, of whatever lengths.
+pub struct Parts<'a> {
+    pub numbers: &'a mut [u64],
+    pub internal: &'a mut [u8],
+    pub external: &'a mut [u8],
 }
 
-#[repr(C)]
-pub struct Posted {
-    pub session: Session,
-    pub answer: c_uint,
+impl Session {
+    pub fn lend(&mut self) -> Parts<'_> {
+        Parts { numbers: &mut self.numbers, internal: &mut self.internal, external: &mut self.external }
+    }
 }
 
-#[repr(C)]
-pub struct Ran {
-    pub session: Session,
-    pub status: c_uint,
-    pub rounds: c_uint,
-    pub count: usize,
+/// A compiled chart, or what is lent as one.
+#[derive(Clone, Copy)]
+pub struct Compiled<'a> {
+    pub numbers: &'a [u64],
+    pub names: &'a [u8],
+}
+
+pub fn version() -> u32 {
+    unsafe { auttervil_raw2_version() }
 }
 
 pub fn numbers_size(numbers: &[u64]) -> usize {
-    unsafe { auttervil_raw_numbers_size(numbers.as_ptr(), numbers.len()) }
+    unsafe { auttervil_raw2_numbers_size(numbers.as_ptr(), numbers.len()) }
 }
 
 pub fn names_size(numbers: &[u64]) -> usize {
-    unsafe { auttervil_raw_names_size(numbers.as_ptr(), numbers.len()) }
+    unsafe { auttervil_raw2_names_size(numbers.as_ptr(), numbers.len()) }
 }
 
 pub fn compile(numbers: &[u64], names: &[u8], place: &mut [u64], name_place: &mut [u8]) -> u64 {
     let answer = unsafe {
-        auttervil_raw_compile(
+        auttervil_raw2_compile(
             numbers.as_ptr(),
             numbers.len(),
             names.as_ptr(),
@@ -115,51 +73,137 @@ pub fn compile(numbers: &[u64], names: &[u8], place: &mut [u64], name_place: &mu
     u64::from(answer)
 }
 
-pub fn check(place: &[u64], name_place: &[u8]) -> u64 {
-    let answer =
-        unsafe { auttervil_raw_check(place.as_ptr(), place.len(), name_place.as_ptr(), name_place.len()) };
-    u64::from(answer)
-}
+impl Compiled<'_> {
+    pub fn check(self) -> u64 {
+        let Compiled { numbers, names } = self;
+        let answer =
+            unsafe { auttervil_raw2_check(numbers.as_ptr(), numbers.len(), names.as_ptr(), names.len()) };
+        u64::from(answer)
+    }
 
-pub fn start(session: Session, chart: &[u64], names: &[u8], trace: &mut [u32]) -> Started {
-    unsafe {
-        auttervil_raw_start(
-            session,
-            chart.as_ptr(),
-            chart.len(),
-            names.as_ptr(),
-            names.len(),
-            trace.as_mut_ptr(),
-            trace.len(),
-        )
+    pub fn room(self) -> usize {
+        let Compiled { numbers, names } = self;
+        unsafe { auttervil_raw2_room(numbers.as_ptr(), numbers.len(), names.as_ptr(), names.len()) }
+    }
+
+    pub fn fingerprint(self) -> u64 {
+        let Compiled { numbers, names } = self;
+        unsafe { auttervil_raw2_fingerprint(numbers.as_ptr(), numbers.len(), names.as_ptr(), names.len()) }
     }
 }
 
-pub fn post(session: Session, chart: &[u64], names: &[u8], name: &[u8]) -> Posted {
-    unsafe {
-        auttervil_raw_post(
-            session,
-            chart.as_ptr(),
-            chart.len(),
-            names.as_ptr(),
-            names.len(),
-            name.as_ptr(),
-            name.len(),
-        )
+/// The session is changed where it lies.
+impl Parts<'_> {
+    pub fn start(self, chart: Compiled, trace: &mut [u32]) -> Started {
+        unsafe {
+            auttervil_raw2_start(
+                self.numbers.as_mut_ptr(),
+                self.numbers.len(),
+                self.internal.as_mut_ptr(),
+                self.internal.len(),
+                self.external.as_mut_ptr(),
+                self.external.len(),
+                chart.numbers.as_ptr(),
+                chart.numbers.len(),
+                chart.names.as_ptr(),
+                chart.names.len(),
+                trace.as_mut_ptr(),
+                trace.len(),
+            )
+        }
     }
-}
 
-pub fn run(session: Session, chart: &[u64], names: &[u8], rounds: u32, trace: &mut [u32]) -> Ran {
-    unsafe {
-        auttervil_raw_run(
-            session,
-            chart.as_ptr(),
-            chart.len(),
-            names.as_ptr(),
-            names.len(),
-            rounds,
-            trace.as_mut_ptr(),
-            trace.len(),
-        )
+    pub fn post(self, chart: Compiled, name: &[u8]) -> u32 {
+        unsafe {
+            auttervil_raw2_post(
+                self.numbers.as_mut_ptr(),
+                self.numbers.len(),
+                self.internal.as_ptr(),
+                self.internal.len(),
+                self.external.as_mut_ptr(),
+                self.external.len(),
+                chart.numbers.as_ptr(),
+                chart.numbers.len(),
+                chart.names.as_ptr(),
+                chart.names.len(),
+                name.as_ptr(),
+                name.len(),
+            )
+        }
+    }
+
+    pub fn run(self, chart: Compiled, rounds: u32, trace: &mut [u32]) -> Ran {
+        unsafe {
+            auttervil_raw2_run(
+                self.numbers.as_mut_ptr(),
+                self.numbers.len(),
+                self.internal.as_mut_ptr(),
+                self.internal.len(),
+                self.external.as_mut_ptr(),
+                self.external.len(),
+                chart.numbers.as_ptr(),
+                chart.numbers.len(),
+                chart.names.as_ptr(),
+                chart.names.len(),
+                rounds,
+                trace.as_mut_ptr(),
+                trace.len(),
+            )
+        }
+    }
+
+    pub fn step(self, chart: Compiled, name: &[u8], rounds: u32, trace: &mut [u32]) -> Stepped {
+        unsafe {
+            auttervil_raw2_step(
+                self.numbers.as_mut_ptr(),
+                self.numbers.len(),
+                self.internal.as_mut_ptr(),
+                self.internal.len(),
+                self.external.as_mut_ptr(),
+                self.external.len(),
+                chart.numbers.as_ptr(),
+                chart.numbers.len(),
+                chart.names.as_ptr(),
+                chart.names.len(),
+                name.as_ptr(),
+                name.len(),
+                rounds,
+                trace.as_mut_ptr(),
+                trace.len(),
+            )
+        }
+    }
+
+    /// How many of the calls were performed.
+    pub fn perform(
+        self,
+        chart: Compiled,
+        calls: &[u64],
+        text: &[u8],
+        results: &mut [u64],
+        trace: &mut [u32],
+    ) -> usize {
+        unsafe {
+            auttervil_raw2_perform(
+                self.numbers.as_mut_ptr(),
+                self.numbers.len(),
+                self.internal.as_mut_ptr(),
+                self.internal.len(),
+                self.external.as_mut_ptr(),
+                self.external.len(),
+                chart.numbers.as_ptr(),
+                chart.numbers.len(),
+                chart.names.as_ptr(),
+                chart.names.len(),
+                calls.as_ptr(),
+                calls.len(),
+                text.as_ptr(),
+                text.len(),
+                results.as_mut_ptr(),
+                results.len(),
+                trace.as_mut_ptr(),
+                trace.len(),
+            )
+        }
     }
 }

@@ -1,7 +1,9 @@
 //! linked [first seed] [seeds]: compares the static library with the second program and ends with
 //! how many seeds, and kinds of what they made, passed and failed.
 
+use linked::calls;
 use linked::compare::{self, Counts, Kinds};
+use linked::library;
 use linked::posts;
 use linked::seeds::try_all;
 use linked::story;
@@ -44,8 +46,10 @@ fn main() -> ExitCode {
     let seeds = first..first + count;
     let mut outcome = Outcome::default();
     compare_charts(seeds.clone(), &mut outcome);
-    compare_posts(seeds, &mut outcome);
+    compare_posts(seeds.clone(), &mut outcome);
+    compare_calls(seeds, &mut outcome);
     outcome.add(1, story::play().err().into_iter().collect(), Vec::new());
+    outcome.add(1, is_of_this_number().err().into_iter().collect(), Vec::new());
     let Outcome { passed, mut failures } = outcome;
     failures.sort();
     for failure in &failures {
@@ -123,4 +127,32 @@ fn compare_posts(seeds: Range<u64>, outcome: &mut Outcome) {
     println!("{damaged:>10}  sessions with a change, {refused} of them refused");
     println!("{:>10}  sessions at will, {} of them refused", counts.at_will[0], counts.at_will[1]);
     outcome.add(count, failures, demands);
+}
+
+/// Starts, runs, steps and lists of calls: every answer and status that each can have.
+fn compare_calls(seeds: Range<u64>, outcome: &mut Outcome) {
+    let kinds = calls::Kinds::all();
+    let try_seed = |seed: u64, counts: &mut calls::Counts| calls::try_seed(seed, &kinds, counts);
+    let count = seeds.end - seeds.start;
+    let (counts, failures) = try_all(seeds, calls::Counts::none(), try_seed);
+    let mut demands = Vec::new();
+    let mut demand = |what: &str, numbers: &[usize], counts: &[u64; 103]| {
+        for &number in numbers {
+            println!("{:>10}  {what} {number}", counts[number]);
+            demands.push((format!("{what} {number}"), counts[number] >= OFTEN));
+        }
+    };
+    demand("starts with answer", &[0, 8, 10], &counts.starts);
+    demand("runs with status", &[100, 101, 102, 7, 8, 9, 10], &counts.runs);
+    demand("steps with answer", &[0, 6, 7, 8, 9, 11], &counts.step_answers);
+    demand("steps with status", &[100, 101, 102, 7, 8, 9, 10], &counts.step_statuses);
+    let [whole, part] = counts.lists;
+    println!("{whole:>10}  lists of calls to their end\n{part:>10}  lists that end before it");
+    demands.push(("whole lists of calls, and lists that end early".to_string(), whole.min(part) >= OFTEN));
+    outcome.add(count, failures, demands);
+}
+
+/// The archive is the one that these declarations are for.
+fn is_of_this_number() -> Result<(), String> {
+    compare::ensure(library::version() == 2, || format!("the library's number is {}", library::version()))
 }

@@ -1,5 +1,5 @@
 //! One seed: a chart, and sessions of every kind that are posted to. The library and the second
-//! program must answer alike and hand back the same session.
+//! program must answer alike and leave the same session.
 
 use crate::compare::{add, ensure};
 use crate::library;
@@ -77,11 +77,11 @@ impl Stage<'_> {
     fn post(&self, session: &Session, name: &[u8], counts: &mut Counts) -> Result<u64, String> {
         let own = session.clone().post(self.opened, name);
         let before = self.places.clone();
-        let Places { numbers, names } = self.places;
-        let given = library::post(session.into(), numbers, names, name);
-        let (answer, own_answer) = (u64::from(given.answer), own.number);
+        let mut given = library::Session::from(session);
+        let answer = u64::from(given.lend().post(self.places.into(), name));
+        let own_answer = own.number;
         ensure(answer == own_answer, || format!("a post answers {answer}, not {own_answer}"))?;
-        alike(&given.session, &own.session)?;
+        alike(&given, &own.session)?;
         ensure(*self.places == before, || "the chart is not as it was".to_string())?;
         counts.answers[own_answer as usize] += 1;
         Ok(own_answer)
@@ -89,7 +89,7 @@ impl Stage<'_> {
 }
 
 /// A name that is mostly an event's.
-fn some_name(chart: &Chart, random: &mut Random) -> Vec<u8> {
+pub fn some_name(chart: &Chart, random: &mut Random) -> Vec<u8> {
     let events = generate::known_events(chart);
     let event = events[random.below(events.len())].clone();
     match random.below(10) {
@@ -109,7 +109,7 @@ fn some_name(chart: &Chart, random: &mut Random) -> Vec<u8> {
 }
 
 /// The session that a list of calls leaves, at times an ended one.
-fn reached(chart: &Chart, compiled: &CompiledChart, random: &mut Random) -> Session {
+pub fn reached(chart: &Chart, compiled: &CompiledChart, random: &mut Random) -> Session {
     let mut calls = CallMaker::new(random, chart).calls(2);
     calls.truncate(random.between(1, 8));
     let mut session = Session::ended();

@@ -1,47 +1,55 @@
 //! Sessions of the second program as the library takes them.
 
 use crate::compare::ensure;
-use crate::library;
-use second::limits::{HISTORY_PLACES, QUEUE_NAMES, ROW_SET_WORDS};
+use crate::library::{self, Compiled, CONFIGURATION, EXTERNAL_COUNT, HISTORY, INTERNAL_COUNT};
+use crate::library::{MODE, NUMBERS, QUEUE_BYTES};
+use second::compiled::Places;
+use second::limits::{QUEUE_NAMES, ROW_SET_WORDS};
 use second::names::Slot;
 use second::session::Session;
 
 impl From<&Session> for library::Session {
     fn from(session: &Session) -> library::Session {
-        let mut history = [0; ROW_SET_WORDS * HISTORY_PLACES];
-        for (words, set) in history.chunks_mut(ROW_SET_WORDS).zip(&session.stored) {
+        let mut numbers = [0; NUMBERS];
+        numbers[CONFIGURATION].copy_from_slice(&session.configuration.0);
+        for (words, set) in numbers[HISTORY].chunks_mut(ROW_SET_WORDS).zip(&session.stored) {
             words.copy_from_slice(&set.0);
         }
+        numbers[INTERNAL_COUNT] = session.internal.count;
+        numbers[EXTERNAL_COUNT] = session.external.count;
+        numbers[MODE] = session.mode;
         library::Session {
-            configuration: session.configuration.0,
-            history,
+            numbers,
             internal: bytes(&session.internal.slots),
             external: bytes(&session.external.slots),
-            internal_count: session.internal.count,
-            external_count: session.external.count,
-            mode: session.mode,
         }
     }
 }
 
-fn bytes(slots: &[Slot; QUEUE_NAMES]) -> [u8; library::QUEUE_BYTES] {
-    slots.as_flattened().try_into().expect("so many slots")
+impl<'a> From<&'a Places> for Compiled<'a> {
+    fn from(places: &'a Places) -> Compiled<'a> {
+        Compiled { numbers: &places.numbers, names: &places.names }
+    }
 }
 
-/// Every byte of what the library handed back is as the second program has it.
+fn bytes(slots: &[Slot; QUEUE_NAMES]) -> [u8; QUEUE_BYTES] {
+    slots.as_flattened().try_into().expect("as many bytes as the slots have")
+}
+
+/// Every byte of what the library left is as the second program has it.
 pub fn alike(given: &library::Session, own: &Session) -> Result<(), String> {
     let own = library::Session::from(own);
     let same = [
-        ("configuration", given.configuration == own.configuration),
-        ("history", given.history == own.history),
+        ("configuration", given.numbers[CONFIGURATION] == own.numbers[CONFIGURATION]),
+        ("history", given.numbers[HISTORY] == own.numbers[HISTORY]),
         ("internal queue", given.internal == own.internal),
         ("external queue", given.external == own.external),
-        ("internal count", given.internal_count == own.internal_count),
-        ("external count", given.external_count == own.external_count),
-        ("mode", given.mode == own.mode),
+        ("internal count", given.numbers[INTERNAL_COUNT] == own.numbers[INTERNAL_COUNT]),
+        ("external count", given.numbers[EXTERNAL_COUNT] == own.numbers[EXTERNAL_COUNT]),
+        ("mode", given.numbers[MODE] == own.numbers[MODE]),
     ];
     for (part, same) in same {
-        ensure(same, || format!("the {part} handed back is another"))?;
+        ensure(same, || format!("the {part} left is another"))?;
     }
     Ok(())
 }

@@ -1,7 +1,7 @@
 //! The story of the README through the library: a region whose id has 52 bytes finishes.
 
 use crate::compare::ensure;
-use crate::library;
+use crate::library::{self, Compiled, CONFIGURATION, INTERNAL_COUNT};
 use crate::sessions::alike;
 use second::calls::Call;
 use second::compiled::{compile, CompiledChart, Places};
@@ -11,15 +11,13 @@ use second::near_misses::Lent;
 use second::session::{watch_nothing, Session};
 use second::story;
 
-/// Does a call; the session that it leaves.
-fn done(call: &Call, session: library::Session, places: &Places) -> library::Session {
-    let Places { numbers, names } = places;
+/// Does a call where the session lies.
+fn call_on(call: &Call, session: &mut library::Session, places: &Places) {
+    let chart = Compiled::from(places);
     match call {
-        Call::Start { room } => library::start(session, numbers, names, &mut vec![0; *room]).session,
-        Call::Post { name } => library::post(session, numbers, names, name).session,
-        Call::Run { rounds, room } => {
-            library::run(session, numbers, names, *rounds, &mut vec![0; *room]).session
-        }
+        Call::Start { room } => drop(session.lend().start(chart, &mut vec![0; *room])),
+        Call::Post { name } => drop(session.lend().post(chart, name)),
+        Call::Run { rounds, room } => drop(session.lend().run(chart, *rounds, &mut vec![0; *room])),
     }
 }
 
@@ -33,16 +31,19 @@ pub fn play() -> Result<(), String> {
     let mut before = library::Session::from(&own);
     for call in story::before() {
         own = call.done_on(own, compiled.as_ref(), &mut watch_nothing).session;
-        before = done(&call, before, &places);
+        call_on(&call, &mut before, &places);
         alike(&before, &own)?;
     }
-    let after = done(&story::last(), before.clone(), &places);
-    let mut expected = library::Session { configuration: after.configuration, internal_count: 1, ..before };
+    let mut after = before.clone();
+    call_on(&story::last(), &mut after, &places);
+    let mut expected = before;
+    expected.numbers[CONFIGURATION].copy_from_slice(&after.numbers[CONFIGURATION]);
+    expected.numbers[INTERNAL_COUNT] = 1;
     let name = story::done_name();
     expected.internal[..SLOT_BYTES].fill(0);
     expected.internal[..name.len()].copy_from_slice(&name);
     ensure(name.len() == SLOT_BYTES - 1, || "the name has another length".to_string())?;
-    ensure(expected.configuration != [0; ROW_SET_WORDS] && after == expected, || {
+    ensure(expected.numbers[CONFIGURATION] != [0; ROW_SET_WORDS] && after == expected, || {
         "story: another byte changes".to_string()
     })
 }

@@ -6,7 +6,9 @@ static uint8_t names[AUTTERVIL_NAMES_BYTES(3)];
 static uint64_t place[AUTTERVIL_COMPILED_CELLS(3, 1, 1, 1, 1)];
 static uint8_t name_place[AUTTERVIL_NAMES_BYTES(3)];
 static auttervil_session session;
-static uint32_t trace[8];
+static uint32_t trace[32];
+static auttervil_call calls[1];
+static auttervil_result results[1];
 
 uint64_t play(void);
 
@@ -25,8 +27,13 @@ uint64_t play(void)
     if (auttervil_finish(&b, &tables) != AUTTERVIL_FAULT_NONE)
         return b.fault;
     compiled = auttervil_compile(&tables, place, sizeof place / sizeof place[0], name_place, sizeof name_place);
-    (void)auttervil_start(&session, &compiled.chart, trace, 8);
+    if (!auttervil_is_compatible() || auttervil_check(&compiled.chart) != AUTTERVIL_DONE || auttervil_room(&compiled.chart) > 32)
+        return auttervil_fingerprint(&compiled.chart);
+    (void)auttervil_start(&session, &compiled.chart, trace, 32);
+    (void)auttervil_step_text(&session, &compiled.chart, "push", 10, trace, 32);
     (void)auttervil_post_text(&session, &compiled.chart, "push");
-    (void)auttervil_run(&session, &compiled.chart, 10, trace, 8);
+    (void)auttervil_run(&session, &compiled.chart, 10, trace, 32);
+    calls[0] = auttervil_call_start(32);
+    (void)auttervil_perform(&session, &compiled.chart, calls, 1, NULL, 0, results, trace, 32);
     return auttervil_find_row(&compiled.chart, "on") + (uint64_t)auttervil_is_active(&session, 2);
 }

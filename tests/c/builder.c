@@ -98,6 +98,136 @@ static void does_not_fit(void)
     CHECK(ends_with(AUTTERVIL_FAULT_NAMES, "gone"));
 }
 
+static int is_needed(auttervil_counts wanted)
+{
+    return memcmp(&b.needed, &wanted, sizeof wanted) == 0;
+}
+
+/* Whatever did not fit, the builder says how much would have. */
+static void says_what_is_needed(void)
+{
+    const auttervil_counts enough = counts(3, 1, 2, 2, 2, 5);
+    const size_t *need = &enough.rows;
+    auttervil_counts most;
+    size_t *given = &most.rows;
+    size_t i, less;
+    small_chart(enough);
+    CHECK(ends_with(AUTTERVIL_FAULT_NONE, NULL) && is_needed(enough));
+    for (i = 0; i < 5; i++)
+        for (less = i == 0 ? 1 : 0; less < need[i]; less++) {
+            most = enough;
+            given[i] = less;
+            small_chart(most);
+            CHECK(auttervil_finish(&b, &tables) == i + 1 && is_needed(enough));
+        }
+    small_chart(counts(1, 0, 0, 0, 0, 5));
+    CHECK(ends_with(AUTTERVIL_FAULT_ROWS, "one") && is_needed(enough));
+    /* A text that found no room is counted each time that it is given, so that as many are enough. */
+    small_chart(counts(3, 1, 2, 2, 2, 0));
+    CHECK(ends_with(AUTTERVIL_FAULT_NAMES, "one") && is_needed(enough));
+    auttervil_add_raise(&b, "gone");
+    CHECK(is_needed(counts(3, 1, 2, 2, 3, 6)));
+    begin_with(enough);
+    CHECK(is_needed(counts(1, 0, 0, 0, 0, 0)));
+}
+
+/* Calls at will, the same for the same state of the generator: few ids, so that many are there, and few that make another fault. */
+static void random_calls(void)
+{
+    static const char *const ids[] = {"a", "b", "c", "d", "e", "f", "g", "h"};
+    static const char *const events[] = {"x", "x y", " y.* z x", "p q r s", "", "a b"};
+    static const char *const targets[] = {"a", "a b", " b a ", "", "a a a a"};
+    size_t rows = 2 + next_random() % 6;
+    size_t calls = next_random() % 30;
+    size_t i;
+    for (i = 0; i < rows; i++)
+        auttervil_add_row(&b, next_random() % 6, next_random() % 4 == 0 && i > 0 ? "a" : NULL, ids[i]);
+    for (i = 0; i < calls; i++) {
+        uint64_t random = next_random();
+        const char *id = ids[next_random() % (random % 64 == 0 ? COUNT(ids) : 2)];
+        switch (random % 6) {
+        case 0: auttervil_add_entry(&b, id); break;
+        case 1: auttervil_add_list(&b, id, targets[next_random() % COUNT(targets)]); break;
+        case 2: auttervil_add_host(&b, next_random() % 64 == 0 ? 65536 : 1); break;
+        case 3: auttervil_add_raise(&b, events[0]); break;
+        default: auttervil_add_transition(&b, id, events[next_random() % COUNT(events)], targets[next_random() % COUNT(targets)]);
+        }
+    }
+}
+
+/* With tables at will, then with what the builder said is needed: nothing is too small any more, and what fitted at once needs no more than it had. */
+static void one_try_is_enough(size_t tries)
+{
+    size_t too_small = 0;
+    size_t fitted = 0;
+    int enough = 1;
+    for (; tries > 0; tries--) {
+        auttervil_counts most = counts(1 + next_random() % 9, next_random() % 20, next_random() % 40, next_random() % 40, next_random() % 20, next_random() % 20);
+        uint64_t state = random_state;
+        auttervil_counts needed;
+        uint32_t fault;
+        begin_with(most);
+        random_calls();
+        needed = b.needed;
+        fault = auttervil_finish(&b, &tables);
+        if (fault == AUTTERVIL_FAULT_NONE) {
+            fitted++;
+            enough = enough && memcmp(&b.have, &needed, sizeof needed) == 0;
+        }
+        if (fault == AUTTERVIL_FAULT_NONE || fault > AUTTERVIL_FAULT_NAMES)
+            continue;
+        too_small++;
+        random_state = state;
+        begin_with(needed);
+        random_calls();
+        fault = auttervil_finish(&b, &tables);
+        enough = enough && (fault == AUTTERVIL_FAULT_NONE || fault > AUTTERVIL_FAULT_NAMES);
+    }
+    CHECK(enough && too_small > 100 && fitted > 10);
+}
+
+/* The limits of a transition, a block and an action: which, and of what. */
+static void more_than_each_may_have(void)
+{
+    const auttervil_counts most = counts(8, 8, 32, 32, 32, 32);
+    int i;
+    small_chart(most);
+    auttervil_add_transition(&b, "two", "a b c d", "one");
+    CHECK(ends_with(AUTTERVIL_FAULT_NONE, NULL) && compile() == AUTTERVIL_DONE);
+    small_chart(most);
+    auttervil_add_transition(&b, "two", "a b c d e f", "one");
+    auttervil_add_transition(&b, "one", "z", "two");
+    CHECK(ends_with(AUTTERVIL_FAULT_MANY_DESCRIPTORS, "e f") && strcmp(b.owner, "two") == 0 && b.number == 1);
+    small_chart(most);
+    auttervil_add_transition(&b, "two", "a", "one one one one one one one one");
+    CHECK(ends_with(AUTTERVIL_FAULT_NONE, NULL) && compile() == AUTTERVIL_LISTS);
+    small_chart(most);
+    auttervil_add_transition(&b, "two", "a", "one one one one one one one one two");
+    CHECK(ends_with(AUTTERVIL_FAULT_MANY_TARGETS, "two") && strcmp(b.owner, "two") == 0 && b.number == 1);
+    small_chart(most);
+    for (i = 0; i < 7; i++)
+        auttervil_add_host(&b, 65535);
+    CHECK(ends_with(AUTTERVIL_FAULT_NONE, NULL) && compile() == AUTTERVIL_DONE);
+    small_chart(most);
+    for (i = 0; i < 8; i++)
+        auttervil_add_raise(&b, "ninth");
+    CHECK(ends_with(AUTTERVIL_FAULT_MANY_ACTIONS, "ninth") && strcmp(b.owner, "one") == 0 && b.number == 0);
+    small_chart(most);
+    auttervil_add_exit(&b, "two");
+    for (i = 0; i < 9; i++)
+        auttervil_add_host(&b, 1);
+    CHECK(ends_with(AUTTERVIL_FAULT_MANY_ACTIONS, NULL) && strcmp(b.owner, "two") == 0 && b.number == AUTTERVIL_NONE);
+    small_chart(most);
+    auttervil_add_host(&b, 65536);
+    CHECK(ends_with(AUTTERVIL_FAULT_HOST, NULL) && strcmp(b.owner, "one") == 0);
+    small_chart(most);
+    auttervil_add_host(&b, UINT64_MAX);
+    CHECK(ends_with(AUTTERVIL_FAULT_HOST, NULL));
+    small_chart(most);
+    auttervil_add_row(&b, 6, NULL, "odd");
+    CHECK(ends_with(AUTTERVIL_FAULT_KIND, "odd"));
+}
+
 static void mistakes(void)
 {
     static const char longest[] = "a123456789b123456789c123456789d123456789e123456789f123456789123";
@@ -198,7 +328,6 @@ static void spinning(auttervil_counts most)
 static void rules(void)
 {
     const auttervil_counts most = counts(8, 8, 8, 8, 16, 16);
-    size_t i;
     small_chart(most);
     auttervil_add_row(&b, AUTTERVIL_KIND_STATE, NULL, "two");
     CHECK(ends_with(AUTTERVIL_FAULT_NONE, NULL) && compile() == AUTTERVIL_NAMES);
@@ -212,19 +341,6 @@ static void rules(void)
     auttervil_add_transition(&b, "two", NULL, NULL);
     CHECK(ends_with(AUTTERVIL_FAULT_NONE, NULL) && compile() == AUTTERVIL_TRANSITIONS);
     spinning(most);
-    small_chart(most);
-    auttervil_add_row(&b, 6, NULL, "odd");
-    CHECK(ends_with(AUTTERVIL_FAULT_NONE, NULL) && compile() == AUTTERVIL_SIZE);
-    small_chart(most);
-    for (i = 0; i < 8; i++)
-        auttervil_add_host(&b, 1);
-    CHECK(ends_with(AUTTERVIL_FAULT_NONE, NULL) && compile() == AUTTERVIL_SIZE);
-    small_chart(most);
-    auttervil_add_host(&b, 65536);
-    CHECK(ends_with(AUTTERVIL_FAULT_NONE, NULL) && compile() == AUTTERVIL_SIZE);
-    small_chart(most);
-    auttervil_add_host(&b, UINT64_MAX);
-    CHECK(ends_with(AUTTERVIL_FAULT_NONE, NULL) && compile() == AUTTERVIL_SIZE);
     begin_with(most);
     CHECK(ends_with(AUTTERVIL_FAULT_NONE, NULL) && tables.bytes == 0 && compile() == AUTTERVIL_TREE);
 }
@@ -235,8 +351,14 @@ static int begins(auttervil_counts most, uint64_t *cells, size_t n, uint8_t *byt
     if (b.fault == AUTTERVIL_FAULT_NONE)
         return 1;
     auttervil_add_row(&b, AUTTERVIL_KIND_STATE, NULL, "x");
-    CHECK(ends_with(AUTTERVIL_FAULT_ARRAYS, NULL));
+    CHECK(ends_with(AUTTERVIL_FAULT_ARRAYS, NULL) || (b.fault == AUTTERVIL_FAULT_LIMITS && auttervil_finish(&b, &tables) == AUTTERVIL_FAULT_LIMITS));
     return 0;
+}
+
+/* More than a chart may have is another fault than arrays that do not fit. */
+static int is_beyond_limits(auttervil_counts most)
+{
+    return !begins(most, numbers, COUNT(numbers), names, COUNT(names)) && b.fault == AUTTERVIL_FAULT_LIMITS;
 }
 
 static void arrays(void)
@@ -253,16 +375,16 @@ static void arrays(void)
     CHECK(!begins(most, numbers, cells, (uint8_t *)numbers + 8 * cells - 1, 320));
     CHECK(begins(most, numbers, cells, (uint8_t *)numbers + 8 * cells, 320));
     CHECK(!begins(most, numbers, SIZE_MAX, names, 320));
-    CHECK(!begins(counts(0, 0, 0, 0, 0, 0), numbers, cells, names, 320));
+    CHECK(is_beyond_limits(counts(0, 0, 0, 0, 0, 0)));
     CHECK(begins(counts(ROWS, TRANSITIONS, REFERENCES, DESCRIPTORS, ACTIONS, NAMES), numbers, COUNT(numbers), names, COUNT(names)));
-    CHECK(!begins(counts(ROWS + 1, 0, 0, 0, 0, 0), numbers, COUNT(numbers), names, 320));
-    CHECK(!begins(counts(1, TRANSITIONS + 1, 0, 0, 0, 0), numbers, COUNT(numbers), names, 320));
-    CHECK(!begins(counts(1, 0, REFERENCES + 1, 0, 0, 0), numbers, COUNT(numbers), names, 320));
-    CHECK(!begins(counts(1, 0, 0, DESCRIPTORS + 1, 0, 0), numbers, COUNT(numbers), names, 320));
-    CHECK(!begins(counts(1, 0, 0, 0, ACTIONS + 1, 0), numbers, COUNT(numbers), names, 320));
-    CHECK(!begins(counts(SIZE_MAX / 8, 0, 0, 0, 0, 0), numbers, COUNT(numbers), names, 320));
+    CHECK(is_beyond_limits(counts(ROWS + 1, 0, 0, 0, 0, 0)));
+    CHECK(is_beyond_limits(counts(1, TRANSITIONS + 1, 0, 0, 0, 0)));
+    CHECK(is_beyond_limits(counts(1, 0, REFERENCES + 1, 0, 0, 0)));
+    CHECK(is_beyond_limits(counts(1, 0, 0, DESCRIPTORS + 1, 0, 0)));
+    CHECK(is_beyond_limits(counts(1, 0, 0, 0, ACTIONS + 1, 0)));
+    CHECK(is_beyond_limits(counts(SIZE_MAX / 8, 0, 0, 0, 0, 0)));
     CHECK(begins(counts(1, 0, 0, 0, 0, NAMES), place, COUNT(place), (uint8_t *)numbers, sizeof numbers));
-    CHECK(!begins(counts(1, 0, 0, 0, 0, NAMES + 1), place, COUNT(place), (uint8_t *)numbers, sizeof numbers));
+    CHECK(!begins(counts(1, 0, 0, 0, 0, NAMES + 1), place, COUNT(place), (uint8_t *)numbers, sizeof numbers) && b.fault == AUTTERVIL_FAULT_LIMITS);
     CHECK(begins(counts(1, 0, 0, 0, 0, 0), numbers, 17, NULL, 0));
     auttervil_begin(NULL, most, numbers, cells, names, 320);
     auttervil_add_row(NULL, AUTTERVIL_KIND_STATE, NULL, "x");
@@ -357,12 +479,13 @@ static void at_the_limits(void)
     CHECK(ends_with(AUTTERVIL_FAULT_TRANSITIONS, "s1"));
     begin_with(counts(ROWS, TRANSITIONS, TRANSITIONS, TRANSITIONS, ACTIONS, NAMES));
     add_states(1);
-    auttervil_add_entry(&b, "s1");
     for (i = 1; i <= NAMES; i++) {
+        if (i % 8 == 1)
+            auttervil_add_transition(&b, "s1", "s1", NULL);
         snprintf(id, sizeof id, "n%d", i);
         auttervil_add_raise(&b, id);
     }
-    CHECK(ends_with(AUTTERVIL_FAULT_NAMES, "n768"));
+    CHECK(ends_with(AUTTERVIL_FAULT_NAMES, "n768") && b.needed.names == NAMES + 1);
 }
 
 /* The limits of docs/tables.md, and the sizes of the greatest chart. */
@@ -377,6 +500,9 @@ int main(void)
 {
     fits_exactly();
     does_not_fit();
+    says_what_is_needed();
+    one_try_is_enough(3000);
+    more_than_each_may_have();
     mistakes();
     white_space();
     rules();

@@ -1,4 +1,6 @@
 /* Every wrapper on charts that are well formed: what it answers, writes and leaves. */
+#include <stdlib.h>
+
 #include "test.h"
 
 static lent a, other, door;
@@ -126,8 +128,7 @@ static void names_and_queues(void)
     CHECK(memcmp(&before, &a.session, sizeof before) == 0);
     CHECK(auttervil_post(&a.session, &a.chart, longest, 63) == AUTTERVIL_DONE);
     CHECK(strlen(auttervil_external_name(&a.session, 0)) == 63 && auttervil_external_name(&a.session, 1) == NULL);
-    /* A name out of the session itself, which the post then writes. */
-    CHECK(auttervil_post(&a.session, &a.chart, (const char *)a.session.external, 9) == AUTTERVIL_DONE);
+    CHECK(auttervil_post(&a.session, &a.chart, longest, 9) == AUTTERVIL_DONE);
     CHECK(strcmp(auttervil_external_name(&a.session, 1), "a23456789") == 0);
     for (i = 2; i < AUTTERVIL_MOST_QUEUED; i++)
         CHECK(auttervil_post_text(&a.session, &a.chart, "e") == AUTTERVIL_DONE);
@@ -172,6 +173,103 @@ static void small_rooms(void)
     a.session = before;
     ran = auttervil_run(&a.session, &a.chart, UINT32_MAX, a.trace, 3);
     CHECK(ran.status == AUTTERVIL_IDLE && ran.rounds == 2 && ran.count == 3 && a.trace[3] == 0x5a5a5a5a);
+}
+
+/* A start reads nothing of the session: valgrind would tell of memory that was never written. */
+static void unwritten(void)
+{
+    auttervil_session *session = (auttervil_session *)malloc(sizeof *session);
+    auttervil_started started;
+    CHECK(session != NULL);
+    if (session == NULL)
+        return;
+    started = auttervil_start(session, &a.chart, a.trace, COUNT(a.trace));
+    start(&a);
+    CHECK(started.answer == AUTTERVIL_DONE && memcmp(session, &a.session, sizeof *session) == 0);
+    free(session);
+}
+
+/* With the room that auttervil_room() says, no start and no first round of a run gets 10. */
+static void enough_room(void)
+{
+    static const char *const events[] = {"e4", "e1", "e2", "close", "key", "any", "reset", "open", "quit"};
+    static uint32_t trace[64];
+    lent *both[2] = {&a, &door};
+    size_t i, turn;
+    CHECK(auttervil_room(&a.chart) == 11 * 4 + 5 * 2 && auttervil_room(&door.chart) == 7 * 4 + 4 + 6 * 2 + 2);
+    for (i = 0; i < 2; i++) {
+        size_t room = auttervil_room(&both[i]->chart);
+        CHECK(room <= COUNT(trace) && room <= AUTTERVIL_MOST_ROOM);
+        CHECK(auttervil_start(&both[i]->session, &both[i]->chart, trace, room).answer == AUTTERVIL_DONE);
+        for (turn = 0; turn < COUNT(events); turn++) {
+            auttervil_stepped stepped = auttervil_step_text(&both[i]->session, &both[i]->chart, events[turn], 1, trace, room);
+            CHECK(stepped.rounds == 1 || stepped.status == AUTTERVIL_ENDED);
+        }
+    }
+}
+
+/* Eventless transitions that go round, which the rules do not refuse: a run ends all the same, after at most room + 64 rounds. */
+static void endless_loop(void)
+{
+    static lent loop;
+    auttervil_builder b;
+    auttervil_ran ran;
+    size_t room;
+    begin(&loop, &b);
+    auttervil_add_row(&b, AUTTERVIL_KIND_STATE, NULL, "there");
+    auttervil_add_row(&b, AUTTERVIL_KIND_STATE, NULL, "back");
+    auttervil_add_transition(&b, "there", NULL, "back");
+    auttervil_add_transition(&b, "back", NULL, "there");
+    finish(&loop, &b);
+    start(&loop);
+    for (room = 0; room <= COUNT(loop.trace); room++) {
+        ran = auttervil_run(&loop.session, &loop.chart, UINT32_MAX, loop.trace, room);
+        CHECK(ran.status == AUTTERVIL_NO_ROOM && ran.rounds == room / 3 && ran.rounds <= room + 64);
+    }
+}
+
+static void versions(void)
+{
+    CHECK(AUTTERVIL_ABI_VERSION == 2 && auttervil_raw2_version() == AUTTERVIL_ABI_VERSION && auttervil_is_compatible());
+}
+
+/* Equal for equal bytes, wherever they lie; another chart has another, here at least. */
+static void fingerprints(void)
+{
+    uint64_t of_a = auttervil_fingerprint(&a.chart);
+    CHECK(of_a == auttervil_fingerprint(&other.chart) && of_a != auttervil_fingerprint(&door.chart));
+    other.place[7] ^= 1;
+    CHECK(of_a != auttervil_fingerprint(&other.chart));
+    other.place[7] ^= 1;
+    other.name_place[0] ^= 1;
+    CHECK(of_a != auttervil_fingerprint(&other.chart));
+    other.name_place[0] ^= 1;
+    CHECK(of_a == auttervil_fingerprint(&other.chart));
+}
+
+/* Two rows that changed places: a session of the one chart is well formed under the other, and means something else. The fingerprint tells. */
+static void rows_that_changed_places(void)
+{
+    static lent doors[2];
+    static const char *const ids[2][2] = {{"open", "closed"}, {"closed", "open"}};
+    static const char *const active[2] = {"closed", "open"};
+    auttervil_builder b;
+    int i;
+    for (i = 0; i < 2; i++) {
+        begin(&doors[i], &b);
+        auttervil_add_row(&b, AUTTERVIL_KIND_STATE, NULL, ids[i][0]);
+        auttervil_add_row(&b, AUTTERVIL_KIND_STATE, NULL, ids[i][1]);
+        auttervil_add_list(&b, NULL, "open");
+        auttervil_add_transition(&b, "open", "close", "closed");
+        auttervil_add_transition(&b, "closed", "open", "open");
+        finish(&doors[i], &b);
+    }
+    start(&doors[0]);
+    CHECK(auttervil_step_text(&doors[0].session, &doors[0].chart, "close", 9, doors[0].trace, COUNT(doors[0].trace)).status == AUTTERVIL_IDLE);
+    for (i = 0; i < 2; i++)
+        CHECK(auttervil_is_active(&doors[0].session, auttervil_find_row(&doors[i].chart, active[i])));
+    CHECK(auttervil_run(&doors[0].session, &doors[1].chart, 9, doors[0].trace, COUNT(doors[0].trace)).status == AUTTERVIL_IDLE);
+    CHECK(auttervil_fingerprint(&doors[0].chart) != auttervil_fingerprint(&doors[1].chart));
 }
 
 static void another_chart(void)
@@ -232,10 +330,16 @@ static void reading(void)
     CHECK(strcmp(auttervil_transition_event(&door.chart, 3, 1), "push.*") == 0);
     CHECK(auttervil_name(&a.chart, 14) == NULL && auttervil_name(NULL, 0) == NULL);
     CHECK(!auttervil_is_active(&a.session, AUTTERVIL_MOST_ROWS) && !auttervil_is_active(NULL, 1) && !auttervil_has_stored(&a.session, UINT64_MAX, 1));
-    for (number = 0; number < 200; number++)
+    for (number = 0; number < 300; number++)
         if (strcmp(auttervil_strstatus(number), "no answer of this library") == 0)
             unknown++;
-    CHECK(unknown == 200 - 15);
+        else
+            CHECK(number < 200 || auttervil_strstatus(number) == auttervil_strplace(number));
+    /* 0 to 11 and three statuses; 32 of lent places. */
+    CHECK(unknown == 300 - 15 - 32);
+    CHECK(auttervil_strplace(199) == NULL && auttervil_strplace(AUTTERVIL_NO_ROOM) == NULL);
+    CHECK(strcmp(auttervil_strstatus(AUTTERVIL_SESSION_MISALIGNED), "the session is misaligned") == 0);
+    CHECK(strcmp(auttervil_strstatus(AUTTERVIL_TRACE_OVERLAP), "the trace overlaps another lent place") == 0);
     CHECK(strcmp(auttervil_strmode(1), "running") == 0 && strcmp(auttervil_strmode(3), "no mode") == 0);
 }
 
@@ -250,6 +354,12 @@ int main(void)
     door_runs();
     names_and_queues();
     small_rooms();
+    unwritten();
+    enough_room();
+    endless_loop();
+    versions();
+    fingerprints();
+    rows_that_changed_places();
     another_chart();
     interleaved();
     reading();

@@ -16,7 +16,7 @@ typedef struct fenced {
 enum side { IN_FRONT, BEHIND };
 
 static lent a, door;
-static fenced numbers, names, place, name_place, trace, text;
+static fenced numbers, names, place, name_place, trace, text, session_place, internal, external;
 
 static fenced make_fenced(void)
 {
@@ -95,25 +95,60 @@ static void compiling(const lent *l, enum side side)
 static void playing(const lent *l, enum side side, const char *const *events, size_t count)
 {
     auttervil_chart chart = fenced_chart(l, l->chart.cells, l->chart.bytes, side);
-    static auttervil_session one, other;
+    static auttervil_session one;
     static uint32_t plain[64];
+    auttervil_session *other = (auttervil_session *)(void *)at_fence(session_place, sizeof *other, side);
     int same = 1;
     size_t room, i;
+    same = same && auttervil_room(&chart) == auttervil_room(&l->chart) && auttervil_fingerprint(&chart) == auttervil_fingerprint(&l->chart);
     for (room = 0; room <= 24; room++) {
         auttervil_started p = auttervil_start(&one, &l->chart, plain, 64);
-        auttervil_started q = auttervil_start(&other, &chart, fenced_trace(64, side), 64);
+        auttervil_started q = auttervil_start(other, &chart, fenced_trace(64, side), 64);
         same = same && p.answer == q.answer && auttervil_check(&chart) == 0;
-        (void)auttervil_start(&other, &chart, fenced_trace(room, side), room);
-        other = one;
+        (void)auttervil_start(other, &chart, fenced_trace(room, side), room);
+        *other = one;
         for (i = 0; i < count; i++) {
             size_t length = strlen(events[i]);
             const char *name = (const char *)copy_at_fence(text, events[i], length, side);
             auttervil_ran r, s;
-            same = same && auttervil_post(&one, &l->chart, events[i], length) == auttervil_post(&other, &chart, name, length);
+            same = same && auttervil_post(&one, &l->chart, events[i], length) == auttervil_post(other, &chart, name, length);
             r = auttervil_run(&one, &l->chart, 10, plain, room);
-            s = auttervil_run(&other, &chart, 10, fenced_trace(room, side), room);
+            s = auttervil_run(other, &chart, 10, fenced_trace(room, side), room);
             same = same && r.status == s.status && r.rounds == s.rounds && r.count == s.count;
-            same = same && memcmp(plain, fenced_trace(room, side), 4 * r.count) == 0 && memcmp(&one, &other, sizeof one) == 0;
+            same = same && memcmp(plain, fenced_trace(room, side), 4 * r.count) == 0 && memcmp(&one, other, sizeof one) == 0;
+        }
+    }
+    CHECK(same);
+}
+
+/* A session in the three places that the library's functions take, each against a fence, and each event by one call; a post may not write the internal queue. */
+static void in_three_places(const lent *l, enum side side, const char *const *events, size_t count)
+{
+    const auttervil_chart c = fenced_chart(l, l->chart.cells, l->chart.bytes, side);
+    uint64_t *own = (uint64_t *)(void *)at_fence(session_place, 8 * AUTTERVIL_SESSION_NUMBERS, side);
+    uint8_t *inner = at_fence(internal, 2048, side);
+    uint8_t *outer = at_fence(external, 2048, side);
+    static auttervil_session one;
+    static uint32_t plain[24];
+    size_t i, room;
+    int same = 1;
+    for (room = 0; room <= 24; room++) {
+        auttervil_started p = auttervil_start(&one, &l->chart, plain, 24);
+        auttervil_started q = auttervil_raw2_start(own, AUTTERVIL_SESSION_NUMBERS, inner, 2048, outer, 2048, c.numbers, c.cells, c.names, c.bytes, fenced_trace(24, side), 24);
+        same = same && p.answer == q.answer && p.count == q.count;
+        for (i = 0; i < count; i++) {
+            size_t length = strlen(events[i]);
+            const uint8_t *name = copy_at_fence(text, events[i], length, side);
+            auttervil_stepped r, s;
+            set_writable(internal, 0);
+            same = same && auttervil_post(&one, &l->chart, events[i], length)
+                    == auttervil_raw2_post(own, AUTTERVIL_SESSION_NUMBERS, inner, 2048, outer, 2048, c.numbers, c.cells, c.names, c.bytes, name, length);
+            set_writable(internal, 1);
+            r = auttervil_step(&one, &l->chart, events[i], length, 10, plain, room);
+            s = auttervil_raw2_step(own, AUTTERVIL_SESSION_NUMBERS, inner, 2048, outer, 2048, c.numbers, c.cells, c.names, c.bytes, name, length, 10, fenced_trace(room, side), room);
+            same = same && r.answer == s.answer && r.status == s.status && r.rounds == s.rounds && r.count == s.count;
+            same = same && memcmp(plain, fenced_trace(room, side), 4 * r.count) == 0 && memcmp(&one, own, 8 * AUTTERVIL_SESSION_NUMBERS) == 0;
+            same = same && memcmp(one.internal, inner, 2048) == 0 && memcmp(one.external, outer, 2048) == 0;
         }
     }
     CHECK(same);
@@ -223,11 +258,16 @@ int main(void)
     name_place = make_fenced();
     trace = make_fenced();
     text = make_fenced();
+    session_place = make_fenced();
+    internal = make_fenced();
+    external = make_fenced();
     for (side = IN_FRONT; side <= BEHIND; side++) {
         compiling(&a, (enum side)side);
         compiling(&door, (enum side)side);
         playing(&a, (enum side)side, of_a, COUNT(of_a));
         playing(&door, (enum side)side, of_door, COUNT(of_door));
+        in_three_places(&a, (enum side)side, of_a, COUNT(of_a));
+        in_three_places(&door, (enum side)side, of_door, COUNT(of_door));
         cut_short(&a, (enum side)side);
         cut_short(&door, (enum side)side);
         changed(&a, (enum side)side, 5000);

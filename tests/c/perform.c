@@ -160,7 +160,7 @@ static void refused(auttervil_session *session, const auttervil_chart *chart, co
     CHECK(performed.answer == answer && performed.performed == 0);
 }
 
-static void lends(void)
+static void refused_places(void)
 {
     static union {
         auttervil_call calls[8];
@@ -174,40 +174,46 @@ static void lends(void)
     calls[1] = auttervil_call_post(0, 2);
     s = before = a.session;
     fill();
-    refused(&s, NULL, calls, 2, text, 2, results, trace, ROOM, AUTTERVIL_BAD_CHART);
-    refused(&s, &no_cells, calls, 2, text, 2, results, trace, ROOM, AUTTERVIL_BAD_CHART);
-    refused(NULL, &a.chart, calls, 2, text, 2, results, trace, ROOM, AUTTERVIL_BAD_SESSION);
-    refused((auttervil_session *)((uintptr_t)&s + 4), &a.chart, calls, 2, text, 2, results, trace, ROOM, AUTTERVIL_BAD_SESSION);
-    refused(&s, &a.chart, NULL, 2, text, 2, results, trace, ROOM, AUTTERVIL_SIZE);
-    refused(&s, &a.chart, calls, SIZE_MAX, text, 2, results, trace, ROOM, AUTTERVIL_SIZE);
-    refused(&s, &a.chart, calls, SIZE_MAX / 32 + 1, text, 2, results, trace, ROOM, AUTTERVIL_SIZE);
-    refused(&s, &a.chart, (auttervil_call *)((uintptr_t)calls + 4), 2, text, 2, results, trace, ROOM, AUTTERVIL_SIZE);
-    refused(&s, &a.chart, calls, 2, text, 2, NULL, trace, ROOM, AUTTERVIL_SIZE);
-    refused(&s, &a.chart, calls, 2, text, 2, (auttervil_result *)((uintptr_t)results + 4), trace, ROOM, AUTTERVIL_SIZE);
-    refused(&s, &a.chart, calls, 2, NULL, 2, results, trace, ROOM, AUTTERVIL_NOT_A_NAME);
-    refused(&s, &a.chart, calls, 2, text, SIZE_MAX, results, trace, ROOM, AUTTERVIL_NOT_A_NAME);
-    refused(&s, &a.chart, calls, 2, (const char *)(UINTPTR_MAX - 3), 8, results, trace, ROOM, AUTTERVIL_NOT_A_NAME);
-    refused(&s, (const auttervil_chart *)(UINTPTR_MAX - 7), calls, 2, text, 2, results, trace, ROOM, AUTTERVIL_BAD_CHART);
-    refused(&s, &a.chart, calls, 2, text, 2, results, NULL, ROOM, AUTTERVIL_NO_ROOM);
-    refused(&s, &a.chart, calls, 2, text, 2, results, (uint32_t *)((uintptr_t)trace + 2), 4, AUTTERVIL_NO_ROOM);
-    refused(&s, &a.chart, calls, 2, text, 2, results, trace, SIZE_MAX, AUTTERVIL_NO_ROOM);
-    /* Written places that overlap another. */
-    refused(&s, &a.chart, calls, 2, text, 2, (auttervil_result *)(void *)&s, trace, ROOM, AUTTERVIL_SIZE);
-    refused(&s, &a.chart, calls, 2, text, 2, (auttervil_result *)(void *)a.place, trace, ROOM, AUTTERVIL_SIZE);
-    refused(&s, &a.chart, calls, 2, text, 2, (auttervil_result *)(void *)calls, trace, ROOM, AUTTERVIL_SIZE);
-    refused(&s, &a.chart, calls, 2, text, 2, results, (uint32_t *)(void *)&s, 8, AUTTERVIL_NO_ROOM);
-    refused(&s, &a.chart, calls, 2, text, 2, results, (uint32_t *)(void *)a.name_place, 8, AUTTERVIL_NO_ROOM);
-    refused(&s, &a.chart, calls, 2, text, 2, results, (uint32_t *)(void *)calls, 8, AUTTERVIL_NO_ROOM);
-    refused(&s, &a.chart, calls, 2, text, 2, results, (uint32_t *)(void *)results, 8, AUTTERVIL_NO_ROOM);
+    refused(&s, NULL, calls, 2, text, 2, results, trace, ROOM, AUTTERVIL_CHART_NULL);
+    refused(&s, (const auttervil_chart *)(UINTPTR_MAX - 7), calls, 2, text, 2, results, trace, ROOM, AUTTERVIL_CHART_PAST_END);
+    refused(NULL, &a.chart, calls, 2, text, 2, results, trace, ROOM, AUTTERVIL_SESSION_NULL);
+    refused((auttervil_session *)((uintptr_t)&s + 4), &a.chart, calls, 2, text, 2, results, trace, ROOM, AUTTERVIL_SESSION_MISALIGNED);
+    refused((auttervil_session *)(void *)a.place, &a.chart, calls, 2, text, 2, results, trace, ROOM, AUTTERVIL_SESSION_OVERLAP);
+    refused(&s, &a.chart, NULL, 2, text, 2, results, trace, ROOM, AUTTERVIL_CALLS_NULL);
+    refused(&s, &a.chart, calls, SIZE_MAX, text, 2, results, trace, ROOM, AUTTERVIL_CALLS_PAST_END);
+    refused(&s, &a.chart, calls, SIZE_MAX / 32 + 1, text, 2, results, trace, ROOM, AUTTERVIL_CALLS_PAST_END);
+    refused(&s, &a.chart, (auttervil_call *)((uintptr_t)calls + 4), 2, text, 2, results, trace, ROOM, AUTTERVIL_CALLS_MISALIGNED);
+    refused(&s, &a.chart, calls, 2, text, 2, NULL, trace, ROOM, AUTTERVIL_RESULTS_NULL);
+    refused(&s, &a.chart, calls, 2, text, 2, (auttervil_result *)((uintptr_t)results + 4), trace, ROOM, AUTTERVIL_RESULTS_MISALIGNED);
+    refused(&s, &a.chart, calls, 2, text, 2, (auttervil_result *)(UINTPTR_MAX - 15), trace, ROOM, AUTTERVIL_RESULTS_PAST_END);
+    refused(&s, &a.chart, calls, 2, NULL, 2, results, trace, ROOM, AUTTERVIL_TEXT_NULL);
+    refused(&s, &a.chart, calls, 2, text, SIZE_MAX, results, trace, ROOM, AUTTERVIL_TEXT_PAST_END);
+    refused(&s, &a.chart, calls, 2, (const char *)(UINTPTR_MAX - 3), 8, results, trace, ROOM, AUTTERVIL_TEXT_PAST_END);
+    refused(&s, &a.chart, calls, 2, text, 2, results, NULL, ROOM, AUTTERVIL_TRACE_NULL);
+    refused(&s, &a.chart, calls, 2, text, 2, results, (uint32_t *)((uintptr_t)trace + 2), 4, AUTTERVIL_TRACE_MISALIGNED);
+    refused(&s, &a.chart, calls, 2, text, 2, results, trace, SIZE_MAX, AUTTERVIL_TRACE_PAST_END);
+    /* Written places that overlap another; the session is one. */
+    refused(&s, &a.chart, (auttervil_call *)(void *)s.external, 2, text, 2, results, trace, ROOM, AUTTERVIL_CALLS_OVERLAP);
+    refused(&s, &a.chart, calls, 2, text, 2, (auttervil_result *)(void *)&s, trace, ROOM, AUTTERVIL_RESULTS_OVERLAP);
+    refused(&s, &a.chart, calls, 2, text, 2, (auttervil_result *)(void *)a.place, trace, ROOM, AUTTERVIL_RESULTS_OVERLAP);
+    refused(&s, &a.chart, calls, 2, text, 2, (auttervil_result *)(void *)calls, trace, ROOM, AUTTERVIL_RESULTS_OVERLAP);
+    refused(&s, &a.chart, calls, 2, (const char *)s.external, 2, results, trace, ROOM, AUTTERVIL_TEXT_OVERLAP);
+    refused(&s, &a.chart, calls, 2, text, 2, results, (uint32_t *)(void *)&s, 8, AUTTERVIL_TRACE_OVERLAP);
+    refused(&s, &a.chart, calls, 2, text, 2, results, (uint32_t *)(void *)a.name_place, 8, AUTTERVIL_TRACE_OVERLAP);
+    refused(&s, &a.chart, calls, 2, text, 2, results, (uint32_t *)(void *)calls, 8, AUTTERVIL_TRACE_OVERLAP);
+    refused(&s, &a.chart, calls, 2, text, 2, results, (uint32_t *)(void *)results, 8, AUTTERVIL_TRACE_OVERLAP);
     memcpy(shared.text, text, 8);
-    refused(&s, &a.chart, calls, 2, shared.text + 47, 2, shared.results, trace, ROOM, AUTTERVIL_SIZE);
-    refused(&s, &a.chart, calls, 2, shared.text, 2, results, shared.trace, 1, AUTTERVIL_NO_ROOM);
-    refused(&s, &a.chart, calls, 2, shared.text, 1, results, shared.trace, 1, AUTTERVIL_NO_ROOM);
+    refused(&s, &a.chart, calls, 2, shared.text + 47, 2, shared.results, trace, ROOM, AUTTERVIL_TEXT_OVERLAP);
+    refused(&s, &a.chart, calls, 2, shared.text, 2, results, shared.trace, 1, AUTTERVIL_TRACE_OVERLAP);
+    refused(&s, &a.chart, calls, 2, shared.text, 1, results, shared.trace, 1, AUTTERVIL_TRACE_OVERLAP);
     CHECK(memcmp(shared.text, text, 8) == 0 && is_left(results, sizeof results) && is_left(trace, sizeof trace));
     CHECK(memcmp(&before, &s, sizeof s) == 0 && auttervil_check(&a.chart) == AUTTERVIL_DONE);
     /* Side by side they are apart; places of no elements may be null. */
     CHECK(auttervil_perform(&s, &a.chart, calls, 2, shared.text + 48, 0, shared.results, trace, ROOM).performed == 1);
     CHECK(auttervil_perform(&s, &a.chart, NULL, 0, NULL, 0, NULL, NULL, 0).answer == AUTTERVIL_DONE);
+    /* A chart that can be lent and is none is refused call by call. */
+    CHECK(auttervil_perform(&s, &no_cells, calls, 2, text, 2, results, trace, ROOM).performed == 2);
+    CHECK(results[0].number == AUTTERVIL_BAD_CHART && results[1].number == AUTTERVIL_BAD_CHART);
 }
 
 /* Random cells as calls: what is done is a front part of the list, and nothing behind it is written. */
@@ -242,7 +248,7 @@ int main(void)
     make_door(&door);
     marked_run();
     what_is_no_call();
-    lends();
+    refused_places();
     random_lists(&a, 200);
     random_lists(&door, 200);
     random_cells(300);

@@ -1,4 +1,4 @@
-// The header as C++: a chart through the builder, a start and a run.
+// The header as C++: a chart through the builder, a start, an event and a run.
 #include "test.h"
 
 static lent a;
@@ -18,9 +18,11 @@ static void lamp_is_lit()
     CHECK(auttervil_finish(&b, &tables) == AUTTERVIL_FAULT_NONE);
     auttervil_compiled compiled = AUTTERVIL_COMPILE(&tables, lamp);
     CHECK(compiled.answer == AUTTERVIL_DONE);
+    CHECK(auttervil_is_compatible() && auttervil_room(&compiled.chart) == 3 * 4 + 2 * 2 + 1);
     CHECK(auttervil_start(&a.session, &compiled.chart, a.trace, COUNT(a.trace)).count == 1);
-    CHECK(auttervil_post_text(&a.session, &compiled.chart, "push") == AUTTERVIL_DONE);
-    CHECK(auttervil_run(&a.session, &compiled.chart, 9, a.trace, COUNT(a.trace)).count == 4 && a.trace[2] == entry(AUTTERVIL_TRACE_HOST, 1));
+    auttervil_stepped stepped = auttervil_step_text(&a.session, &compiled.chart, "push", 9, a.trace, COUNT(a.trace));
+    CHECK(stepped.answer == AUTTERVIL_DONE && stepped.status == AUTTERVIL_IDLE && stepped.count == 4 && a.trace[2] == entry(AUTTERVIL_TRACE_HOST, 1));
+    CHECK(auttervil_step(&a.session, nullptr, "push", 4, 9, a.trace, COUNT(a.trace)).status == AUTTERVIL_CHART_NULL);
 }
 
 int main()

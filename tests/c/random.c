@@ -122,7 +122,7 @@ static void changed_bytes(const lent *good, size_t tries)
         size_t names = next_random() % l.chart.bytes;
         uint8_t bit = (uint8_t)(1u << next_random() % 8);
         size_t room = next_random() % 65;
-        size_t at = next_random() % 4 == 0 ? 12320 + next_random() % 24 : next_random() % sizeof l.session;
+        size_t at = next_random() % 4 == 0 ? offsetof(auttervil_session, internal_count) + next_random() % 24 : next_random() % sizeof l.session;
         l.session = good->session;
         ((uint8_t *)&l.session)[at] ^= bit;
         TRY(is_handled(&l.session, &l.chart, room));

@@ -44,6 +44,18 @@ static void *check_chart(void *m)
     return m;
 }
 
+static void *room(void *m)
+{
+    (void)auttervil_room(&((made *)m)->l->chart);
+    return m;
+}
+
+static void *fingerprint(void *m)
+{
+    (void)auttervil_fingerprint(&((made *)m)->l->chart);
+    return m;
+}
+
 static void *start(void *m)
 {
     lent *l = ((made *)m)->l;
@@ -62,6 +74,13 @@ static void *run(void *m)
 {
     lent *l = ((made *)m)->l;
     (void)auttervil_run(&l->session, &l->chart, 10, l->trace, COUNT(l->trace));
+    return m;
+}
+
+static void *step(void *m)
+{
+    lent *l = ((made *)m)->l;
+    (void)auttervil_step_text(&l->session, &l->chart, ((made *)m)->name, 10, l->trace, COUNT(l->trace));
     return m;
 }
 
@@ -101,9 +120,9 @@ int main(void)
     static const struct {
         const char *name;
         void *(*call)(void *);
-    } calls[] = {{"auttervil_sizes", sizes}, {"auttervil_compile", compile}, {"auttervil_check", check_chart}, {"auttervil_start", start},
+    } calls[] = {{"auttervil_sizes", sizes}, {"auttervil_compile", compile}, {"auttervil_check", check_chart}, {"auttervil_room", room},
+                 {"auttervil_fingerprint", fingerprint}, {"auttervil_start", start}, {"auttervil_step", step}, {"auttervil_perform", perform},
                  {"auttervil_post", post}, {"auttervil_run", run},
-                 {"auttervil_perform", perform},
     };
     static const char *const events[2][8] = {{"e4", "e1", "e2", "nothing"}, {"close", "open", "close", "key", "any", "reset", "quit", "."}};
     size_t most[COUNT(calls)] = {0};

@@ -12,18 +12,19 @@ const MODE_ENDED: u64 = 0;
 const MODE_RUNNING: u64 = 1;
 const MODE_CLOSING: u64 = 2;
 
+/// In the order in which C has it: the numbers, then the queues.
 #[repr(C)]
 #[derive(Clone, Copy, PartialEq, Eq, Debug)]
 pub struct Session {
     pub configuration: [u64; WORDS],
     /// A set for each row that there may be.
     pub history: [u64; MOST_ROWS * WORDS],
-    /// 32 slots, the oldest name first, zeros behind the last.
-    pub internal: [u8; QUEUE_BYTES],
-    pub external: [u8; QUEUE_BYTES],
     pub internal_count: u64,
     pub external_count: u64,
     pub mode: u64,
+    /// 32 slots, the oldest name first, zeros behind the last.
+    pub internal: [u8; QUEUE_BYTES],
+    pub external: [u8; QUEUE_BYTES],
 }
 
 #[repr(C)]

@@ -2,7 +2,7 @@
 //! 32 and 64 rows, for a post and for the test of a session, in one run. Prints the tables of
 //! docs/bench.md.
 
-use linked::library;
+use linked::library::{self, Compiled};
 use second::compiled::{compile, CompiledChart, Places};
 use second::encode::Layout;
 use second::generate::{self, Flavour};
@@ -115,7 +115,7 @@ fn second_compiles(chart: &mut Bench) {
 
 fn library_checks(chart: &mut Bench) {
     let places = black_box(&chart.places);
-    black_box(library::check(&places.numbers, &places.names));
+    black_box(Compiled::from(places).check());
 }
 
 fn second_checks(chart: &mut Bench) {
@@ -126,7 +126,7 @@ fn second_checks(chart: &mut Bench) {
 /// A post of the library; its answer.
 fn given(chart: &Bench, session: &Both) -> u32 {
     let places = black_box(&chart.places);
-    library::post(black_box(session.given.clone()), &places.numbers, &places.names, NAME).answer
+    black_box(session.given.clone()).lend().post(places.into(), NAME)
 }
 
 /// A post of the second program, which has to open the chart as the library has to check it.
@@ -154,9 +154,11 @@ fn second_tests(chart: &mut Bench) {
     black_box(black_box(&wrong.own).is_well_formed(compiled));
 }
 
-/// With nothing lent for the chart: the session is handed over and back, and nothing else is done.
+/// With nothing lent for the chart: the session is copied, so that each call has the same, and nothing else is done.
 fn library_hands_over(chart: &mut Bench) {
-    black_box(library::post(black_box(chart.session.given.clone()), &[], &[], NAME).answer);
+    black_box(
+        black_box(chart.session.given.clone()).lend().post(Compiled { numbers: &[], names: &[] }, NAME),
+    );
 }
 
 const MEASURED: usize = 9;
@@ -224,7 +226,7 @@ fn print_growth(table: &[Row]) {
 }
 
 /// The library's test is what a post that it refuses takes, less the check of the chart and less what it
-/// takes to hand the session over and back; the second program's is measured by itself.
+/// takes to copy the session; the second program's is measured by itself.
 fn print_sessions(table: &[Row]) {
     println!("| rows | post: library | second | ratio | test for 9: library | second | ratio |");
     println!("|---|---|---|---|---|---|---|");

@@ -1,0 +1,147 @@
+//! The functions of the static library as C sees them, declared here and nowhere else: a lent slice
+//! is a pointer and the count of its elements. Nothing checks these lines against the library's
+//! source.
+
+use std::os::raw::c_uint;
+
+/// What a start gives: the first `count` entries of the trace are its own.
+#[repr(C)]
+#[derive(Clone, Copy, PartialEq, Eq, Debug)]
+pub struct Started {
+    pub answer: c_uint,
+    pub count: usize,
+}
+
+#[repr(C)]
+#[derive(Clone, Copy, PartialEq, Eq, Debug)]
+pub struct Ran {
+    pub status: c_uint,
+    pub rounds: c_uint,
+    pub count: usize,
+}
+
+/// The answer of the post; status, rounds and count of the run.
+#[repr(C)]
+#[derive(Clone, Copy, PartialEq, Eq, Debug)]
+pub struct Stepped {
+    pub answer: c_uint,
+    pub status: c_uint,
+    pub rounds: c_uint,
+    pub count: usize,
+}
+
+const _: () = assert!(size_of::<Started>() == 16 && size_of::<Ran>() == 16 && size_of::<Stepped>() == 24);
+
+extern "C" {
+    pub fn auttervil_raw2_version() -> c_uint;
+    pub fn auttervil_raw2_numbers_size(numbers: *const u64, numbers_count: usize) -> usize;
+    pub fn auttervil_raw2_names_size(numbers: *const u64, numbers_count: usize) -> usize;
+    pub fn auttervil_raw2_compile(
+        numbers: *const u64,
+        numbers_count: usize,
+        names: *const u8,
+        names_count: usize,
+        place: *mut u64,
+        place_count: usize,
+        name_place: *mut u8,
+        name_place_count: usize,
+    ) -> c_uint;
+    pub fn auttervil_raw2_check(
+        chart: *const u64,
+        chart_count: usize,
+        names: *const u8,
+        names_count: usize,
+    ) -> c_uint;
+    pub fn auttervil_raw2_room(
+        chart: *const u64,
+        chart_count: usize,
+        names: *const u8,
+        names_count: usize,
+    ) -> usize;
+    pub fn auttervil_raw2_fingerprint(
+        chart: *const u64,
+        chart_count: usize,
+        names: *const u8,
+        names_count: usize,
+    ) -> u64;
+    pub fn auttervil_raw2_start(
+        numbers: *mut u64,
+        numbers_count: usize,
+        internal: *mut u8,
+        internal_count: usize,
+        external: *mut u8,
+        external_count: usize,
+        chart: *const u64,
+        chart_count: usize,
+        names: *const u8,
+        names_count: usize,
+        trace: *mut u32,
+        trace_count: usize,
+    ) -> Started;
+    pub fn auttervil_raw2_post(
+        numbers: *mut u64,
+        numbers_count: usize,
+        internal: *const u8,
+        internal_count: usize,
+        external: *mut u8,
+        external_count: usize,
+        chart: *const u64,
+        chart_count: usize,
+        names: *const u8,
+        names_count: usize,
+        name: *const u8,
+        name_count: usize,
+    ) -> c_uint;
+    pub fn auttervil_raw2_run(
+        numbers: *mut u64,
+        numbers_count: usize,
+        internal: *mut u8,
+        internal_count: usize,
+        external: *mut u8,
+        external_count: usize,
+        chart: *const u64,
+        chart_count: usize,
+        names: *const u8,
+        names_count: usize,
+        rounds: c_uint,
+        trace: *mut u32,
+        trace_count: usize,
+    ) -> Ran;
+    pub fn auttervil_raw2_step(
+        numbers: *mut u64,
+        numbers_count: usize,
+        internal: *mut u8,
+        internal_count: usize,
+        external: *mut u8,
+        external_count: usize,
+        chart: *const u64,
+        chart_count: usize,
+        names: *const u8,
+        names_count: usize,
+        name: *const u8,
+        name_count: usize,
+        rounds: c_uint,
+        trace: *mut u32,
+        trace_count: usize,
+    ) -> Stepped;
+    pub fn auttervil_raw2_perform(
+        numbers: *mut u64,
+        numbers_count: usize,
+        internal: *mut u8,
+        internal_count: usize,
+        external: *mut u8,
+        external_count: usize,
+        chart: *const u64,
+        chart_count: usize,
+        names: *const u8,
+        names_count: usize,
+        calls: *const u64,
+        calls_count: usize,
+        text: *const u8,
+        text_count: usize,
+        results: *mut u64,
+        results_count: usize,
+        trace: *mut u32,
+        trace_count: usize,
+    ) -> usize;
+}
