@@ -13,7 +13,7 @@ mod selection;
 mod session;
 
 pub use rules::verdict;
-pub use session::{Posted, Ran, Session, Started};
+pub use session::{Ran, Session, Started, Stepped};
 
 /// The answers that the calls give.
 pub mod answers {

@@ -1,7 +1,7 @@
 //! A compiled chart, read from where it is lent.
 
 use super::limits::*;
-use super::names::{Event, Pattern, Slot, SLOT};
+use super::names::{Event, Slot, Spelling, SLOT};
 use super::row_set::RowSet;
 use super::rules;
 use std::ops::Range;
@@ -187,6 +187,12 @@ impl<'a> Tables<'a> {
         Row(&self.rows[row])
     }
 
+    /// The id of a row that has one.
+    #[inline]
+    pub fn id(&self, row: usize) -> &'a Slot {
+        &self.names[self.row(row).id() as usize]
+    }
+
     #[inline]
     pub fn transition(&self, transition: usize) -> Transition<'a> {
         Transition(&self.transitions[transition])
@@ -208,6 +214,31 @@ impl<'a> Tables<'a> {
     }
 }
 
+/// The sets of rows that stand behind the tables of a compiled chart.
+#[derive(Clone, Copy)]
+pub struct Sets<'a> {
+    pub ancestors: &'a [[u64; WORDS]],
+    pub descendants: &'a [[u64; WORDS]],
+    pub children: &'a [[u64; WORDS]],
+}
+
+impl<'a> Sets<'a> {
+    #[inline]
+    pub fn ancestors(self, row: usize) -> RowSet {
+        RowSet(self.ancestors[row])
+    }
+
+    #[inline]
+    pub fn descendants(self, row: usize) -> RowSet {
+        RowSet(self.descendants[row])
+    }
+
+    #[inline]
+    pub fn children(self, row: usize) -> RowSet {
+        RowSet(self.children[row])
+    }
+}
+
 /// What the rounds ask most often, worked out once for each call.
 pub struct Index {
     pub atomic: RowSet,
@@ -222,11 +253,11 @@ pub struct Index {
     pub by_event: RowSet,
     /// The transitions of row i are those from number i on to number i + 1.
     first_transition: [u16; MOST_ROWS + 1],
-    patterns: [Pattern; MOST_NAMES],
+    spellings: [Spelling; MOST_NAMES],
 }
 
 impl Index {
-    pub fn of(tables: &Tables, children: &[RowSet; MOST_ROWS], patterns: [Pattern; MOST_NAMES]) -> Index {
+    fn of(tables: &Tables, sets: Sets, spellings: [Spelling; MOST_NAMES]) -> Index {
         let mut index = Index {
             atomic: RowSet::EMPTY,
             parallel: RowSet::EMPTY,
@@ -236,24 +267,25 @@ impl Index {
             eventless: RowSet::EMPTY,
             by_event: RowSet::EMPTY,
             first_transition: [0; MOST_ROWS + 1],
-            patterns,
+            spellings,
         };
+        let mut transitions = tables.all_transitions().peekable();
         let mut passed = 0;
         for row in 0..tables.row_count() {
-            index.sort_in(row, tables.row(row).kind(), children[row].is_empty());
-            let own = tables.all_transitions().skip(passed).take_while(|one| one.source() == row);
-            for transition in own {
+            index.sort_in(row, tables.row(row).kind(), sets.children(row).is_empty());
+            while let Some(transition) = transitions.next_if(|one| one.source() == row) {
                 match transition.descriptors().count {
                     0 => index.eventless.insert(row),
                     _ => index.by_event.insert(row),
                 }
                 passed += 1;
             }
-            index.first_transition[row + 1] = passed as u16;
+            index.first_transition[row + 1] = passed;
         }
         index
     }
 
+    #[inline]
     fn sort_in(&mut self, row: usize, kind: u64, childless: bool) {
         match kind {
             STATE if childless => self.atomic.insert(row),
@@ -273,14 +305,13 @@ impl Index {
 pub struct Chart<'a> {
     pub tables: Tables<'a>,
     pub index: Index,
-    ancestors: &'a [[u64; WORDS]],
-    descendants: &'a [[u64; WORDS]],
-    children: &'a [[u64; WORDS]],
+    sets: Sets<'a>,
     defaults: &'a [[u64; WORDS]],
 }
 
 impl<'a> Chart<'a> {
     /// Nothing, if what is lent "differs from what its own rows compile to, or they break a rule".
+    #[inline]
     pub fn open(numbers: &'a [u64], names: &'a [u8]) -> Option<Chart<'a>> {
         let counts = Counts::read(numbers)?;
         if numbers.len() != counts.compiled_cells() {
@@ -288,35 +319,34 @@ impl<'a> Chart<'a> {
         }
         let (cells, sets) = numbers.split_at(counts.cells());
         let tables = Tables::cut(&counts, cells, names)?;
-        let judged = rules::judge(&tables).ok()?;
         let rows = tables.row_count();
         let (ancestors, sets) = sets.as_chunks().0.split_at(rows);
         let (descendants, sets) = sets.split_at(rows);
         let (children, sets) = sets.split_at(rows);
         let (defaults, anchors) = sets.split_at(rows);
-        let tree = &judged.tree;
-        let index = Index::of(&tables, &tree.children, judged.patterns);
-        let same = is_listed(&tree.ancestors, ancestors)
-            && is_listed(&tree.descendants, descendants)
-            && is_listed(&tree.children, children)
-            && (0..rows).all(|row| tree.defaults(&tables, &index, row).0 == defaults[row])
-            && (0..anchors.len()).all(|number| tree.anchors(&tables, number).0 == anchors[number]);
-        same.then_some(Chart { tables, index, ancestors, descendants, children, defaults })
+        let sets = Sets { ancestors, descendants, children };
+        let spellings = rules::spellings(&tables)?;
+        let holds = rules::is_tree_of(&tables, sets)
+            && rules::lists_fit(&tables, sets)
+            && rules::transitions_fit(&tables)
+            && (0..rows).all(|row| rules::defaults(&tables, sets, row).0 == defaults[row])
+            && (0..anchors.len()).all(|number| rules::anchors(&tables, number).0 == anchors[number]);
+        holds.then(|| Chart { tables, index: Index::of(&tables, sets, spellings), sets, defaults })
     }
 
     #[inline]
     pub fn ancestors(&self, row: usize) -> RowSet {
-        RowSet(self.ancestors[row])
+        self.sets.ancestors(row)
     }
 
     #[inline]
     pub fn descendants(&self, row: usize) -> RowSet {
-        RowSet(self.descendants[row])
+        self.sets.descendants(row)
     }
 
     #[inline]
     pub fn children(&self, row: usize) -> RowSet {
-        RowSet(self.children[row])
+        self.sets.children(row)
     }
 
     #[inline]
@@ -341,13 +371,8 @@ impl<'a> Chart<'a> {
     pub fn is_triggered(&self, transition: Transition, event: &Event) -> bool {
         self.tables.descriptors[transition.descriptors().range()].iter().any(|&name| {
             let name = name as usize;
-            self.index.patterns[name].matches(&self.tables.names[name], event)
+            self.index.spellings[name].matches(&self.tables.names[name], event)
         })
-    }
-
-    /// The id of a row that is not the root.
-    pub fn id(&self, row: usize) -> &'a Slot {
-        &self.tables.names[self.tables.row(row).id() as usize]
     }
 
     /// What a history's parent would store for it.
@@ -366,8 +391,4 @@ impl<'a> Chart<'a> {
         let below = self.descendants(above);
         rows.rows().fold(rows, |all, row| all | self.ancestors(row) & below)
     }
-}
-
-fn is_listed(worked_out: &[RowSet; MOST_ROWS], listed: &[[u64; WORDS]]) -> bool {
-    worked_out.iter().zip(listed).all(|(set, words)| set.0 == *words)
 }

@@ -33,7 +33,8 @@ impl RowSet {
 
     #[inline]
     pub fn has_one(self) -> bool {
-        self.0.iter().map(|word| word.count_ones()).sum::<u32>() == 1
+        let words = self.0.iter().filter(|&&word| word != 0).count();
+        words == 1 && self.0.iter().all(|&word| word & word.wrapping_sub(1) == 0)
     }
 
     #[inline]

@@ -7,6 +7,7 @@ use super::names::{done_name, holds_name, is_name, Slot, SLOT};
 use super::round::{Queued, Round, DRAFT};
 use super::row_set::RowSet;
 use super::selection::{Selection, Trigger};
+use std::ops::BitOr;
 
 const MODE_ENDED: u64 = 0;
 const MODE_RUNNING: u64 = 1;
@@ -28,41 +29,52 @@ pub struct Session {
 }
 
 #[repr(C)]
+#[derive(Clone, Copy, PartialEq, Eq, Debug)]
 pub struct Started {
-    pub session: Session,
     pub answer: u32,
     pub count: usize,
 }
 
 #[repr(C)]
-pub struct Posted {
-    pub session: Session,
-    pub answer: u32,
-}
-
-#[repr(C)]
+#[derive(Clone, Copy, PartialEq, Eq, Debug)]
 pub struct Ran {
-    pub session: Session,
     pub status: u32,
     pub rounds: u32,
     pub count: usize,
+}
+
+/// A post and a run behind it.
+#[repr(C)]
+#[derive(Clone, Copy, PartialEq, Eq, Debug)]
+pub struct Stepped {
+    pub answer: u32,
+    pub status: u32,
+    pub rounds: u32,
+    pub count: usize,
+}
+
+impl Ran {
+    fn refused(status: u32) -> Ran {
+        Ran { status, rounds: 0, count: 0 }
+    }
 }
 
 impl Session {
     pub const ENDED: Session = Session {
         configuration: [0; WORDS],
         history: [0; MOST_ROWS * WORDS],
-        internal: [0; QUEUE_BYTES],
-        external: [0; QUEUE_BYTES],
         internal_count: 0,
         external_count: 0,
         mode: MODE_ENDED,
+        internal: [0; QUEUE_BYTES],
+        external: [0; QUEUE_BYTES],
     };
 
-    // The calls
+    // The calls, which change the session where it is
 
-    pub fn start(self, numbers: &[u64], names: &[u8], trace: &mut [u32]) -> Started {
-        let refused = |answer| Started { session: Session::ENDED, answer, count: 0 };
+    pub fn start(&mut self, numbers: &[u64], names: &[u8], trace: &mut [u32]) -> Started {
+        *self = Session::ENDED;
+        let refused = |answer| Started { answer, count: 0 };
         let Some(chart) = Chart::open(numbers, names) else { return refused(BAD_CHART) };
         let mut draft = [0; DRAFT];
         let mut round = Round::over(&mut draft);
@@ -75,35 +87,63 @@ impl Session {
             Some(entries) => place.copy_from_slice(entries),
             None => Round::over(place).start(&chart),
         }
-        let mut session = Session::ENDED;
-        session.move_on(&chart, &round);
-        Started { session, answer: DONE, count: round.count }
+        self.move_on(&chart, &round);
+        Started { answer: DONE, count: round.count }
     }
 
-    pub fn post(mut self, numbers: &[u64], names: &[u8], name: &[u8]) -> Posted {
-        let answer = match Chart::open(numbers, names) {
+    pub fn post(&mut self, numbers: &[u64], names: &[u8], name: &[u8]) -> u32 {
+        match Chart::open(numbers, names) {
             None => BAD_CHART,
             Some(chart) if !self.is_well_formed(&chart) => BAD_SESSION,
-            Some(_) if !is_name(name) => BAD_NAME,
-            Some(_) if self.mode == MODE_ENDED => SESSION_ENDED,
-            Some(_) if self.external_count == QUEUE_NAMES as u64 => FULL,
-            Some(_) => {
-                let slot = self.external_count as usize * SLOT;
-                self.external[slot..slot + name.len()].copy_from_slice(name);
-                self.external_count += 1;
-                DONE
-            }
-        };
-        Posted { session: self, answer }
+            Some(_) => self.post_known(name),
+        }
     }
 
-    pub fn run(mut self, numbers: &[u64], names: &[u8], rounds: u32, trace: &mut [u32]) -> Ran {
-        let Some(chart) = Chart::open(numbers, names) else {
-            return Ran { session: self, status: BAD_CHART, rounds: 0, count: 0 };
-        };
-        if !self.is_well_formed(&chart) {
-            return Ran { session: self, status: BAD_SESSION, rounds: 0, count: 0 };
+    pub fn run(&mut self, numbers: &[u64], names: &[u8], rounds: u32, trace: &mut [u32]) -> Ran {
+        match Chart::open(numbers, names) {
+            None => Ran::refused(BAD_CHART),
+            Some(chart) if !self.is_well_formed(&chart) => Ran::refused(BAD_SESSION),
+            Some(chart) => self.run_known(&chart, rounds, trace),
         }
+    }
+
+    /// One call for an event: a post, and then a run, whatever the post answers. Chart and session
+    /// are checked once.
+    pub fn step(
+        &mut self,
+        numbers: &[u64],
+        names: &[u8],
+        name: &[u8],
+        rounds: u32,
+        trace: &mut [u32],
+    ) -> Stepped {
+        let (answer, ran) = match Chart::open(numbers, names) {
+            None => (BAD_CHART, Ran::refused(BAD_CHART)),
+            Some(chart) if !self.is_well_formed(&chart) => (BAD_SESSION, Ran::refused(BAD_SESSION)),
+            Some(chart) => (self.post_known(name), self.run_known(&chart, rounds, trace)),
+        };
+        Stepped { answer, status: ran.status, rounds: ran.rounds, count: ran.count }
+    }
+
+    /// To a well-formed session.
+    fn post_known(&mut self, name: &[u8]) -> u32 {
+        if !is_name(name) {
+            return BAD_NAME;
+        }
+        if self.mode == MODE_ENDED {
+            return SESSION_ENDED;
+        }
+        if self.external_count == QUEUE_NAMES as u64 {
+            return FULL;
+        }
+        let slot = self.external_count as usize * SLOT;
+        self.external[slot..slot + name.len()].copy_from_slice(name);
+        self.external_count += 1;
+        DONE
+    }
+
+    /// Of a well-formed session.
+    fn run_known(&mut self, chart: &Chart, rounds: u32, trace: &mut [u32]) -> Ran {
         let mut selection = Selection::none();
         let mut draft = [0; DRAFT];
         let mut round = Round::over(&mut draft);
@@ -113,7 +153,7 @@ impl Session {
             let trigger = match self.mode {
                 MODE_ENDED => break ENDED,
                 MODE_CLOSING => Trigger::Closing,
-                _ => match selection.choose(&chart, &self) {
+                _ => match selection.choose(chart, self) {
                     Some(trigger) => trigger,
                     None => break IDLE,
                 },
@@ -122,9 +162,9 @@ impl Session {
                 break MORE;
             }
             if trigger == Trigger::Closing {
-                round.close(&chart, &self);
+                round.close(chart, self);
             } else {
-                round.take(&chart, &self, &selection);
+                round.take(chart, self, &selection);
                 let left = self.internal_count as usize - usize::from(trigger == Trigger::Internal);
                 if left + round.queued > QUEUE_NAMES {
                     break FULL;
@@ -133,21 +173,21 @@ impl Session {
             let Some(place) = trace[count..].get_mut(..round.count) else { break NO_ROOM };
             match round.entries() {
                 Some(entries) => place.copy_from_slice(entries),
-                None if trigger == Trigger::Closing => Round::over(place).close(&chart, &self),
-                None => Round::over(place).take(&chart, &self, &selection),
+                None if trigger == Trigger::Closing => Round::over(place).close(chart, self),
+                None => Round::over(place).take(chart, self, &selection),
             }
             count += round.count;
             done += 1;
             match trigger {
-                Trigger::Closing => self = Session { history: self.history, ..Session::ENDED },
+                Trigger::Closing => *self = Session { history: self.history, ..Session::ENDED },
                 _ => {
                     self.take_event(trigger);
-                    self.store(&chart, selection.exits);
-                    self.move_on(&chart, &round);
+                    self.store(chart, selection.exits);
+                    self.move_on(chart, &round);
                 }
             }
         };
-        Ran { session: self, status, rounds: done, count }
+        Ran { status, rounds: done, count }
     }
 
     // What a round reads of the session
@@ -201,7 +241,7 @@ impl Session {
         for name in round.names() {
             slots[self.internal_count as usize] = match name {
                 Queued::Raised(name) => chart.tables.names[name],
-                Queued::DoneOf(row) => done_name(chart.id(row)),
+                Queued::DoneOf(row) => done_name(chart.tables.id(row)),
             };
             self.internal_count += 1;
         }
@@ -226,12 +266,27 @@ impl Session {
         self.mode == mode && is_legal(chart, configuration)
     }
 
+    /// Nothing is stored for rows that are not there, in one pass; a chart without a history has
+    /// nothing stored at all.
     fn history_fits(&self, chart: &Chart) -> bool {
-        let places: &[[u64; WORDS]] = self.history.as_chunks().0;
-        places.iter().enumerate().filter(|(_, place)| **place != [0; WORDS]).all(|(row, place)| {
-            chart.index.histories.contains(row) && can_be_stored(chart, row, RowSet(*place))
-        })
+        let histories = chart.index.histories;
+        let rows = if histories.is_empty() { 0 } else { chart.tables.row_count() };
+        let (places, beyond) = self.history.split_at(rows * WORDS);
+        let places: &[[u64; WORDS]] = places.as_chunks().0;
+        is_blank(beyond)
+            && places
+                .iter()
+                .enumerate()
+                .filter(|(_, place)| **place != [0; WORDS])
+                .all(|(row, place)| histories.contains(row) && can_be_stored(chart, row, RowSet(*place)))
     }
+}
+
+/// Whether all of it is zero: without a way out at the first that is not, so that many are looked at
+/// in one step.
+#[inline]
+fn is_blank<T: Copy + Default + BitOr<Output = T> + PartialEq>(part: &[T]) -> bool {
+    part.iter().fold(T::default(), |bits, &each| bits | each) == T::default()
 }
 
 /// The oldest name leaves, the others move up.
@@ -246,9 +301,9 @@ fn queue_is_well_formed(queue: &[u8; QUEUE_BYTES], count: u64) -> bool {
     if count > QUEUE_NAMES as u64 {
         return false;
     }
-    let slots: &[Slot] = queue.as_chunks().0;
-    let (used, unused) = slots.split_at(count as usize);
-    used.iter().all(holds_name) && unused.iter().all(|slot| *slot == [0; SLOT])
+    let (used, unused) = queue.split_at(count as usize * SLOT);
+    let used: &[Slot] = used.as_chunks().0;
+    used.iter().all(holds_name) && is_blank(unused)
 }
 
 /// States, parallels and finals alone, with their parents; one child of the root and of each
