@@ -12,6 +12,7 @@ mod rules;
 mod selection;
 mod session;
 
+pub use chart::is_compiled;
 pub use rules::verdict;
 pub use session::{Ran, Session, Started, Stepped};
 

@@ -301,6 +301,11 @@ impl Index {
     }
 }
 
+/// Whether what is lent is a compiled chart.
+pub fn is_compiled(numbers: &[u64], names: &[u8]) -> bool {
+    Chart::open(numbers, names).is_some()
+}
+
 /// A chart that is known to be compiled.
 pub struct Chart<'a> {
     pub tables: Tables<'a>,
