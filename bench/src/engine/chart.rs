@@ -14,6 +14,7 @@ pub const STATE: u64 = 1;
 pub const PARALLEL: u64 = 2;
 pub const FINAL: u64 = 3;
 pub const SHALLOW: u64 = 4;
+pub const DEEP: u64 = 5;
 
 const HEADER: usize = 6;
 
@@ -68,6 +69,12 @@ impl Row<'_> {
     #[inline]
     pub fn block(self) -> Part {
         Part { start: self.0[9], count: self.0[10] }
+    }
+
+    /// Neither a list nor a block, as they are spelt where there is none.
+    #[inline]
+    pub fn has_no_parts(self) -> bool {
+        self.0[3..].iter().fold(0, |bits, cell| bits | cell) == 0
     }
 
     #[inline]
@@ -187,6 +194,11 @@ impl<'a> Tables<'a> {
         Row(&self.rows[row])
     }
 
+    #[inline]
+    pub fn row_if_any(&self, row: usize) -> Option<Row<'a>> {
+        self.rows.get(row).map(Row)
+    }
+
     /// The id of a row that has one.
     #[inline]
     pub fn id(&self, row: usize) -> &'a Slot {
@@ -239,85 +251,109 @@ impl<'a> Sets<'a> {
     }
 }
 
-/// What the rounds ask most often, worked out once for each call.
-pub struct Index {
+/// The rows by what they are.
+pub struct Kinds {
     pub atomic: RowSet,
     pub parallel: RowSet,
     /// The root and the compound states.
     pub compound: RowSet,
     pub finals: RowSet,
     pub histories: RowSet,
+}
+
+impl Kinds {
+    const NONE: Kinds = Kinds {
+        atomic: RowSet::EMPTY,
+        parallel: RowSet::EMPTY,
+        compound: RowSet::EMPTY,
+        finals: RowSet::EMPTY,
+        histories: RowSet::EMPTY,
+    };
+
+    pub fn of(tables: &Tables, sets: Sets) -> Kinds {
+        let mut kinds = Kinds::NONE;
+        kinds.sort(tables, sets);
+        kinds
+    }
+
+    fn sort(&mut self, tables: &Tables, sets: Sets) {
+        for row in 0..tables.row_count() {
+            let set = match tables.row(row).kind() {
+                STATE if sets.children(row).is_empty() => &mut self.atomic,
+                STATE => &mut self.compound,
+                PARALLEL => &mut self.parallel,
+                FINAL => &mut self.finals,
+                _ if row == ROOT => &mut self.compound,
+                _ => &mut self.histories,
+            };
+            set.note(row);
+        }
+        self.atomic |= self.finals;
+    }
+}
+
+/// What the rounds ask most often, worked out once for each call.
+pub struct Index {
+    pub kinds: Kinds,
     /// The rows that have a transition without a descriptor.
     pub eventless: RowSet,
     /// The rows that have one with a descriptor.
     pub by_event: RowSet,
     /// The transitions of row i are those from number i on to number i + 1.
     first_transition: [u16; MOST_ROWS + 1],
-    spellings: [Spelling; MOST_NAMES],
+    spellings: Spellings,
 }
 
-impl Index {
-    fn of(tables: &Tables, sets: Sets, spellings: [Spelling; MOST_NAMES]) -> Index {
-        let mut index = Index {
-            atomic: RowSet::EMPTY,
-            parallel: RowSet::EMPTY,
-            compound: RowSet::EMPTY,
-            finals: RowSet::EMPTY,
-            histories: RowSet::EMPTY,
-            eventless: RowSet::EMPTY,
-            by_event: RowSet::EMPTY,
-            first_transition: [0; MOST_ROWS + 1],
-            spellings,
-        };
-        let mut transitions = tables.all_transitions().peekable();
-        let mut passed = 0;
-        for row in 0..tables.row_count() {
-            index.sort_in(row, tables.row(row).kind(), sets.children(row).is_empty());
-            while let Some(transition) = transitions.next_if(|one| one.source() == row) {
-                match transition.descriptors().count {
-                    0 => index.eventless.insert(row),
-                    _ => index.by_event.insert(row),
-                }
-                passed += 1;
-            }
-            index.first_transition[row + 1] = passed;
-        }
-        index
-    }
+/// How the names are spelt.
+pub type Spellings = [Spelling; MOST_NAMES];
+pub const NO_SPELLINGS: Spellings = [Spelling::STAR_ALONE; MOST_NAMES];
 
-    #[inline]
-    fn sort_in(&mut self, row: usize, kind: u64, childless: bool) {
-        match kind {
-            STATE if childless => self.atomic.insert(row),
-            STATE => self.compound.insert(row),
-            PARALLEL => self.parallel.insert(row),
-            FINAL => {
-                self.atomic.insert(row);
-                self.finals.insert(row);
+impl Index {
+    pub const BLANK: Index = Index {
+        kinds: Kinds::NONE,
+        eventless: RowSet::EMPTY,
+        by_event: RowSet::EMPTY,
+        first_transition: [0; MOST_ROWS + 1],
+        spellings: NO_SPELLINGS,
+    };
+
+    /// The transitions are in the order of their sources.
+    fn note_transitions(&mut self, tables: &Tables) {
+        let mut passed = 0;
+        let mut rows = 0;
+        for transition in tables.all_transitions() {
+            let source = transition.source();
+            self.first_transition[rows + 1..=source].fill(passed);
+            rows = source;
+            passed += 1;
+            self.first_transition[source + 1] = passed;
+            match transition.descriptors().count {
+                0 => self.eventless.note(source),
+                _ => self.by_event.note(source),
             }
-            _ if row == ROOT => self.compound.insert(row),
-            _ => self.histories.insert(row),
         }
+        self.first_transition[rows + 1..=tables.row_count()].fill(passed);
     }
 }
 
 /// Whether what is lent is a compiled chart.
 pub fn is_compiled(numbers: &[u64], names: &[u8]) -> bool {
-    Chart::open(numbers, names).is_some()
+    Chart::open(numbers, names, &mut { Index::BLANK }).is_some()
 }
 
 /// A chart that is known to be compiled.
 pub struct Chart<'a> {
     pub tables: Tables<'a>,
-    pub index: Index,
+    pub index: &'a Index,
     sets: Sets<'a>,
     defaults: &'a [[u64; WORDS]],
 }
 
 impl<'a> Chart<'a> {
-    /// Nothing, if what is lent "differs from what its own rows compile to, or they break a rule".
+    /// Nothing, if what is lent "differs from what its own rows compile to, or they break a rule". A blank
+    /// index is lent to be filled.
     #[inline]
-    pub fn open(numbers: &'a [u64], names: &'a [u8]) -> Option<Chart<'a>> {
+    pub fn open(numbers: &'a [u64], names: &'a [u8], index: &'a mut Index) -> Option<Chart<'a>> {
         let counts = Counts::read(numbers)?;
         if numbers.len() != counts.compiled_cells() {
             return None;
@@ -330,13 +366,28 @@ impl<'a> Chart<'a> {
         let (children, sets) = sets.split_at(rows);
         let (defaults, anchors) = sets.split_at(rows);
         let sets = Sets { ancestors, descendants, children };
-        let spellings = rules::spellings(&tables)?;
-        let holds = rules::is_tree_of(&tables, sets)
-            && rules::lists_fit(&tables, sets)
-            && rules::transitions_fit(&tables)
-            && (0..rows).all(|row| rules::defaults(&tables, sets, row).0 == defaults[row])
+        let known = rules::is_sized(&tables)
+            && rules::is_named(&tables, &mut index.spellings)
+            && rules::is_tree_of(&tables, sets)
+            && rules::transitions_fit(&tables);
+        if !known {
+            return None;
+        }
+        index.kinds.sort(&tables, sets);
+        let kinds = &index.kinds;
+        let holds = rules::lists_fit(&tables, sets, kinds)
+            && (0..rows).all(|row| rules::defaults(&tables, sets, kinds, row).0 == defaults[row])
             && (0..anchors.len()).all(|number| rules::anchors(&tables, number).0 == anchors[number]);
-        holds.then(|| Chart { tables, index: Index::of(&tables, sets, spellings), sets, defaults })
+        if !holds {
+            return None;
+        }
+        index.note_transitions(&tables);
+        Some(Chart { tables, index, sets, defaults })
+    }
+
+    #[inline]
+    pub fn kinds(&self) -> &'a Kinds {
+        &self.index.kinds
     }
 
     #[inline]
@@ -386,7 +437,7 @@ impl<'a> Chart<'a> {
         let parent = row.parent() as usize;
         match row.kind() {
             SHALLOW => self.children(parent) & configuration,
-            _ => self.descendants(parent) & configuration & self.index.atomic,
+            _ => self.descendants(parent) & configuration & self.kinds().atomic,
         }
     }
 

@@ -52,21 +52,22 @@ fn words(slot: &Slot) -> [u64; SLOT / HEAD] {
     std::array::from_fn(|place| u64::from_le_bytes(words[place]))
 }
 
-/// The length of a slot's text, if nothing but zeros comes behind it and there is a zero at all.
-/// Eight bytes at a time.
+/// All that stands in front of the zeros at the slot's end. A name is short mostly, so that all is in
+/// the first word.
 #[inline]
-fn length_of(slot: &Slot) -> Option<usize> {
-    const LOW: u64 = 0x0101_0101_0101_0101;
-    let words = words(slot);
-    let zeros = |word: u64| word.wrapping_sub(LOW) & !word & (LOW << 7);
-    let place = words.iter().position(|&word| zeros(word) != 0)?;
-    let in_word = zeros(words[place]).trailing_zeros() / 8;
-    let behind = words[place + 1..].iter().fold(words[place] >> (8 * in_word), |bits, word| bits | word);
-    (behind == 0).then_some(place * HEAD + in_word as usize)
+fn text_of(slot: &Slot) -> &[u8] {
+    let [head, rest @ ..] = words(slot);
+    let length = |word: u64| HEAD - word.leading_zeros() as usize / 8;
+    if rest.iter().fold(0, |bits, word| bits | word) == 0 {
+        return &slot[..length(head)];
+    }
+    let last = rest.iter().rposition(|&word| word != 0).unwrap_or(0);
+    &slot[..HEAD * (last + 1) + length(rest[last])]
 }
 
+/// A name, and behind it zeros alone: since no name has a zero in it.
 pub fn holds_name(slot: &Slot) -> bool {
-    length_of(slot).is_some_and(|length| is_name(&slot[..length]))
+    is_name(text_of(slot))
 }
 
 /// What a slot holds: how long the name is that an event has to begin with to match it, and whether
@@ -82,13 +83,15 @@ impl Spelling {
     /// Nothing, if the slot holds no descriptor.
     #[inline]
     pub fn of(slot: &Slot) -> Option<Spelling> {
-        let text = &slot[..length_of(slot)?];
+        let text = text_of(slot);
         if is_name(text) {
             return Some(Spelling(text.len() as u8));
         }
         match text {
             b"*" => Some(Spelling::STAR_ALONE),
-            [name @ .., b'.', b'*'] if is_name(name) => Some(Spelling(name.len() as u8 | STAR)),
+            [name @ .., b'.', b'*'] if text.len() < SLOT && is_name(name) => {
+                Some(Spelling(name.len() as u8 | STAR))
+            }
             _ => None,
         }
     }
@@ -104,6 +107,17 @@ impl Spelling {
         self.0 <= MOST_ID_BYTES && class(slot[0]) & FIRST_OF_ID != 0
     }
 
+    /// A number for each slot that is spelt so, seldom the same for two.
+    #[inline]
+    pub fn key(self, slot: &Slot) -> usize {
+        let [head, rest @ ..] = words(slot);
+        let mixed = match self.0 as usize {
+            ..=HEAD => head,
+            _ => rest.iter().fold(head, |mixed, word| mixed.rotate_left(23) ^ word),
+        };
+        (mixed.wrapping_mul(0x9e37_79b9_7f4a_7c15) >> 40) as usize
+    }
+
     /// Whether the descriptor that is spelt so matches the event. The first eight bytes, which tell
     /// most names apart, are compared as a word.
     #[inline]
@@ -113,13 +127,6 @@ impl Spelling {
             && (length <= HEAD || descriptor[HEAD..length] == event.slot[HEAD..length])
             && (length == 0 || matches!(event.slot[length], 0 | b'.'))
     }
-}
-
-/// A number for each slot, seldom the same for two: which of so many places it is looked for first.
-#[inline]
-pub fn place_of(slot: &Slot, places: usize) -> usize {
-    let mixed = words(slot).iter().fold(0u64, |mixed, word| (mixed ^ word).rotate_left(23));
-    (mixed.wrapping_mul(0x9e37_79b9_7f4a_7c15) >> 40) as usize % places
 }
 
 /// The name of an event, its first eight bytes as a word.

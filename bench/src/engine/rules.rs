@@ -2,8 +2,8 @@
 
 use super::chart::*;
 use super::limits::*;
-use super::names::{place_of, Spelling};
-use super::row_set::RowSet;
+use super::names::Spelling;
+use super::row_set::{has, RowSet};
 
 /// The answer of compiling: 0, or the first rule broken.
 pub fn verdict(numbers: &[u64], names: &[u8], place: usize, name_place: usize) -> u32 {
@@ -20,11 +20,11 @@ fn broken_rule(tables: &Tables) -> u32 {
     if !is_sized(tables) {
         return 1;
     }
-    if named(tables).is_none() {
+    if !is_named(tables, &mut { NO_SPELLINGS }) {
         return 2;
     }
     let Some(tree) = Tree::grown(tables) else { return 3 };
-    if !lists_fit(tables, tree.sets()) {
+    if !lists_fit(tables, tree.sets(), &Kinds::of(tables, tree.sets())) {
         return 4;
     }
     if !transitions_fit(tables) {
@@ -33,32 +33,26 @@ fn broken_rule(tables: &Tables) -> u32 {
     0
 }
 
-/// How all names are spelt, if rules 1 and 2 are kept.
-pub fn spellings(tables: &Tables) -> Option<[Spelling; MOST_NAMES]> {
-    if is_sized(tables) {
-        named(tables)
-    } else {
-        None
-    }
-}
-
 // Rule 1
 
-fn is_sized(tables: &Tables) -> bool {
+pub fn is_sized(tables: &Tables) -> bool {
     let rows = tables.row_count() as u64;
     let names = tables.names.len() as u64;
     let is_row_or_none = |number: u64| number < rows || number == NONE;
     let is_inside =
         |part: Part, count: usize| part.start <= count as u64 && part.count <= count as u64 - part.start;
     let is_block = |part: Part| part.count <= MOST_ACTIONS_EACH && is_inside(part, tables.actions.len());
+    let parts_fit = |row: Row| {
+        is_block(row.entry())
+            && is_block(row.exit())
+            && is_inside(row.list(), tables.references.len())
+            && is_block(row.block())
+    };
     let row_fits = |row: Row| {
         row.kind() <= 5
             && is_row_or_none(row.parent())
             && (row.id() < names || row.id() == NONE)
-            && is_block(row.entry())
-            && is_block(row.exit())
-            && is_inside(row.list(), tables.references.len())
-            && is_block(row.block())
+            && (row.has_no_parts() || parts_fit(row))
     };
     let transition_fits = |transition: Transition| {
         (transition.source() as u64) < rows
@@ -83,19 +77,19 @@ fn is_sized(tables: &Tables) -> bool {
 
 // Rule 2
 
-fn named(tables: &Tables) -> Option<[Spelling; MOST_NAMES]> {
-    let mut spellings = [Spelling::STAR_ALONE; MOST_NAMES];
-    for (slot, spelling) in tables.names.iter().zip(&mut spellings) {
-        *spelling = Spelling::of(slot)?;
+/// Notes how the names are spelt.
+pub fn is_named(tables: &Tables, spellings: &mut Spellings) -> bool {
+    for (slot, place) in tables.names.iter().zip(&mut *spellings) {
+        let Some(spelling) = Spelling::of(slot) else { return false };
+        *place = spelling;
     }
     let raise_fits = |&[what, name, ..]: &[u64; 4]| what != 0 || spellings[name as usize].is_name();
-    let fit = tables.actions.iter().all(raise_fits) && ids_fit(tables, &spellings);
-    fit.then_some(spellings)
+    tables.actions.iter().all(raise_fits) && ids_fit(tables, spellings)
 }
 
 /// Every row but the root has an id, and they all differ: each goes to a place that its bytes tell,
 /// or to the next free one.
-fn ids_fit(tables: &Tables, spellings: &[Spelling; MOST_NAMES]) -> bool {
+fn ids_fit(tables: &Tables, spellings: &Spellings) -> bool {
     const PLACES: usize = 2 * MOST_ROWS;
     let mut taken = [ROOT as u8; PLACES];
     if tables.row(ROOT).id() != NONE {
@@ -106,11 +100,11 @@ fn ids_fit(tables: &Tables, spellings: &[Spelling; MOST_NAMES]) -> bool {
         if name == NONE {
             return false;
         }
-        let slot = &tables.names[name as usize];
-        if !spellings[name as usize].is_id(slot) {
+        let (slot, spelling) = (&tables.names[name as usize], spellings[name as usize]);
+        if !spelling.is_id(slot) {
             return false;
         }
-        let mut place = place_of(slot, PLACES);
+        let mut place = spelling.key(slot) % PLACES;
         while taken[place] != ROOT as u8 {
             if tables.id(taken[place].into()) == slot {
                 return false;
@@ -124,17 +118,25 @@ fn ids_fit(tables: &Tables, spellings: &[Spelling; MOST_NAMES]) -> bool {
 
 // Rule 3
 
-/// Which kind may stand under which: by the parent's kind, then by the child's.
-#[rustfmt::skip]
-const MAY_STAND: [[bool; 6]; 6] = [
-    // root   state  parallel final  shallow deep
-    [  false, true,  true,    true,  false,  false ],
-    [  false, true,  true,    true,  true,   true  ],
-    [  false, true,  true,    false, true,   true  ],
-    [  false, false, false,   false, false,  false ],
-    [  false, false, false,   false, false,  false ],
-    [  false, false, false,   false, false,  false ],
+/// Which kinds may stand under a row, by its kind: a bit for each.
+const MAY_STAND: [u8; 6] = [
+    under(&[STATE, PARALLEL, FINAL]),
+    under(&[STATE, PARALLEL, FINAL, SHALLOW, DEEP]),
+    under(&[STATE, PARALLEL, SHALLOW, DEEP]),
+    under(&[]),
+    under(&[]),
+    under(&[]),
 ];
+
+const fn under(kinds: &[u64]) -> u8 {
+    let mut bits = 0;
+    let mut place = 0;
+    while place < kinds.len() {
+        bits |= 1 << kinds[place];
+        place += 1;
+    }
+    bits
+}
 
 fn root_fits(tables: &Tables) -> bool {
     tables.row(ROOT).kind() == 0 && tables.row(ROOT).parent() == NONE
@@ -143,34 +145,33 @@ fn root_fits(tables: &Tables) -> bool {
 /// Whether a row has a parent that it may stand under, and follows in document order; told are the
 /// ancestors of the row before.
 #[inline]
-fn stands_right(tables: &Tables, number: usize, before: RowSet) -> bool {
+fn stands_right(tables: &Tables, number: usize, before: &[u64; WORDS]) -> bool {
     let row = tables.row(number);
     let parent = row.parent() as usize;
-    let follows = parent == number - 1 || row.parent() != NONE && before.contains(parent);
-    follows && MAY_STAND[tables.row(parent).kind() as usize][row.kind() as usize]
+    let follows = parent == number - 1 || row.parent() != NONE && has(before, parent);
+    follows && MAY_STAND[tables.row(parent).kind() as usize] >> row.kind() & 1 != 0
 }
 
 /// Whether a row that needs a child has one; told are the rows that have a history.
 #[inline]
-fn has_needed_child(tables: &Tables, row: usize, children: RowSet, owners: RowSet) -> bool {
-    let needs = match tables.row(row).kind() {
-        STATE => owners.contains(row),
+fn has_needed_child(kind: u64, row: usize, childless: bool, owners: &RowSet) -> bool {
+    let needs = match kind {
+        STATE => has(&owners.0, row),
         kind => kind == 0 || kind == PARALLEL,
     };
-    !needs || !children.is_empty()
+    !(needs && childless)
 }
 
 /// Rule 3, and that these are the sets of the rows. Each is compared with sets of other rows that
 /// are compared themselves, those of a parent or of children: nothing is worked out beside them.
 pub fn is_tree_of(tables: &Tables, sets: Sets) -> bool {
-    let rows = tables.row_count();
     if !root_fits(tables) || !sets.ancestors(ROOT).is_empty() {
         return false;
     }
     let mut owners = RowSet::EMPTY;
     let mut histories = 0;
-    for number in 1..rows {
-        if !stands_right(tables, number, sets.ancestors(number - 1)) {
+    for number in 1..tables.row_count() {
+        if !stands_right(tables, number, &sets.ancestors[number - 1]) {
             return false;
         }
         let row = tables.row(number);
@@ -179,28 +180,38 @@ pub fn is_tree_of(tables: &Tables, sets: Sets) -> bool {
             return false;
         }
         if row.is_history() {
-            owners.insert(parent);
+            owners.note(parent);
             histories += 1;
         }
     }
+    // No row is found twice, since it has one parent.
+    found_below(tables, sets, &owners).is_some_and(|found| found + histories + 1 == tables.row_count())
+}
+
+/// How many rows the sets of children have in all, if all of them are children and the sets of
+/// descendants are as they have to be.
+fn found_below(tables: &Tables, sets: Sets, owners: &RowSet) -> Option<usize> {
     let mut found = 0;
-    for number in 0..rows {
+    for number in 0..tables.row_count() {
         let children = sets.children(number);
+        let childless = children.is_empty();
         let mut below = children;
-        for child in children.rows() {
-            if child >= rows || tables.row(child).parent() != number as u64 || tables.row(child).is_history()
-            {
-                return false;
+        if !childless {
+            for child in children.rows() {
+                let row = tables.row_if_any(child)?;
+                if row.parent() != number as u64 || row.is_history() {
+                    return None;
+                }
+                below |= sets.descendants(child);
+                found += 1;
             }
-            below |= sets.descendants(child);
-            found += 1;
         }
-        if below != sets.descendants(number) || !has_needed_child(tables, number, children, owners) {
-            return false;
+        let kind = tables.row(number).kind();
+        if below != sets.descendants(number) || !has_needed_child(kind, number, childless, owners) {
+            return None;
         }
     }
-    // No row was found twice, since it has one parent.
-    found + histories + 1 == rows
+    Some(found)
 }
 
 /// Ancestors, descendants and children of every row; histories are no one's children.
@@ -224,7 +235,7 @@ impl Tree {
         }
         let mut owners = RowSet::EMPTY;
         for number in 1..tables.row_count() {
-            if !stands_right(tables, number, tree.sets().ancestors(number - 1)) {
+            if !stands_right(tables, number, &tree.ancestors[number - 1]) {
                 return None;
             }
             let row = tables.row(number);
@@ -243,15 +254,17 @@ impl Tree {
                 tree.descendants[parent] = (tree.sets().descendants(parent) | below).0;
             }
         }
-        let fits = |row: usize| has_needed_child(tables, row, tree.sets().children(row), owners);
+        let fits = |row: usize| {
+            has_needed_child(tables.row(row).kind(), row, tree.sets().children(row).is_empty(), &owners)
+        };
         (0..tables.row_count()).all(fits).then_some(tree)
     }
 }
 
 // Rule 4
 
-pub fn lists_fit(tables: &Tables, sets: Sets) -> bool {
-    (0..tables.row_count()).all(|row| row_fits(tables, sets, row))
+pub fn lists_fit(tables: &Tables, sets: Sets, kinds: &Kinds) -> bool {
+    (0..tables.row_count()).all(|row| row_fits(tables, sets, kinds, row))
         && tables.all_transitions().all(|transition| {
             tables.listed(transition.targets()).all(|target| target != ROOT)
                 && are_apart(tables, sets, transition.targets())
@@ -259,32 +272,28 @@ pub fn lists_fit(tables: &Tables, sets: Sets) -> bool {
 }
 
 #[inline]
-fn row_fits(tables: &Tables, sets: Sets, number: usize) -> bool {
+fn row_fits(tables: &Tables, sets: Sets, kinds: &Kinds, number: usize) -> bool {
     let row = tables.row(number);
     let (list, block) = (row.list(), row.block());
+    let holds_list = has(&kinds.compound.0, number);
+    if !holds_list && !row.is_history() {
+        return list.count == 0 && block.count == 0;
+    }
     let may_act = number != ROOT && !row.is_history();
     if !may_act && (row.entry().count > 0 || row.exit().count > 0) {
         return false;
     }
-    if row.is_history() {
-        let parent = row.parent() as usize;
-        let allowed = match row.kind() {
-            SHALLOW => sets.children(parent),
-            _ => sets.descendants(parent),
-        };
-        return list.count > 0 && holds_only(tables, sets, list, allowed);
+    if holds_list {
+        let may_have_block = list.count > 0 && number != ROOT;
+        return (may_have_block || block.count == 0)
+            && holds_only(tables, sets, list, sets.descendants(number));
     }
-    if !holds_list(tables, sets, number) {
-        return list.count == 0 && block.count == 0;
-    }
-    let may_have_block = list.count > 0 && number != ROOT;
-    (may_have_block || block.count == 0) && holds_only(tables, sets, list, sets.descendants(number))
-}
-
-/// The root and the compound states.
-#[inline]
-fn holds_list(tables: &Tables, sets: Sets, row: usize) -> bool {
-    row == ROOT || tables.row(row).kind() == STATE && !sets.children(row).is_empty()
+    let parent = row.parent() as usize;
+    let allowed = match row.kind() {
+        SHALLOW => sets.children(parent),
+        _ => sets.descendants(parent),
+    };
+    list.count > 0 && holds_only(tables, sets, list, allowed)
 }
 
 #[inline]
@@ -296,6 +305,9 @@ fn holds_only(tables: &Tables, sets: Sets, list: Part, allowed: RowSet) -> bool 
 /// two is parallel.
 #[inline]
 fn are_apart(tables: &Tables, sets: Sets, list: Part) -> bool {
+    if list.count < 2 {
+        return true;
+    }
     let anchors = tables.listed(list).map(|row| anchor(tables, row));
     anchors.clone().enumerate().all(|(place, one)| {
         anchors.clone().take(place).all(|other| {
@@ -308,10 +320,10 @@ fn are_apart(tables: &Tables, sets: Sets, list: Part) -> bool {
     })
 }
 
-/// The initial list of the root or a compound state, or its first child.
+/// The initial list of the root or a compound state, or its first child; nothing for the others.
 #[inline]
-pub fn defaults(tables: &Tables, sets: Sets, row: usize) -> RowSet {
-    if !holds_list(tables, sets, row) {
+pub fn defaults(tables: &Tables, sets: Sets, kinds: &Kinds, row: usize) -> RowSet {
+    if !has(&kinds.compound.0, row) {
         return RowSet::EMPTY;
     }
     match tables.row(row).list() {

@@ -1,7 +1,7 @@
 //! Which transitions a round takes.
 
 use super::chart::{Chart, Transition, NONE, ROOT};
-use super::limits::{MOST_ROWS, MOST_TRANSITIONS};
+use super::limits::MOST_ROWS;
 use super::names::Event;
 use super::row_set::RowSet;
 use super::session::Session;
@@ -25,10 +25,9 @@ impl Taken {
 }
 
 /// Where a transition leads. Unless there is a history among its targets that is the same in every
-/// round, so that it is worked out once.
+/// round, so that it need not be worked out again.
 #[derive(Clone, Copy)]
 pub enum Route {
-    Unknown,
     Fixed { domain: Option<u8>, enters: RowSet },
     ByHistory,
 }
@@ -37,7 +36,7 @@ impl Route {
     fn of(chart: &Chart, number: usize) -> Route {
         let transition = chart.tables.transition(number);
         let targets: RowSet = chart.tables.listed(transition.targets()).collect();
-        if targets.meets(chart.index.histories) {
+        if targets.meets(chart.kinds().histories) {
             return Route::ByHistory;
         }
         if targets.is_empty() {
@@ -45,6 +44,35 @@ impl Route {
         }
         let domain = domain(chart, transition, targets);
         Route::Fixed { domain: Some(domain as u8), enters: chart.with_ancestors_below(domain, targets) }
+    }
+}
+
+/// The routes that were worked out last, each in a place of its transition's number. Few, since a call
+/// for one event has to clear them all for a round or two.
+struct Routes {
+    /// One more than the number of the transition, 0 for none.
+    known: [u16; ROUTES],
+    routes: [Route; ROUTES],
+}
+
+const ROUTES: usize = 64;
+
+impl Routes {
+    fn none() -> Routes {
+        Routes { known: [0; ROUTES], routes: [Route::ByHistory; ROUTES] }
+    }
+
+    #[inline]
+    fn get(&self, number: usize) -> Option<Route> {
+        let place = number % ROUTES;
+        (self.known[place] as usize == number + 1).then(|| self.routes[place])
+    }
+
+    fn work_out(&mut self, chart: &Chart, number: usize) -> Route {
+        let (place, route) = (number % ROUTES, Route::of(chart, number));
+        self.known[place] = number as u16 + 1;
+        self.routes[place] = route;
+        route
     }
 }
 
@@ -66,14 +94,13 @@ pub struct Selection {
     pub exits: RowSet,
     /// The first match of each row that has one in this round; those of other rows are of earlier ones.
     first_match: [u16; MOST_ROWS],
-    routes: [Route; MOST_TRANSITIONS],
+    routes: Routes,
 }
 
 impl Selection {
     pub fn none() -> Selection {
         let nothing = Taken { transition: 0, domain: None };
-        let routes = [Route::Unknown; MOST_TRANSITIONS];
-        let first_match = [0; MOST_ROWS];
+        let (first_match, routes) = ([0; MOST_ROWS], Routes::none());
         Selection { taken: [nothing; MOST_ROWS], count: 0, exits: RowSet::EMPTY, first_match, routes }
     }
 
@@ -82,10 +109,10 @@ impl Selection {
         &self.taken[..self.count]
     }
 
-    /// Known for every transition that was ever selected.
     #[inline]
-    pub fn route(&self, taken: Taken) -> Route {
-        self.routes[taken.transition as usize]
+    pub fn route(&self, chart: &Chart, taken: Taken) -> Route {
+        let number = taken.transition as usize;
+        self.routes.get(number).unwrap_or_else(|| Route::of(chart, number))
     }
 
     fn clear(&mut self) {
@@ -96,7 +123,7 @@ impl Selection {
     /// The next round of a running session: eventless transitions first, then the oldest internal
     /// event, then the oldest external one. Nothing, if the session is idle.
     pub fn choose(&mut self, chart: &Chart, session: &Session) -> Option<Trigger> {
-        let index = &chart.index;
+        let index = chart.index;
         if session.configuration().meets(index.eventless) {
             self.select(chart, session, index.eventless, |transition| transition.descriptors().count == 0);
             if self.count > 0 {
@@ -138,7 +165,7 @@ impl Selection {
             }
         }
         let mut chosen = RowSet::EMPTY;
-        for atomic in (configuration & chart.index.atomic).rows() {
+        for atomic in (configuration & chart.kinds().atomic).rows() {
             let climb = chart.ancestors(atomic) | RowSet::single(atomic);
             let Some(row) = (climb & matching).last() else { continue };
             if !chosen.contains(row) {
@@ -152,10 +179,8 @@ impl Selection {
     /// dropped otherwise.
     #[inline]
     fn admit(&mut self, chart: &Chart, session: &Session, number: usize) {
-        if let Route::Unknown = self.routes[number] {
-            self.routes[number] = Route::of(chart, number);
-        }
-        let domain = match self.routes[number] {
+        let route = self.routes.get(number).unwrap_or_else(|| self.routes.work_out(chart, number));
+        let domain = match route {
             Route::Fixed { domain, .. } => domain,
             _ => Some(domain_by_history(chart, session, chart.tables.transition(number)) as u8),
         };
@@ -202,7 +227,7 @@ fn domain_by_history(chart: &Chart, session: &Session, transition: Transition) -
 pub fn effective_targets(chart: &Chart, transition: Transition, stored: impl Fn(usize) -> RowSet) -> RowSet {
     let mut effective = RowSet::EMPTY;
     for target in chart.tables.listed(transition.targets()) {
-        if !chart.index.histories.contains(target) {
+        if !chart.kinds().histories.contains(target) {
             effective.insert(target);
             continue;
         }
@@ -217,7 +242,7 @@ pub fn effective_targets(chart: &Chart, transition: Transition, stored: impl Fn(
 /// The source itself, or its nearest ancestor that is compound or the root and has all targets
 /// below it.
 fn domain(chart: &Chart, transition: Transition, targets: RowSet) -> usize {
-    let fits = |row: usize| chart.index.compound.contains(row) && targets.is_within(chart.descendants(row));
+    let fits = |row: usize| chart.kinds().compound.contains(row) && targets.is_within(chart.descendants(row));
     let source = transition.source();
     if transition.is_internal() && fits(source) {
         return source;

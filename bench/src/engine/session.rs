@@ -1,7 +1,7 @@
 //! The session and its calls.
 
 use super::answers::*;
-use super::chart::{Chart, ROOT, SHALLOW};
+use super::chart::{Chart, Index, ROOT, SHALLOW};
 use super::limits::{MOST_ROWS, QUEUE_BYTES, QUEUE_NAMES, WORDS};
 use super::names::{done_name, holds_name, is_name, Slot, SLOT};
 use super::round::{Queued, Round, DRAFT};
@@ -75,7 +75,8 @@ impl Session {
     pub fn start(&mut self, numbers: &[u64], names: &[u8], trace: &mut [u32]) -> Started {
         *self = Session::ENDED;
         let refused = |answer| Started { answer, count: 0 };
-        let Some(chart) = Chart::open(numbers, names) else { return refused(BAD_CHART) };
+        let mut index = Index::BLANK;
+        let Some(chart) = Chart::open(numbers, names, &mut index) else { return refused(BAD_CHART) };
         let mut draft = [0; DRAFT];
         let mut round = Round::over(&mut draft);
         round.start(&chart);
@@ -92,7 +93,8 @@ impl Session {
     }
 
     pub fn post(&mut self, numbers: &[u64], names: &[u8], name: &[u8]) -> u32 {
-        match Chart::open(numbers, names) {
+        let mut index = Index::BLANK;
+        match Chart::open(numbers, names, &mut index) {
             None => BAD_CHART,
             Some(chart) if !self.is_well_formed(&chart) => BAD_SESSION,
             Some(_) => self.post_known(name),
@@ -100,7 +102,8 @@ impl Session {
     }
 
     pub fn run(&mut self, numbers: &[u64], names: &[u8], rounds: u32, trace: &mut [u32]) -> Ran {
-        match Chart::open(numbers, names) {
+        let mut index = Index::BLANK;
+        match Chart::open(numbers, names, &mut index) {
             None => Ran::refused(BAD_CHART),
             Some(chart) if !self.is_well_formed(&chart) => Ran::refused(BAD_SESSION),
             Some(chart) => self.run_known(&chart, rounds, trace),
@@ -117,7 +120,8 @@ impl Session {
         rounds: u32,
         trace: &mut [u32],
     ) -> Stepped {
-        let (answer, ran) = match Chart::open(numbers, names) {
+        let mut index = Index::BLANK;
+        let (answer, ran) = match Chart::open(numbers, names, &mut index) {
             None => (BAD_CHART, Ran::refused(BAD_CHART)),
             Some(chart) if !self.is_well_formed(&chart) => (BAD_SESSION, Ran::refused(BAD_SESSION)),
             Some(chart) => (self.post_known(name), self.run_known(&chart, rounds, trace)),
@@ -225,7 +229,7 @@ impl Session {
 
     /// Each exited owner of a history stores what was active.
     fn store(&mut self, chart: &Chart, exits: RowSet) {
-        for history in chart.index.histories.rows() {
+        for history in chart.kinds().histories.rows() {
             if exits.contains(chart.parent(history)) {
                 let set = chart.to_store(self.configuration(), history);
                 self.history.as_chunks_mut().0[history] = set.0;
@@ -261,7 +265,7 @@ impl Session {
         if configuration.is_empty() {
             return self.mode == MODE_ENDED && self.internal_count == 0 && self.external_count == 0;
         }
-        let done = configuration.meets(chart.children(ROOT) & chart.index.finals);
+        let done = configuration.meets(chart.children(ROOT) & chart.kinds().finals);
         let mode = if done { MODE_CLOSING } else { MODE_RUNNING };
         self.mode == mode && is_legal(chart, configuration)
     }
@@ -269,7 +273,7 @@ impl Session {
     /// Nothing is stored for rows that are not there, in one pass; a chart without a history has
     /// nothing stored at all.
     fn history_fits(&self, chart: &Chart) -> bool {
-        let histories = chart.index.histories;
+        let histories = chart.kinds().histories;
         let rows = if histories.is_empty() { 0 } else { chart.tables.row_count() };
         let (places, beyond) = self.history.split_at(rows * WORDS);
         let places: &[[u64; WORDS]] = places.as_chunks().0;
@@ -309,8 +313,8 @@ fn queue_is_well_formed(queue: &[u8; QUEUE_BYTES], count: u64) -> bool {
 /// States, parallels and finals alone, with their parents; one child of the root and of each
 /// compound state, all children of each parallel.
 fn is_legal(chart: &Chart, configuration: RowSet) -> bool {
-    let index = &chart.index;
-    let real = (index.atomic | index.parallel | index.compound) - RowSet::single(ROOT);
+    let kinds = chart.kinds();
+    let real = (kinds.atomic | kinds.parallel | kinds.compound) - RowSet::single(ROOT);
     let with_root = configuration | RowSet::single(ROOT);
     configuration.is_within(real)
         && configuration.rows().all(|row| with_root.contains(chart.parent(row)))
@@ -319,9 +323,9 @@ fn is_legal(chart: &Chart, configuration: RowSet) -> bool {
 
 /// Whether each of the owners has the children in the set that it has to have.
 fn has_right_children(chart: &Chart, set: RowSet, owners: RowSet) -> bool {
-    let index = &chart.index;
-    (owners & index.parallel).rows().all(|row| chart.children(row).is_within(set))
-        && (owners & index.compound).rows().all(|row| (chart.children(row) & set).has_one())
+    let kinds = chart.kinds();
+    (owners & kinds.parallel).rows().all(|row| chart.children(row).is_within(set))
+        && (owners & kinds.compound).rows().all(|row| (chart.children(row) & set).has_one())
 }
 
 /// Whether the history's parent would store this set in some legal configuration.
@@ -333,6 +337,6 @@ fn can_be_stored(chart: &Chart, history: usize, set: RowSet) -> bool {
         return set.is_within(chart.children(parent)) && has_right_children(chart, set, owner);
     }
     let filled = chart.with_ancestors_below(parent, set & chart.descendants(parent));
-    set.is_within(chart.descendants(parent) & chart.index.atomic)
+    set.is_within(chart.descendants(parent) & chart.kinds().atomic)
         && has_right_children(chart, filled, filled | owner)
 }

@@ -18,7 +18,9 @@ const _: () = assert!(size_of::<Session>() == 12_344);
 /// As for each function here: every place is there, aligned, as long as is said, and apart from the
 /// others if it is written.
 unsafe fn lent<'a>(chart: &Chart) -> (&'a [u64], &'a [u8]) {
-    unsafe { (slice::from_raw_parts(chart.numbers, chart.cells), slice::from_raw_parts(chart.names, chart.bytes)) }
+    unsafe {
+        (slice::from_raw_parts(chart.numbers, chart.cells), slice::from_raw_parts(chart.names, chart.bytes))
+    }
 }
 
 /// # Safety
