@@ -3,7 +3,7 @@
 use super::chart::{Chart, Part, ROOT};
 use super::limits::QUEUE_NAMES;
 use super::row_set::RowSet;
-use super::selection::{effective_targets, Route, Selection};
+use super::selection::{effective_targets, Selection};
 use super::session::Session;
 
 const EXITED: u32 = 1 << 16;
@@ -94,7 +94,7 @@ impl Round<'_> {
         let mut targets = RowSet::EMPTY;
         let mut fallen = RowSet::EMPTY;
         for &taken in selection.taken() {
-            if let Route::Fixed { enters, .. } = selection.route(chart, taken) {
+            if let Some(enters) = selection.enters(chart, taken) {
                 targets |= enters;
                 continue;
             }

@@ -27,12 +27,20 @@ impl Taken {
 /// Where a transition leads. Unless there is a history among its targets that is the same in every
 /// round, so that it need not be worked out again.
 #[derive(Clone, Copy)]
-pub enum Route {
+enum Route {
     Fixed { domain: Option<u8>, enters: RowSet },
     ByHistory,
 }
 
 impl Route {
+    fn enters(self) -> Option<RowSet> {
+        match self {
+            Route::Fixed { enters, .. } => Some(enters),
+            Route::ByHistory => None,
+        }
+    }
+
+    #[inline(never)]
     fn of(chart: &Chart, number: usize) -> Route {
         let transition = chart.tables.transition(number);
         let targets: RowSet = chart.tables.listed(transition.targets()).collect();
@@ -63,16 +71,19 @@ impl Routes {
     }
 
     #[inline]
-    fn get(&self, number: usize) -> Option<Route> {
+    fn get(&self, number: usize) -> Option<&Route> {
         let place = number % ROUTES;
-        (self.known[place] as usize == number + 1).then(|| self.routes[place])
+        (self.known[place] as usize == number + 1).then_some(&self.routes[place])
     }
 
-    fn work_out(&mut self, chart: &Chart, number: usize) -> Route {
-        let (place, route) = (number % ROUTES, Route::of(chart, number));
-        self.known[place] = number as u16 + 1;
-        self.routes[place] = route;
-        route
+    #[inline]
+    fn known(&mut self, chart: &Chart, number: usize) -> &Route {
+        let place = number % ROUTES;
+        if self.known[place] as usize != number + 1 {
+            self.routes[place] = Route::of(chart, number);
+            self.known[place] = number as u16 + 1;
+        }
+        &self.routes[place]
     }
 }
 
@@ -109,10 +120,15 @@ impl Selection {
         &self.taken[..self.count]
     }
 
+    /// What a transition enters that is taken, unless that is a matter of histories.
     #[inline]
-    pub fn route(&self, chart: &Chart, taken: Taken) -> Route {
+    pub fn enters(&self, chart: &Chart, taken: Taken) -> Option<RowSet> {
         let number = taken.transition as usize;
-        self.routes.get(number).unwrap_or_else(|| Route::of(chart, number))
+        match self.routes.get(number) {
+            Some(Route::Fixed { enters, .. }) => Some(*enters),
+            Some(Route::ByHistory) => None,
+            None => Route::of(chart, number).enters(),
+        }
     }
 
     fn clear(&mut self) {
@@ -179,9 +195,8 @@ impl Selection {
     /// dropped otherwise.
     #[inline]
     fn admit(&mut self, chart: &Chart, session: &Session, number: usize) {
-        let route = self.routes.get(number).unwrap_or_else(|| self.routes.work_out(chart, number));
-        let domain = match route {
-            Route::Fixed { domain, .. } => domain,
+        let domain = match self.routes.known(chart, number) {
+            Route::Fixed { domain, .. } => *domain,
             _ => Some(domain_by_history(chart, session, chart.tables.transition(number)) as u8),
         };
         let candidate = Taken { transition: number as u16, domain };
