@@ -3,10 +3,11 @@
 //! with every refusal among them.
 
 use crate::bridge::{followed, plain};
-use crate::contenders::{Calls, Engine, Follower, Lent};
+use crate::contenders::Lent;
 use crate::engine::answers::*;
 use crate::engine::limits::{BITS, MOST_ROWS, QUEUE_BYTES, WORDS};
-use crate::engine::{verdict, Ran, Session, Started};
+use crate::engine::{verdict, Session};
+use crate::given::{agreed, given, step_given, Step};
 use second::agreement::Trial;
 use second::calls::Call;
 use second::compiled::{compile, needed_place, CompiledChart, Places};
@@ -17,7 +18,6 @@ use second::limits::{HEADER_CELLS, NONE, ROW_SET_WORDS};
 use second::near_misses;
 use second::random::Random;
 use second::rules::{self, Place};
-use std::fmt::Debug;
 
 pub type Found = Result<(), String>;
 
@@ -61,19 +61,7 @@ pub fn enough_happened(coverage: &Coverage) -> Found {
     ensure(refused * 4 >= lists, || format!("only {refused} of {lists} call lists have a refusal"))
 }
 
-/// Who is held to the follower.
-fn contenders() -> Vec<Box<dyn Calls>> {
-    #[cfg_attr(not(feature = "linked"), allow(unused_mut))]
-    let mut all: Vec<Box<dyn Calls>> = vec![Box::new(Engine)];
-    #[cfg(feature = "linked")]
-    {
-        all.push(Box::new(crate::library::Library));
-        all.push(Box::new(crate::wrappers::Wrappers));
-    }
-    all
-}
-
-fn ensure(holds: bool, what: impl FnOnce() -> String) -> Found {
+pub fn ensure(holds: bool, what: impl FnOnce() -> String) -> Found {
     match holds {
         true => Ok(()),
         false => Err(what()),
@@ -82,64 +70,6 @@ fn ensure(holds: bool, what: impl FnOnce() -> String) -> Found {
 
 fn lent(places: &Places) -> Lent<'_> {
     Lent { numbers: &places.numbers, names: &places.names }
-}
-
-/// All that a call gives: answer of a start or post, status of a run, rounds, count of entries,
-/// session, and the whole trace with the places beyond the count.
-type Given = (u32, u32, u32, usize, Session, Vec<u32>);
-
-fn fresh(room: usize) -> Vec<u32> {
-    (0..room as u32).map(|place| place.wrapping_mul(0x9e37_79b9)).collect()
-}
-
-fn given(calls: &dyn Calls, call: &Call, mut session: Session, lent: Lent) -> Given {
-    match call {
-        Call::Start { room } => {
-            let mut trace = fresh(*room);
-            let Started { answer, count } = calls.start(&mut session, lent, &mut trace);
-            (answer, 0, 0, count, session, trace)
-        }
-        Call::Post { name } => {
-            let answer = calls.post(&mut session, lent, name);
-            (answer, 0, 0, 0, session, Vec::new())
-        }
-        Call::Run { rounds, room } => {
-            let mut trace = fresh(*room);
-            let Ran { status, rounds, count } = calls.run(&mut session, lent, *rounds, &mut trace);
-            (0, status, rounds, count, session, trace)
-        }
-    }
-}
-
-/// The one call for an event.
-fn step_given(calls: &dyn Calls, step: &Step, mut session: Session, lent: Lent) -> Given {
-    let mut trace = fresh(step.room);
-    let stepped = calls.step(&mut session, lent, step.name, step.rounds, &mut trace);
-    (stepped.answer, stepped.status, stepped.rounds, stepped.count, session, trace)
-}
-
-#[derive(Debug)]
-struct Step<'a> {
-    name: &'a [u8],
-    rounds: u32,
-    room: usize,
-}
-
-/// Everyone gives what the follower gives.
-fn agreed(what: &dyn Debug, by: impl Fn(&dyn Calls) -> Given) -> Result<Given, String> {
-    let expected = by(&Follower);
-    for contender in contenders() {
-        let found = by(&*contender);
-        ensure(found == expected, || {
-            let told = |(answer, status, rounds, count, session, trace): &Given| {
-                let entries = &trace[..(*count).min(trace.len())];
-                format!("{answer}, {status}, {rounds} rounds, {entries:x?}, {:?}", followed(session))
-            };
-            let (name, found, expected) = (contender.name(), told(&found), told(&expected));
-            format!("{what:?}\n{name}: {found}\nfollower: {expected}")
-        })?;
-    }
-    Ok(expected)
 }
 
 pub struct Comparison<'a> {

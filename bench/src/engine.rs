@@ -11,6 +11,9 @@ mod row_set;
 mod rules;
 mod selection;
 mod session;
+mod tables;
+mod tree;
+mod well_formed;
 
 pub use chart::is_compiled;
 pub use rules::verdict;

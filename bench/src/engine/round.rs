@@ -1,10 +1,11 @@
 //! A round, worked out beside the session: nothing is changed before it is known to fit.
 
-use super::chart::{Chart, Part, ROOT};
+use super::chart::Chart;
 use super::limits::QUEUE_NAMES;
 use super::row_set::RowSet;
 use super::selection::{effective_targets, Selection};
 use super::session::Session;
+use super::tables::{Part, ROOT};
 
 const EXITED: u32 = 1 << 16;
 const TRANSITION: u32 = 2 << 16;

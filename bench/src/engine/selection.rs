@@ -1,10 +1,11 @@
 //! Which transitions a round takes.
 
-use super::chart::{Chart, Transition, NONE, ROOT};
+use super::chart::Chart;
 use super::limits::MOST_ROWS;
 use super::names::Event;
 use super::row_set::RowSet;
 use super::session::Session;
+use super::tables::{Transition, NONE, ROOT};
 
 /// A transition that is taken. Without targets it has no domain and exits nothing.
 #[derive(Clone, Copy)]
