@@ -4,7 +4,8 @@
 # make install PREFIX=/..  header, library and auttervil.pc; make uninstall PREFIX=/.. takes them away
 # make test-c  the tests in C alone
 # make chart-a   plays chart A by the second program and prints its trace in words
-# make bench   how long the library and the second program take (docs/bench.md)
+# make bench   how long the library takes, beside the second program, an ordinary engine and where it is installed Qt 6 SCXML (docs/bench.md)
+# make bench-host   an event as a host sends it, alone; bench-qt installs Qt 6 SCXML first (Debian), bench-instructions counts instructions
 # make examples   writes the computed examples anew (crates/examples)
 # make cases   writes what the programs over the crates read and print anew
 # make expected   writes what the life cycle prints anew
@@ -21,7 +22,7 @@ VERSION = $(shell sed -n 's/^\#define AUTTERVIL_VERSION "\(.*\)"/\1/p' include/a
 LIFECYCLE = examples/lifecycle
 
 .DEFAULT_GOAL := lib
-.PHONY: test demo lib bench agree examples cases second linked clean lifecycle picture chart-a test-c expected absolute install uninstall
+.PHONY: test demo lib bench bench-host bench-qt bench-instructions agree examples cases second linked clean lifecycle picture chart-a test-c expected absolute install uninstall
 
 test:
 	@bash tests/run
@@ -90,6 +91,29 @@ bench: lib build/libmatch_bench.a
 	@AUTTERVIL_LIBRARY=$(CURDIR)/build $(CARGO) $(BENCH) --bin rounds
 	@mkdir -p build/rounds
 	@build/bench/release/rounds build/rounds
+	@$(MAKE) --no-print-directory bench-host
+
+# An event as a host sends it: the library, the engine of bench/, a switch, and Qt 6 SCXML if pkg-config knows it.
+HOST = build/host
+QT = $(shell pkg-config --exists Qt6Scxml 2> /dev/null && echo Qt6Scxml)
+QT_CFLAGS = $(if $(QT),-DWITH_QT $(shell pkg-config --cflags $(QT)))
+QT_LIBS = $(if $(QT),$(shell pkg-config --libs $(QT)))
+
+$(HOST)/host: $(LIB) include/auttervil.h $(wildcard bench/host/*.?pp) $(shell find bench/src bench/host/engine -name '*.rs')
+	@$(CARGO) --release --manifest-path bench/host/engine/Cargo.toml --target-dir $(HOST)/engine
+	@$(CXX) -std=c++17 -O2 -Wall -Wextra -fPIC $(QT_CFLAGS) -Iinclude bench/host/host.cpp -o $@ $(QT_LIBS) $(HOST)/engine/release/libengine.a $(LIB)
+
+bench-host: $(HOST)/host
+	@$(HOST)/host
+
+# Built anew, so that it has Qt in it.
+bench-qt:
+	@pkg-config --exists Qt6Scxml || apt-get install --yes --no-install-recommends qt6-scxml-dev
+	@rm -f $(HOST)/host
+	@$(MAKE) --no-print-directory bench-host
+
+bench-instructions: $(HOST)/host
+	@bench/host/instructions $(HOST)/host
 
 agree: lib
 	@AUTTERVIL_LIBRARY=$(CURDIR)/build $(CARGO) $(BENCH) --bin agree

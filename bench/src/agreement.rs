@@ -3,10 +3,11 @@
 //! with every refusal among them.
 
 use crate::bridge::{followed, plain};
-use crate::contenders::{Calls, Engine, Follower, Lent};
+use crate::contenders::Lent;
 use crate::engine::answers::*;
 use crate::engine::limits::{BITS, MOST_ROWS, QUEUE_BYTES, WORDS};
 use crate::engine::{verdict, Session};
+use crate::given::{agreed, given, step_given, Step};
 use second::agreement::Trial;
 use second::calls::Call;
 use second::compiled::{compile, needed_place, CompiledChart, Places};
@@ -50,6 +51,9 @@ pub fn enough_happened(coverage: &Coverage) -> Found {
     for answer in ANSWERS {
         ensure(coverage.get(answer) > 0, || format!("no {answer} among the calls"))?;
     }
+    for steps in ["steps: refused, but run", "steps: posted, run refused"] {
+        ensure(coverage.get(steps) > 0, || format!("no {steps}"))?;
+    }
     for charts in [LARGE_CHARTS, GREATEST_CHARTS] {
         ensure(coverage.get(charts) >= 5, || format!("{charts}: only {}", coverage.get(charts)))?;
     }
@@ -57,19 +61,7 @@ pub fn enough_happened(coverage: &Coverage) -> Found {
     ensure(refused * 4 >= lists, || format!("only {refused} of {lists} call lists have a refusal"))
 }
 
-/// Who is held to the follower.
-fn contenders() -> Vec<Box<dyn Calls>> {
-    #[cfg_attr(not(feature = "linked"), allow(unused_mut))]
-    let mut all: Vec<Box<dyn Calls>> = vec![Box::new(Engine)];
-    #[cfg(feature = "linked")]
-    {
-        all.push(Box::new(crate::library::Library));
-        all.push(Box::new(crate::wrappers::Wrappers));
-    }
-    all
-}
-
-fn ensure(holds: bool, what: impl FnOnce() -> String) -> Found {
+pub fn ensure(holds: bool, what: impl FnOnce() -> String) -> Found {
     match holds {
         true => Ok(()),
         false => Err(what()),
@@ -78,30 +70,6 @@ fn ensure(holds: bool, what: impl FnOnce() -> String) -> Found {
 
 fn lent(places: &Places) -> Lent<'_> {
     Lent { numbers: &places.numbers, names: &places.names }
-}
-
-/// All that a call gives: answer or status, rounds, count of entries, session, and the whole trace
-/// with the places beyond the count.
-type Given = (u32, u32, usize, Session, Vec<u32>);
-
-fn given(calls: &dyn Calls, call: &Call, session: Session, lent: Lent) -> Given {
-    let fresh = |room: usize| (0..room as u32).map(|place| place.wrapping_mul(0x9e37_79b9)).collect();
-    match call {
-        Call::Start { room } => {
-            let mut trace: Vec<u32> = fresh(*room);
-            let started = calls.start(session, lent, &mut trace);
-            (started.answer, 0, started.count, started.session, trace)
-        }
-        Call::Post { name } => {
-            let posted = calls.post(session, lent, name);
-            (posted.answer, 0, 0, posted.session, Vec::new())
-        }
-        Call::Run { rounds, room } => {
-            let mut trace: Vec<u32> = fresh(*room);
-            let ran = calls.run(session, lent, *rounds, &mut trace);
-            (ran.status, ran.rounds, ran.count, ran.session, trace)
-        }
-    }
 }
 
 pub struct Comparison<'a> {
@@ -138,22 +106,25 @@ impl Comparison<'_> {
         self.near_misses(trial)
     }
 
-    /// One call of everyone; the session that it leaves.
+    /// One call of everyone; the session that it leaves. A post is tried with a run behind it too,
+    /// in one call.
     fn call(&mut self, call: &Call, session: Session, lent: Lent) -> Result<Session, String> {
-        let expected = given(&Follower, call, session, lent);
-        for contender in contenders() {
-            let found = given(&*contender, call, session, lent);
-            ensure(found == expected, || {
-                let told = |(answer, rounds, count, session, trace): &Given| {
-                    let entries = &trace[..(*count).min(trace.len())];
-                    format!("{answer}, {rounds} rounds, {entries:x?}, {:?}", followed(session))
-                };
-                let (name, found, expected) = (contender.name(), told(&found), told(&expected));
-                format!("{call:?}\n{name}: {found}\nfollower: {expected}")
-            })?;
+        if let Call::Post { name } = call {
+            self.step(name, session, lent)?;
         }
-        self.count(call, expected.0);
-        Ok(expected.3)
+        let (answer, status, _, _, left, _) = agreed(call, |calls| given(calls, call, session, lent))?;
+        self.count(call, answer.max(status));
+        Ok(left)
+    }
+
+    fn step(&mut self, name: &[u8], session: Session, lent: Lent) -> Found {
+        let room = if self.random.below(4) == 0 { self.random.below(8) } else { 300 };
+        let step = Step { name, rounds: self.random.below(12) as u32, room };
+        let (answer, status, ..) = agreed(&step, |calls| step_given(calls, &step, session, lent))?;
+        self.coverage.note("steps");
+        self.coverage.note_if("steps: refused, but run", answer != DONE && status >= MORE);
+        self.coverage.note_if("steps: posted, run refused", answer == DONE && status < MORE);
+        Ok(())
     }
 
     fn count(&mut self, call: &Call, answer: u32) {

@@ -11,9 +11,13 @@ mod row_set;
 mod rules;
 mod selection;
 mod session;
+mod tables;
+mod tree;
+mod well_formed;
 
+pub use chart::is_compiled;
 pub use rules::verdict;
-pub use session::{Posted, Ran, Session, Started};
+pub use session::{Ran, Session, Started, Stepped};
 
 /// The answers that the calls give.
 pub mod answers {

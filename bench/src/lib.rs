@@ -9,6 +9,7 @@ pub mod charts;
 pub mod clock;
 pub mod contenders;
 pub mod engine;
+pub mod given;
 #[cfg(feature = "linked")]
 pub mod library;
 pub mod measure;

@@ -3,7 +3,7 @@
 #![allow(unsafe_code)]
 
 use crate::contenders::{Calls, Lent};
-use crate::engine::{Posted, Ran, Session, Started};
+use crate::engine::{Ran, Session, Started, Stepped};
 use linked::library::{self, Compiled};
 use std::mem::{align_of, offset_of, size_of};
 
@@ -35,18 +35,29 @@ impl Calls for Library {
         "library"
     }
 
-    fn start(&self, mut session: Session, lent: Lent, trace: &mut [u32]) -> Started {
-        let given = lent_session(&mut session).lend().start(compiled(lent), trace);
-        Started { session, answer: given.answer, count: given.count }
+    fn start(&self, session: &mut Session, lent: Lent, trace: &mut [u32]) -> Started {
+        let given = lent_session(session).lend().start(compiled(lent), trace);
+        Started { answer: given.answer, count: given.count }
     }
 
-    fn post(&self, mut session: Session, lent: Lent, name: &[u8]) -> Posted {
-        let answer = lent_session(&mut session).lend().post(compiled(lent), name);
-        Posted { session, answer }
+    fn post(&self, session: &mut Session, lent: Lent, name: &[u8]) -> u32 {
+        lent_session(session).lend().post(compiled(lent), name)
     }
 
-    fn run(&self, mut session: Session, lent: Lent, rounds: u32, trace: &mut [u32]) -> Ran {
-        let given = lent_session(&mut session).lend().run(compiled(lent), rounds, trace);
-        Ran { session, status: given.status, rounds: given.rounds, count: given.count }
+    fn run(&self, session: &mut Session, lent: Lent, rounds: u32, trace: &mut [u32]) -> Ran {
+        let given = lent_session(session).lend().run(compiled(lent), rounds, trace);
+        Ran { status: given.status, rounds: given.rounds, count: given.count }
+    }
+
+    fn step(
+        &self,
+        session: &mut Session,
+        lent: Lent,
+        name: &[u8],
+        rounds: u32,
+        trace: &mut [u32],
+    ) -> Stepped {
+        let given = lent_session(session).lend().step(compiled(lent), name, rounds, trace);
+        Stepped { answer: given.answer, status: given.status, rounds: given.rounds, count: given.count }
     }
 }

@@ -72,48 +72,48 @@ impl<'a> Bench<'a> {
     }
 
     fn time_run(&mut self, case: &Case, calls: &dyn Calls) -> f64 {
-        let session = ready(case, calls, &mut self.trace);
+        let mut session = ready(case, calls, &mut self.trace);
         let begun = clock::now();
-        let ran = calls.run(black_box(session), case.lent(), self.rounds, black_box(&mut self.trace));
+        let ran = calls.run(black_box(&mut session), case.lent(), self.rounds, black_box(&mut self.trace));
         let time = clock::now() - begun;
         assert_eq!((ran.status, ran.rounds), (MORE, self.rounds), "{} stops early", calls.name());
         time
     }
 
     fn time_calls(&mut self, case: &Case, calls: &dyn Calls, count: u32) -> f64 {
-        let session = ready(case, calls, &mut self.trace);
+        let mut session = ready(case, calls, &mut self.trace);
         let begun = clock::now();
         for _ in 0..count {
-            black_box(calls.run(black_box(session), case.lent(), 0, black_box(&mut self.trace)));
+            black_box(calls.run(black_box(&mut session), case.lent(), 0, black_box(&mut self.trace)));
         }
         clock::now() - begun
     }
 
     /// Both contenders do the same on this chart; the count of entries.
     fn agreed(&mut self, case: &Case) -> usize {
-        let Ran { session, status, rounds, count } = self.run_by(case, self.first);
+        let (session, ran) = self.run_by(case, self.first);
+        let Ran { status, rounds, count } = ran;
         assert_eq!((status, rounds), (MORE, self.rounds), "{} rests on {}", self.first.name(), case.about);
         let trace = self.trace[..count].to_vec();
-        let other = self.run_by(case, self.engine);
-        let same = session == other.session
-            && (status, rounds, count) == (other.status, other.rounds, other.count)
-            && trace == self.trace[..count];
+        let same = (session, ran) == self.run_by(case, self.engine) && trace == self.trace[..count];
         assert!(same, "{} and {} differ on {}", self.first.name(), self.engine.name(), case.about);
         count
     }
 
-    fn run_by(&mut self, case: &Case, calls: &dyn Calls) -> Ran {
-        let session = ready(case, calls, &mut self.trace);
-        calls.run(session, case.lent(), self.rounds, &mut self.trace)
+    fn run_by(&mut self, case: &Case, calls: &dyn Calls) -> (Session, Ran) {
+        let mut session = ready(case, calls, &mut self.trace);
+        let ran = calls.run(&mut session, case.lent(), self.rounds, &mut self.trace);
+        (session, ran)
     }
 }
 
 /// A started session with the event that sets it going.
 fn ready(case: &Case, calls: &dyn Calls, trace: &mut [u32]) -> Session {
-    let started = calls.start(Session::ENDED, case.lent(), trace);
-    let posted = calls.post(started.session, case.lent(), case.event.as_bytes());
-    assert_eq!((started.answer, posted.answer), (DONE, DONE), "{} begins {}", calls.name(), case.about);
-    posted.session
+    let mut session = Session::ENDED;
+    let started = calls.start(&mut session, case.lent(), trace).answer;
+    let posted = calls.post(&mut session, case.lent(), case.event.as_bytes());
+    assert_eq!((started, posted), (DONE, DONE), "{} begins {}", calls.name(), case.about);
+    session
 }
 
 fn point(pairs: &[(f64, f64)], each: f64, entries: f64) -> Point {

@@ -3,7 +3,7 @@
 #![allow(unsafe_code)]
 
 use crate::contenders::{Calls, Lent};
-use crate::engine::{Posted, Ran, Session, Started};
+use crate::engine::{Ran, Session, Started, Stepped};
 
 /// auttervil_chart.
 #[repr(C)]
@@ -14,25 +14,9 @@ struct Chart {
     bytes: usize,
 }
 
-/// auttervil_started.
-#[repr(C)]
-struct StartAnswer {
-    answer: u32,
-    count: usize,
-}
-
-/// auttervil_ran.
-#[repr(C)]
-struct RunAnswer {
-    status: u32,
-    rounds: u32,
-    count: usize,
-}
-
-// src/wrappers.c; a session is changed in place.
+// src/wrappers.c; a session is changed in place, and the results have the layouts of the engine's.
 unsafe extern "C" {
-    fn wrapped_start(session: *mut Session, chart: *const Chart, trace: *mut u32, room: usize)
-        -> StartAnswer;
+    fn wrapped_start(session: *mut Session, chart: *const Chart, trace: *mut u32, room: usize) -> Started;
     fn wrapped_post(session: *mut Session, chart: *const Chart, name: *const u8, length: usize) -> u32;
     fn wrapped_run(
         session: *mut Session,
@@ -40,7 +24,16 @@ unsafe extern "C" {
         rounds: u32,
         trace: *mut u32,
         room: usize,
-    ) -> RunAnswer;
+    ) -> Ran;
+    fn wrapped_step(
+        session: *mut Session,
+        chart: *const Chart,
+        name: *const u8,
+        length: usize,
+        rounds: u32,
+        trace: *mut u32,
+        room: usize,
+    ) -> Stepped;
 }
 
 fn chart(lent: Lent) -> Chart {
@@ -50,26 +43,33 @@ fn chart(lent: Lent) -> Chart {
 
 pub struct Wrappers;
 
-// Safety, of all three: places are there and as long as is said; the wrappers test the rest.
+// Safety, of all four: places are there and as long as is said; the wrappers test the rest.
 impl Calls for Wrappers {
     fn name(&self) -> &'static str {
         "wrappers"
     }
 
-    fn start(&self, mut session: Session, lent: Lent, trace: &mut [u32]) -> Started {
-        let StartAnswer { answer, count } =
-            unsafe { wrapped_start(&mut session, &chart(lent), trace.as_mut_ptr(), trace.len()) };
-        Started { session, answer, count }
+    fn start(&self, session: &mut Session, lent: Lent, trace: &mut [u32]) -> Started {
+        unsafe { wrapped_start(session, &chart(lent), trace.as_mut_ptr(), trace.len()) }
     }
 
-    fn post(&self, mut session: Session, lent: Lent, name: &[u8]) -> Posted {
-        let answer = unsafe { wrapped_post(&mut session, &chart(lent), name.as_ptr(), name.len()) };
-        Posted { session, answer }
+    fn post(&self, session: &mut Session, lent: Lent, name: &[u8]) -> u32 {
+        unsafe { wrapped_post(session, &chart(lent), name.as_ptr(), name.len()) }
     }
 
-    fn run(&self, mut session: Session, lent: Lent, rounds: u32, trace: &mut [u32]) -> Ran {
-        let RunAnswer { status, rounds, count } =
-            unsafe { wrapped_run(&mut session, &chart(lent), rounds, trace.as_mut_ptr(), trace.len()) };
-        Ran { session, status, rounds, count }
+    fn run(&self, session: &mut Session, lent: Lent, rounds: u32, trace: &mut [u32]) -> Ran {
+        unsafe { wrapped_run(session, &chart(lent), rounds, trace.as_mut_ptr(), trace.len()) }
+    }
+
+    fn step(
+        &self,
+        session: &mut Session,
+        lent: Lent,
+        name: &[u8],
+        rounds: u32,
+        trace: &mut [u32],
+    ) -> Stepped {
+        let (text, length) = (name.as_ptr(), name.len());
+        unsafe { wrapped_step(session, &chart(lent), text, length, rounds, trace.as_mut_ptr(), trace.len()) }
     }
 }

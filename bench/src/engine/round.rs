@@ -1,10 +1,11 @@
 //! A round, worked out beside the session: nothing is changed before it is known to fit.
 
-use super::chart::{Chart, Part, ROOT};
+use super::chart::Chart;
 use super::limits::QUEUE_NAMES;
 use super::row_set::RowSet;
-use super::selection::{effective_targets, Route, Selection};
+use super::selection::{effective_targets, Selection};
 use super::session::Session;
+use super::tables::{Part, ROOT};
 
 const EXITED: u32 = 1 << 16;
 const TRANSITION: u32 = 2 << 16;
@@ -94,7 +95,7 @@ impl Round<'_> {
         let mut targets = RowSet::EMPTY;
         let mut fallen = RowSet::EMPTY;
         for &taken in selection.taken() {
-            if let Route::Fixed { enters, .. } = selection.route(taken) {
+            if let Some(enters) = selection.enters(chart, taken) {
                 targets |= enters;
                 continue;
             }
@@ -102,7 +103,7 @@ impl Round<'_> {
             let transition = chart.tables.transition(taken.transition as usize);
             let effective = effective_targets(chart, transition, stored);
             targets |= chart.with_ancestors_below(domain as usize, effective);
-            let is_fallen = |&row: &usize| chart.index.histories.contains(row) && stored(row).is_empty();
+            let is_fallen = |&row: &usize| chart.kinds().histories.contains(row) && stored(row).is_empty();
             fallen |= chart.tables.listed(transition.targets()).filter(is_fallen).collect();
         }
         self.enter(chart, targets, fallen);
@@ -156,16 +157,16 @@ impl Round<'_> {
     /// Enters the rows and what they bring along. What a row brings is below it and so behind it:
     /// one walk in document order finds all.
     fn enter(&mut self, chart: &Chart, mut rows: RowSet, fallen: RowSet) {
-        let index = &chart.index;
+        let kinds = chart.kinds();
         let mut next = rows.first_from(0);
         while let Some(number) = next {
             let row = chart.tables.row(number);
             self.configuration.insert(number);
             self.push(ENTERED, number);
             self.run(chart, row.entry());
-            if !index.atomic.contains(number) {
+            if !kinds.atomic.contains(number) {
                 let children = chart.children(number);
-                if index.parallel.contains(number) {
+                if kinds.parallel.contains(number) {
                     rows |= children;
                 } else if !rows.meets(children) {
                     rows |= chart.with_ancestors_below(number, chart.defaults(number));
@@ -174,7 +175,7 @@ impl Round<'_> {
                 for history in fallen.rows().filter(|&history| chart.parent(history) == number) {
                     self.run(chart, chart.tables.row(history).block());
                 }
-            } else if index.finals.contains(number) {
+            } else if kinds.finals.contains(number) {
                 self.reach_final(chart, row.parent() as usize);
             }
             next = rows.first_from(number + 1);
@@ -189,7 +190,7 @@ impl Round<'_> {
         }
         self.queue(DONE, parent);
         let above = chart.parent(parent);
-        if chart.index.parallel.contains(above) && is_in_final_state(chart, self.configuration, above) {
+        if chart.kinds().parallel.contains(above) && is_in_final_state(chart, self.configuration, above) {
             self.queue(DONE, above);
         }
     }
@@ -198,8 +199,8 @@ impl Round<'_> {
 /// A compound state is, if a final child of it is active; a parallel, if all its children are.
 fn is_in_final_state(chart: &Chart, configuration: RowSet, row: usize) -> bool {
     let children = chart.children(row);
-    if chart.index.parallel.contains(row) {
+    if chart.kinds().parallel.contains(row) {
         return children.rows().all(|child| is_in_final_state(chart, configuration, child));
     }
-    chart.index.compound.contains(row) && children.meets(configuration & chart.index.finals)
+    chart.kinds().compound.contains(row) && children.meets(configuration & chart.kinds().finals)
 }

@@ -1,28 +1,44 @@
 //! A set of rows in four words: bit i % 64 of word i / 64 says whether row i is in it.
 
-use super::limits::{BITS, WORDS};
+use super::limits::{BITS, MOST_ROWS, WORDS};
 use std::ops::{BitAnd, BitOr, BitOrAssign, Sub};
 
 #[derive(Clone, Copy, PartialEq, Eq, Debug)]
 pub struct RowSet(pub [u64; WORDS]);
+
+/// The sets of one row each.
+static SINGLES: [RowSet; MOST_ROWS] = {
+    let mut singles = [RowSet::EMPTY; MOST_ROWS];
+    let mut row = 0;
+    while row < MOST_ROWS {
+        singles[row].0[row / BITS] = 1 << (row % BITS);
+        row += 1;
+    }
+    singles
+};
 
 impl RowSet {
     pub const EMPTY: RowSet = RowSet([0; WORDS]);
 
     #[inline]
     pub fn single(row: usize) -> RowSet {
-        let bit = 1 << (row % BITS);
-        RowSet(std::array::from_fn(|word| if word == row / BITS { bit } else { 0 }))
+        SINGLES[row % MOST_ROWS]
     }
 
     #[inline]
     pub fn contains(self, row: usize) -> bool {
-        self.0[row / BITS % WORDS] >> (row % BITS) & 1 != 0
+        has(&self.0, row)
     }
 
     #[inline]
     pub fn insert(&mut self, row: usize) {
         *self |= RowSet::single(row);
+    }
+
+    /// The same in memory, where the set is not asked at once.
+    #[inline]
+    pub fn note(&mut self, row: usize) {
+        self.0[row / BITS % WORDS] |= 1 << (row % BITS);
     }
 
     #[inline]
@@ -33,7 +49,8 @@ impl RowSet {
 
     #[inline]
     pub fn has_one(self) -> bool {
-        self.0.iter().map(|word| word.count_ones()).sum::<u32>() == 1
+        let words = self.0.iter().filter(|&&word| word != 0).count();
+        words == 1 && self.0.iter().all(|&word| word & word.wrapping_sub(1) == 0)
     }
 
     #[inline]
@@ -83,6 +100,12 @@ impl RowSet {
     fn joined(self, other: RowSet, join: impl Fn(u64, u64) -> u64) -> RowSet {
         RowSet(std::array::from_fn(|place| join(self.0[place], other.0[place])))
     }
+}
+
+/// Whether a row is in a set, where that lies.
+#[inline]
+pub fn has(words: &[u64; WORDS], row: usize) -> bool {
+    words[row / BITS % WORDS] >> (row % BITS) & 1 != 0
 }
 
 impl BitOr for RowSet {

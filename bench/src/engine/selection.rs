@@ -1,10 +1,11 @@
 //! Which transitions a round takes.
 
-use super::chart::{Chart, Transition, NONE, ROOT};
-use super::limits::{MOST_ROWS, MOST_TRANSITIONS};
+use super::chart::Chart;
+use super::limits::MOST_ROWS;
 use super::names::Event;
 use super::row_set::RowSet;
 use super::session::Session;
+use super::tables::{Transition, NONE, ROOT};
 
 /// A transition that is taken. Without targets it has no domain and exits nothing.
 #[derive(Clone, Copy)]
@@ -25,19 +26,26 @@ impl Taken {
 }
 
 /// Where a transition leads. Unless there is a history among its targets that is the same in every
-/// round, so that it is worked out once.
+/// round, so that it need not be worked out again.
 #[derive(Clone, Copy)]
-pub enum Route {
-    Unknown,
+enum Route {
     Fixed { domain: Option<u8>, enters: RowSet },
     ByHistory,
 }
 
 impl Route {
+    fn enters(self) -> Option<RowSet> {
+        match self {
+            Route::Fixed { enters, .. } => Some(enters),
+            Route::ByHistory => None,
+        }
+    }
+
+    #[inline(never)]
     fn of(chart: &Chart, number: usize) -> Route {
         let transition = chart.tables.transition(number);
         let targets: RowSet = chart.tables.listed(transition.targets()).collect();
-        if targets.meets(chart.index.histories) {
+        if targets.meets(chart.kinds().histories) {
             return Route::ByHistory;
         }
         if targets.is_empty() {
@@ -45,6 +53,38 @@ impl Route {
         }
         let domain = domain(chart, transition, targets);
         Route::Fixed { domain: Some(domain as u8), enters: chart.with_ancestors_below(domain, targets) }
+    }
+}
+
+/// The routes that were worked out last, each in a place of its transition's number. Few, since a call
+/// for one event has to clear them all for a round or two.
+struct Routes {
+    /// One more than the number of the transition, 0 for none.
+    known: [u16; ROUTES],
+    routes: [Route; ROUTES],
+}
+
+const ROUTES: usize = 64;
+
+impl Routes {
+    fn none() -> Routes {
+        Routes { known: [0; ROUTES], routes: [Route::ByHistory; ROUTES] }
+    }
+
+    #[inline]
+    fn get(&self, number: usize) -> Option<&Route> {
+        let place = number % ROUTES;
+        (self.known[place] as usize == number + 1).then_some(&self.routes[place])
+    }
+
+    #[inline]
+    fn known(&mut self, chart: &Chart, number: usize) -> &Route {
+        let place = number % ROUTES;
+        if self.known[place] as usize != number + 1 {
+            self.routes[place] = Route::of(chart, number);
+            self.known[place] = number as u16 + 1;
+        }
+        &self.routes[place]
     }
 }
 
@@ -66,14 +106,13 @@ pub struct Selection {
     pub exits: RowSet,
     /// The first match of each row that has one in this round; those of other rows are of earlier ones.
     first_match: [u16; MOST_ROWS],
-    routes: [Route; MOST_TRANSITIONS],
+    routes: Routes,
 }
 
 impl Selection {
     pub fn none() -> Selection {
         let nothing = Taken { transition: 0, domain: None };
-        let routes = [Route::Unknown; MOST_TRANSITIONS];
-        let first_match = [0; MOST_ROWS];
+        let (first_match, routes) = ([0; MOST_ROWS], Routes::none());
         Selection { taken: [nothing; MOST_ROWS], count: 0, exits: RowSet::EMPTY, first_match, routes }
     }
 
@@ -82,10 +121,15 @@ impl Selection {
         &self.taken[..self.count]
     }
 
-    /// Known for every transition that was ever selected.
+    /// What a transition enters that is taken, unless that is a matter of histories.
     #[inline]
-    pub fn route(&self, taken: Taken) -> Route {
-        self.routes[taken.transition as usize]
+    pub fn enters(&self, chart: &Chart, taken: Taken) -> Option<RowSet> {
+        let number = taken.transition as usize;
+        match self.routes.get(number) {
+            Some(Route::Fixed { enters, .. }) => Some(*enters),
+            Some(Route::ByHistory) => None,
+            None => Route::of(chart, number).enters(),
+        }
     }
 
     fn clear(&mut self) {
@@ -96,7 +140,7 @@ impl Selection {
     /// The next round of a running session: eventless transitions first, then the oldest internal
     /// event, then the oldest external one. Nothing, if the session is idle.
     pub fn choose(&mut self, chart: &Chart, session: &Session) -> Option<Trigger> {
-        let index = &chart.index;
+        let index = chart.index;
         if session.configuration().meets(index.eventless) {
             self.select(chart, session, index.eventless, |transition| transition.descriptors().count == 0);
             if self.count > 0 {
@@ -138,7 +182,7 @@ impl Selection {
             }
         }
         let mut chosen = RowSet::EMPTY;
-        for atomic in (configuration & chart.index.atomic).rows() {
+        for atomic in (configuration & chart.kinds().atomic).rows() {
             let climb = chart.ancestors(atomic) | RowSet::single(atomic);
             let Some(row) = (climb & matching).last() else { continue };
             if !chosen.contains(row) {
@@ -152,11 +196,8 @@ impl Selection {
     /// dropped otherwise.
     #[inline]
     fn admit(&mut self, chart: &Chart, session: &Session, number: usize) {
-        if let Route::Unknown = self.routes[number] {
-            self.routes[number] = Route::of(chart, number);
-        }
-        let domain = match self.routes[number] {
-            Route::Fixed { domain, .. } => domain,
+        let domain = match self.routes.known(chart, number) {
+            Route::Fixed { domain, .. } => *domain,
             _ => Some(domain_by_history(chart, session, chart.tables.transition(number)) as u8),
         };
         let candidate = Taken { transition: number as u16, domain };
@@ -202,7 +243,7 @@ fn domain_by_history(chart: &Chart, session: &Session, transition: Transition) -
 pub fn effective_targets(chart: &Chart, transition: Transition, stored: impl Fn(usize) -> RowSet) -> RowSet {
     let mut effective = RowSet::EMPTY;
     for target in chart.tables.listed(transition.targets()) {
-        if !chart.index.histories.contains(target) {
+        if !chart.kinds().histories.contains(target) {
             effective.insert(target);
             continue;
         }
@@ -217,7 +258,7 @@ pub fn effective_targets(chart: &Chart, transition: Transition, stored: impl Fn(
 /// The source itself, or its nearest ancestor that is compound or the root and has all targets
 /// below it.
 fn domain(chart: &Chart, transition: Transition, targets: RowSet) -> usize {
-    let fits = |row: usize| chart.index.compound.contains(row) && targets.is_within(chart.descendants(row));
+    let fits = |row: usize| chart.kinds().compound.contains(row) && targets.is_within(chart.descendants(row));
     let source = transition.source();
     if transition.is_internal() && fits(source) {
         return source;

@@ -1,16 +1,16 @@
 //! The session and its calls.
 
 use super::answers::*;
-use super::chart::{Chart, ROOT, SHALLOW};
+use super::chart::{Chart, Index};
 use super::limits::{MOST_ROWS, QUEUE_BYTES, QUEUE_NAMES, WORDS};
-use super::names::{done_name, holds_name, is_name, Slot, SLOT};
+use super::names::{done_name, is_name, Slot, SLOT};
 use super::round::{Queued, Round, DRAFT};
 use super::row_set::RowSet;
 use super::selection::{Selection, Trigger};
 
-const MODE_ENDED: u64 = 0;
-const MODE_RUNNING: u64 = 1;
-const MODE_CLOSING: u64 = 2;
+pub(super) const MODE_ENDED: u64 = 0;
+pub(super) const MODE_RUNNING: u64 = 1;
+pub(super) const MODE_CLOSING: u64 = 2;
 
 /// In the order in which C has it: the numbers, then the queues.
 #[repr(C)]
@@ -28,42 +28,54 @@ pub struct Session {
 }
 
 #[repr(C)]
+#[derive(Clone, Copy, PartialEq, Eq, Debug)]
 pub struct Started {
-    pub session: Session,
     pub answer: u32,
     pub count: usize,
 }
 
 #[repr(C)]
-pub struct Posted {
-    pub session: Session,
-    pub answer: u32,
-}
-
-#[repr(C)]
+#[derive(Clone, Copy, PartialEq, Eq, Debug)]
 pub struct Ran {
-    pub session: Session,
     pub status: u32,
     pub rounds: u32,
     pub count: usize,
+}
+
+/// A post and a run behind it.
+#[repr(C)]
+#[derive(Clone, Copy, PartialEq, Eq, Debug)]
+pub struct Stepped {
+    pub answer: u32,
+    pub status: u32,
+    pub rounds: u32,
+    pub count: usize,
+}
+
+impl Ran {
+    fn refused(status: u32) -> Ran {
+        Ran { status, rounds: 0, count: 0 }
+    }
 }
 
 impl Session {
     pub const ENDED: Session = Session {
         configuration: [0; WORDS],
         history: [0; MOST_ROWS * WORDS],
-        internal: [0; QUEUE_BYTES],
-        external: [0; QUEUE_BYTES],
         internal_count: 0,
         external_count: 0,
         mode: MODE_ENDED,
+        internal: [0; QUEUE_BYTES],
+        external: [0; QUEUE_BYTES],
     };
 
-    // The calls
+    // The calls, which change the session where it is
 
-    pub fn start(self, numbers: &[u64], names: &[u8], trace: &mut [u32]) -> Started {
-        let refused = |answer| Started { session: Session::ENDED, answer, count: 0 };
-        let Some(chart) = Chart::open(numbers, names) else { return refused(BAD_CHART) };
+    pub fn start(&mut self, numbers: &[u64], names: &[u8], trace: &mut [u32]) -> Started {
+        *self = Session::ENDED;
+        let refused = |answer| Started { answer, count: 0 };
+        let mut index = Index::BLANK;
+        let Some(chart) = Chart::open(numbers, names, &mut index) else { return refused(BAD_CHART) };
         let mut draft = [0; DRAFT];
         let mut round = Round::over(&mut draft);
         round.start(&chart);
@@ -75,35 +87,66 @@ impl Session {
             Some(entries) => place.copy_from_slice(entries),
             None => Round::over(place).start(&chart),
         }
-        let mut session = Session::ENDED;
-        session.move_on(&chart, &round);
-        Started { session, answer: DONE, count: round.count }
+        self.move_on(&chart, &round);
+        Started { answer: DONE, count: round.count }
     }
 
-    pub fn post(mut self, numbers: &[u64], names: &[u8], name: &[u8]) -> Posted {
-        let answer = match Chart::open(numbers, names) {
+    pub fn post(&mut self, numbers: &[u64], names: &[u8], name: &[u8]) -> u32 {
+        let mut index = Index::BLANK;
+        match Chart::open(numbers, names, &mut index) {
             None => BAD_CHART,
             Some(chart) if !self.is_well_formed(&chart) => BAD_SESSION,
-            Some(_) if !is_name(name) => BAD_NAME,
-            Some(_) if self.mode == MODE_ENDED => SESSION_ENDED,
-            Some(_) if self.external_count == QUEUE_NAMES as u64 => FULL,
-            Some(_) => {
-                let slot = self.external_count as usize * SLOT;
-                self.external[slot..slot + name.len()].copy_from_slice(name);
-                self.external_count += 1;
-                DONE
-            }
-        };
-        Posted { session: self, answer }
+            Some(_) => self.post_known(name),
+        }
     }
 
-    pub fn run(mut self, numbers: &[u64], names: &[u8], rounds: u32, trace: &mut [u32]) -> Ran {
-        let Some(chart) = Chart::open(numbers, names) else {
-            return Ran { session: self, status: BAD_CHART, rounds: 0, count: 0 };
-        };
-        if !self.is_well_formed(&chart) {
-            return Ran { session: self, status: BAD_SESSION, rounds: 0, count: 0 };
+    pub fn run(&mut self, numbers: &[u64], names: &[u8], rounds: u32, trace: &mut [u32]) -> Ran {
+        let mut index = Index::BLANK;
+        match Chart::open(numbers, names, &mut index) {
+            None => Ran::refused(BAD_CHART),
+            Some(chart) if !self.is_well_formed(&chart) => Ran::refused(BAD_SESSION),
+            Some(chart) => self.run_known(&chart, rounds, trace),
         }
+    }
+
+    /// One call for an event: a post, and then a run, whatever the post answers. Chart and session
+    /// are checked once.
+    pub fn step(
+        &mut self,
+        numbers: &[u64],
+        names: &[u8],
+        name: &[u8],
+        rounds: u32,
+        trace: &mut [u32],
+    ) -> Stepped {
+        let mut index = Index::BLANK;
+        let (answer, ran) = match Chart::open(numbers, names, &mut index) {
+            None => (BAD_CHART, Ran::refused(BAD_CHART)),
+            Some(chart) if !self.is_well_formed(&chart) => (BAD_SESSION, Ran::refused(BAD_SESSION)),
+            Some(chart) => (self.post_known(name), self.run_known(&chart, rounds, trace)),
+        };
+        Stepped { answer, status: ran.status, rounds: ran.rounds, count: ran.count }
+    }
+
+    /// To a well-formed session.
+    fn post_known(&mut self, name: &[u8]) -> u32 {
+        if !is_name(name) {
+            return BAD_NAME;
+        }
+        if self.mode == MODE_ENDED {
+            return SESSION_ENDED;
+        }
+        if self.external_count == QUEUE_NAMES as u64 {
+            return FULL;
+        }
+        let slot = self.external_count as usize * SLOT;
+        self.external[slot..slot + name.len()].copy_from_slice(name);
+        self.external_count += 1;
+        DONE
+    }
+
+    /// Of a well-formed session.
+    fn run_known(&mut self, chart: &Chart, rounds: u32, trace: &mut [u32]) -> Ran {
         let mut selection = Selection::none();
         let mut draft = [0; DRAFT];
         let mut round = Round::over(&mut draft);
@@ -113,7 +156,7 @@ impl Session {
             let trigger = match self.mode {
                 MODE_ENDED => break ENDED,
                 MODE_CLOSING => Trigger::Closing,
-                _ => match selection.choose(&chart, &self) {
+                _ => match selection.choose(chart, self) {
                     Some(trigger) => trigger,
                     None => break IDLE,
                 },
@@ -122,9 +165,9 @@ impl Session {
                 break MORE;
             }
             if trigger == Trigger::Closing {
-                round.close(&chart, &self);
+                round.close(chart, self);
             } else {
-                round.take(&chart, &self, &selection);
+                round.take(chart, self, &selection);
                 let left = self.internal_count as usize - usize::from(trigger == Trigger::Internal);
                 if left + round.queued > QUEUE_NAMES {
                     break FULL;
@@ -133,21 +176,21 @@ impl Session {
             let Some(place) = trace[count..].get_mut(..round.count) else { break NO_ROOM };
             match round.entries() {
                 Some(entries) => place.copy_from_slice(entries),
-                None if trigger == Trigger::Closing => Round::over(place).close(&chart, &self),
-                None => Round::over(place).take(&chart, &self, &selection),
+                None if trigger == Trigger::Closing => Round::over(place).close(chart, self),
+                None => Round::over(place).take(chart, self, &selection),
             }
             count += round.count;
             done += 1;
             match trigger {
-                Trigger::Closing => self = Session { history: self.history, ..Session::ENDED },
+                Trigger::Closing => *self = Session { history: self.history, ..Session::ENDED },
                 _ => {
                     self.take_event(trigger);
-                    self.store(&chart, selection.exits);
-                    self.move_on(&chart, &round);
+                    self.store(chart, selection.exits);
+                    self.move_on(chart, &round);
                 }
             }
         };
-        Ran { session: self, status, rounds: done, count }
+        Ran { status, rounds: done, count }
     }
 
     // What a round reads of the session
@@ -185,7 +228,7 @@ impl Session {
 
     /// Each exited owner of a history stores what was active.
     fn store(&mut self, chart: &Chart, exits: RowSet) {
-        for history in chart.index.histories.rows() {
+        for history in chart.kinds().histories.rows() {
             if exits.contains(chart.parent(history)) {
                 let set = chart.to_store(self.configuration(), history);
                 self.history.as_chunks_mut().0[history] = set.0;
@@ -201,36 +244,10 @@ impl Session {
         for name in round.names() {
             slots[self.internal_count as usize] = match name {
                 Queued::Raised(name) => chart.tables.names[name],
-                Queued::DoneOf(row) => done_name(chart.id(row)),
+                Queued::DoneOf(row) => done_name(chart.tables.id(row)),
             };
             self.internal_count += 1;
         }
-    }
-
-    // Refusal 9
-
-    fn is_well_formed(&self, chart: &Chart) -> bool {
-        queue_is_well_formed(&self.internal, self.internal_count)
-            && queue_is_well_formed(&self.external, self.external_count)
-            && self.mode_fits(chart)
-            && self.history_fits(chart)
-    }
-
-    fn mode_fits(&self, chart: &Chart) -> bool {
-        let configuration = self.configuration();
-        if configuration.is_empty() {
-            return self.mode == MODE_ENDED && self.internal_count == 0 && self.external_count == 0;
-        }
-        let done = configuration.meets(chart.children(ROOT) & chart.index.finals);
-        let mode = if done { MODE_CLOSING } else { MODE_RUNNING };
-        self.mode == mode && is_legal(chart, configuration)
-    }
-
-    fn history_fits(&self, chart: &Chart) -> bool {
-        let places: &[[u64; WORDS]] = self.history.as_chunks().0;
-        places.iter().enumerate().filter(|(_, place)| **place != [0; WORDS]).all(|(row, place)| {
-            chart.index.histories.contains(row) && can_be_stored(chart, row, RowSet(*place))
-        })
     }
 }
 
@@ -240,44 +257,4 @@ fn take_first(queue: &mut [u8; QUEUE_BYTES], count: &mut u64) {
     queue.copy_within(SLOT..used, 0);
     queue[used - SLOT..used].fill(0);
     *count -= 1;
-}
-
-fn queue_is_well_formed(queue: &[u8; QUEUE_BYTES], count: u64) -> bool {
-    if count > QUEUE_NAMES as u64 {
-        return false;
-    }
-    let slots: &[Slot] = queue.as_chunks().0;
-    let (used, unused) = slots.split_at(count as usize);
-    used.iter().all(holds_name) && unused.iter().all(|slot| *slot == [0; SLOT])
-}
-
-/// States, parallels and finals alone, with their parents; one child of the root and of each
-/// compound state, all children of each parallel.
-fn is_legal(chart: &Chart, configuration: RowSet) -> bool {
-    let index = &chart.index;
-    let real = (index.atomic | index.parallel | index.compound) - RowSet::single(ROOT);
-    let with_root = configuration | RowSet::single(ROOT);
-    configuration.is_within(real)
-        && configuration.rows().all(|row| with_root.contains(chart.parent(row)))
-        && has_right_children(chart, configuration, with_root)
-}
-
-/// Whether each of the owners has the children in the set that it has to have.
-fn has_right_children(chart: &Chart, set: RowSet, owners: RowSet) -> bool {
-    let index = &chart.index;
-    (owners & index.parallel).rows().all(|row| chart.children(row).is_within(set))
-        && (owners & index.compound).rows().all(|row| (chart.children(row) & set).has_one())
-}
-
-/// Whether the history's parent would store this set in some legal configuration.
-fn can_be_stored(chart: &Chart, history: usize, set: RowSet) -> bool {
-    let row = chart.tables.row(history);
-    let parent = row.parent() as usize;
-    let owner = RowSet::single(parent);
-    if row.kind() == SHALLOW {
-        return set.is_within(chart.children(parent)) && has_right_children(chart, set, owner);
-    }
-    let filled = chart.with_ancestors_below(parent, set & chart.descendants(parent));
-    set.is_within(chart.descendants(parent) & chart.index.atomic)
-        && has_right_children(chart, filled, filled | owner)
 }

@@ -1,0 +1,126 @@
+// Charts as they are described here once: compiled for the library and the engine, and as SCXML text for Qt.
+#pragma once
+#include "auttervil.h"
+#include <cstdio>
+#include <cstdlib>
+#include <string>
+#include <vector>
+
+[[noreturn]] inline void fail(const std::string &what)
+{
+    std::fprintf(stderr, "host: %s\n", what.c_str());
+    std::exit(1);
+}
+
+struct Row {
+    uint64_t kind;
+    std::string parent, id;
+};
+
+struct Transition {
+    std::string source, event, target;
+};
+
+// The first row is the first child of the root; a parent without an id is the root.
+struct Description {
+    std::vector<Row> rows;
+    std::vector<Transition> transitions;
+
+    size_t row_count() const { return rows.size() + 1; }
+};
+
+// The chart of the contract's example, with a way back.
+inline Description chart_a()
+{
+    const uint64_t state = AUTTERVIL_KIND_STATE, parallel = AUTTERVIL_KIND_PARALLEL, final = AUTTERVIL_KIND_FINAL;
+    return {{{parallel, "", "p"}, {state, "p", "S1"}, {state, "S1", "S11"}, {state, "S1", "S12"}, {final, "S1", "S1Final"},
+             {state, "p", "S2"}, {state, "S2", "S21"}, {state, "S2", "S22"}, {final, "S2", "S2Final"}, {state, "", "someOtherState"}},
+            {{"p", "done.state.p", "someOtherState"}, {"S11", "e4", "S12"}, {"S12", "e1", "S1Final"}, {"S21", "e1", "S22"},
+             {"S22", "e2", "S2Final"}, {"someOtherState", "again", "p"}}};
+}
+
+// A parallel of so many regions with two states each: on "all" every region changes its state, on "one" the first alone. The rows left over stand in a
+// state that is never active (as in src/charts.rs).
+inline Description regions(size_t rows, size_t count)
+{
+    Description d;
+    d.rows.push_back({AUTTERVIL_KIND_PARALLEL, "", "p"});
+    for (size_t i = 0; i < count; i++) {
+        const std::string number = std::to_string(i), region = "r" + number, a = "a" + number, b = "b" + number;
+        d.rows.push_back({AUTTERVIL_KIND_STATE, "p", region});
+        d.rows.push_back({AUTTERVIL_KIND_STATE, region, a});
+        d.rows.push_back({AUTTERVIL_KIND_STATE, region, b});
+        for (const char *event : {"all", "one"})
+            if (i == 0 || event[0] == 'a') {
+                d.transitions.push_back({a, event, b});
+                d.transitions.push_back({b, event, a});
+            }
+    }
+    if (d.row_count() < rows)
+        d.rows.push_back({AUTTERVIL_KIND_STATE, "", "resting"});
+    for (size_t i = 1; d.row_count() < rows; i++) {
+        const std::string id = "x" + std::to_string(i);
+        d.rows.push_back({AUTTERVIL_KIND_STATE, "resting", id});
+        d.transitions.push_back({id, "all", "x1"});
+    }
+    return d;
+}
+
+// As SCXML text: a row with its transitions, and its children in it.
+inline std::string scxml_row(const Description &d, const Row &row);
+
+inline std::string scxml_children(const Description &d, const std::string &parent)
+{
+    std::string text;
+    for (const Row &row : d.rows)
+        if (row.parent == parent)
+            text += scxml_row(d, row);
+    return text;
+}
+
+inline std::string scxml_row(const Description &d, const Row &row)
+{
+    const std::string tag = row.kind == AUTTERVIL_KIND_PARALLEL ? "parallel" : row.kind == AUTTERVIL_KIND_FINAL ? "final" : "state";
+    std::string text = "<" + tag + " id=\"" + row.id + "\">\n";
+    for (const Transition &t : d.transitions)
+        if (t.source == row.id)
+            text += "<transition event=\"" + t.event + "\" target=\"" + t.target + "\"/>\n";
+    return text + scxml_children(d, row.id) + "</" + tag + ">\n";
+}
+
+inline std::string scxml(const Description &d)
+{
+    return "<scxml xmlns=\"http://www.w3.org/2005/07/scxml\" version=\"1.0\">\n" + scxml_children(d, "") + "</scxml>\n";
+}
+
+// Compiled by the library; the engine is lent the same places.
+class Compiled
+{
+public:
+    explicit Compiled(const Description &d)
+    {
+        const size_t rows = d.row_count(), transitions = d.transitions.size(), most_names = rows + transitions;
+        std::vector<uint64_t> cells(AUTTERVIL_NUMBERS_CELLS(rows, transitions, transitions, transitions, 1));
+        std::vector<uint8_t> bytes(AUTTERVIL_NAMES_BYTES(most_names));
+        auttervil_builder b;
+        auttervil_begin(&b, {rows, transitions, transitions, transitions, 1, most_names}, cells.data(), cells.size(), bytes.data(), bytes.size());
+        for (const Row &row : d.rows)
+            auttervil_add_row(&b, row.kind, row.parent.c_str(), row.id.c_str());
+        for (const Transition &t : d.transitions)
+            auttervil_add_transition(&b, t.source.c_str(), t.event.c_str(), t.target.c_str());
+        auttervil_tables tables;
+        if (auttervil_finish(&b, &tables) != AUTTERVIL_FAULT_NONE)
+            fail(auttervil_strfault(b.fault));
+        const auttervil_sized size = auttervil_sizes(&tables);
+        numbers.resize(size.cells);
+        names.resize(size.bytes);
+        const auttervil_compiled compiled = auttervil_compile(&tables, numbers.data(), numbers.size(), names.data(), names.size());
+        if (compiled.answer != AUTTERVIL_DONE)
+            fail(auttervil_strstatus(compiled.answer));
+        chart = compiled.chart;
+    }
+
+    std::vector<uint64_t> numbers;
+    std::vector<uint8_t> names;
+    auttervil_chart chart;
+};
