@@ -91,23 +91,23 @@ module _ (numbers : List ℕ) (h : InTables numbers) where
       go true false = omega arith
       go false b = omega arith
 
-  entered-short : (active byDefault : List ℕ) (fell : RowSet) → HistoryRows numbers (rowsOf fell) → (i : ℕ) → i < rowCount numbers → length (rowEntered (chartOf numbers) active byDefault (rowsOf fell) i) ≤ 2067
+  entered-short : (active byDefault : List ℕ) (fell : RowSet) → HistoryRows numbers (rowsOf fell) → (i : ℕ) → i < rowCount numbers → length (rowEntered (chartOf numbers) active byDefault (rowsOf fell) i) ≤ 2065
   unfolding rowEntered
   entered-short active byDefault fell w i l =
       let a = entry-block active i l in
       let b = initial-short active byDefault i l in
-      let d = done-short active i in
       let f = flat-length (defaultEffects (chartOf numbers) active i) 8 (rowsOf fell) (λ k m. default-short active i k (w .at k m .0)) in
       let n = rows-few fell in
-      let x = length-append (performed active (entryAt numbers i)) (performed active (initialBlock (chartOf numbers) byDefault i) ++ (flat (defaultEffects (chartOf numbers) active i) (rowsOf fell) ++ doneEffects (chartOf numbers) active i)) in
-      let y = length-append (performed active (initialBlock (chartOf numbers) byDefault i)) (flat (defaultEffects (chartOf numbers) active i) (rowsOf fell) ++ doneEffects (chartOf numbers) active i) in
-      let z = length-append (flat (defaultEffects (chartOf numbers) active i) (rowsOf fell)) (doneEffects (chartOf numbers) active i) in
+      let x = length-append (performed active (entryAt numbers i)) (performed active (initialBlock (chartOf numbers) byDefault i) ++ flat (defaultEffects (chartOf numbers) active i) (rowsOf fell)) in
+      let y = length-append (performed active (initialBlock (chartOf numbers) byDefault i)) (flat (defaultEffects (chartOf numbers) active i) (rowsOf fell)) in
       omega arith
 
   entry-short : (stay : List ℕ) (e : Entry) (fell : RowSet) → HistoryRows numbers (rowsOf fell) → (i : ℕ) → i < rowCount numbers → length (entryEffects (chartOf numbers) stay e (rowsOf fell) i) ≤ 2067
   entry-short stay e fell w i l =
       let q = ap {B = ℕ} length (entry-pieces (chartOf numbers) stay e (rowsOf fell) i) in
       let a = entered-short (activeAt stay (e .set) i) (e .byDefault) fell w i l in
+      let d = done-short (activeAt stay (e .set) i) i in
+      let x = length-append (rowEntered (chartOf numbers) (activeAt stay (e .set) i) (e .byDefault) (rowsOf fell) i) (doneEffects (chartOf numbers) (activeAt stay (e .set) i) i) in
       omega arith
 
   exiting-few : (conf : List ℕ) (out : RowSet) → Within (rowCount numbers) (rowsOf out) → length (exiting (chartOf numbers) conf (rowsOf out)) ≤ 2304

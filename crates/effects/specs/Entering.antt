@@ -32,6 +32,7 @@ use Rattle.rowset.specs.Rows.{rows-low}
 use Rattle.effects.specs.declared.Tally.{Tally}
 use Rattle.effects.specs.Trace.{Places, Wrote, Room, wrote-both, room-first, room-next}
 use Rattle.matching.specs.Chosen.{Within}
+use Rattle.effects.specs.Blocks.{performed-any}
 
 -- ---- blocks
 
@@ -95,19 +96,20 @@ unfolding exitEffects
 exit-first c conf out i t m = room-first t (exited i ∷ []) _ m
 
 -- entering row i while these rows are active, piece by piece: its entry, its entry block, its initial block, the default blocks of its
--- histories, the done events
+-- histories; the done events come behind them
 unfoldable pub rowEntered : Chart → List ℕ → List ℕ → List ℕ → ℕ → List Effect
 rowEntered c active byDefault fell i =
-    (entered i ∷ []) ++ (performed active ((c .row) i .entry) ++ (performed active (initialBlock c byDefault i) ++ (flat (defaultEffects c active i) fell ++ doneEffects c active i)))
+    (entered i ∷ []) ++ (performed active ((c .row) i .entry) ++ (performed active (initialBlock c byDefault i) ++ flat (defaultEffects c active i) fell))
 
-pub entry-pieces : (c : Chart) (stay : List ℕ) (e : Entry) (fell : List ℕ) (i : ℕ) → entryEffects c stay e fell i ≡ rowEntered c (activeAt stay (e .set) i) (e .byDefault) fell i
+pub entry-pieces : (c : Chart) (stay : List ℕ) (e : Entry) (fell : List ℕ) (i : ℕ) →
+    entryEffects c stay e fell i ≡ rowEntered c (activeAt stay (e .set) i) (e .byDefault) fell i ++ doneEffects c (activeAt stay (e .set) i) i
 unfolding entryEffects activeAt rowEntered
 entry-pieces c stay e fell i =
     rw (performed-both (union stay (keep (isUpTo i) (e .set))) ((c .row) i .entry ++ initialBlock c (e .byDefault) i) (flat (defaultBlock c i) fell), performed-both (union stay (keep (isUpTo i) (e .set))) ((c .row) i .entry) (initialBlock c (e .byDefault) i), performed-flat c (union stay (keep (isUpTo i) (e .set))) i fell) (simp append-assoc)
 
 -- each piece has room after those before it, and all of them together are what entering the row does
 module _ (c : Chart) (active byDefault fell : List ℕ) (i : ℕ) (old : Places) (t : Tally) (m : Room t (rowEntered c active byDefault fell i)) where
-  whole : Room t ((entered i ∷ []) ++ (performed active ((c .row) i .entry) ++ (performed active (initialBlock c byDefault i) ++ (flat (defaultEffects c active i) fell ++ doneEffects c active i))))
+  whole : Room t ((entered i ∷ []) ++ (performed active ((c .row) i .entry) ++ (performed active (initialBlock c byDefault i) ++ flat (defaultEffects c active i) fell)))
   unfolding rowEntered
   whole = m
 
@@ -115,45 +117,53 @@ module _ (c : Chart) (active byDefault fell : List ℕ) (i : ℕ) (old : Places)
   entered-room = room-first t (entered i ∷ []) _ whole
 
   module _ (old1 : Places) (t1 : Tally) (w1 : Wrote old old1 t t1 (entered i ∷ [])) where
-    after-entered : Room t1 (performed active ((c .row) i .entry) ++ (performed active (initialBlock c byDefault i) ++ (flat (defaultEffects c active i) fell ++ doneEffects c active i)))
+    after-entered : Room t1 (performed active ((c .row) i .entry) ++ (performed active (initialBlock c byDefault i) ++ flat (defaultEffects c active i) fell))
     after-entered = room-next old old1 t t1 (entered i ∷ []) _ whole w1
 
     pub block-room : Room t1 (performed active ((c .row) i .entry))
-    block-room = room-first t1 (performed active ((c .row) i .entry)) (performed active (initialBlock c byDefault i) ++ (flat (defaultEffects c active i) fell ++ doneEffects c active i)) after-entered
+    block-room = room-first t1 (performed active ((c .row) i .entry)) (performed active (initialBlock c byDefault i) ++ flat (defaultEffects c active i) fell) after-entered
 
     module _ (old2 : Places) (t2 : Tally) (w2 : Wrote old1 old2 t1 t2 (performed active ((c .row) i .entry))) where
-      after-block : Room t2 (performed active (initialBlock c byDefault i) ++ (flat (defaultEffects c active i) fell ++ doneEffects c active i))
-      after-block = room-next old1 old2 t1 t2 (performed active ((c .row) i .entry)) (performed active (initialBlock c byDefault i) ++ (flat (defaultEffects c active i) fell ++ doneEffects c active i)) after-entered w2
+      after-block : Room t2 (performed active (initialBlock c byDefault i) ++ flat (defaultEffects c active i) fell)
+      after-block = room-next old1 old2 t1 t2 (performed active ((c .row) i .entry)) (performed active (initialBlock c byDefault i) ++ flat (defaultEffects c active i) fell) after-entered w2
 
       pub initial-room : Room t2 (performed active (initialBlock c byDefault i))
-      initial-room = room-first t2 (performed active (initialBlock c byDefault i)) (flat (defaultEffects c active i) fell ++ doneEffects c active i) after-block
+      initial-room = room-first t2 (performed active (initialBlock c byDefault i)) (flat (defaultEffects c active i) fell) after-block
 
       module _ (old3 : Places) (t3 : Tally) (w3 : Wrote old2 old3 t2 t3 (performed active (initialBlock c byDefault i))) where
-        after-initial : Room t3 (flat (defaultEffects c active i) fell ++ doneEffects c active i)
-        after-initial = room-next old2 old3 t2 t3 (performed active (initialBlock c byDefault i)) (flat (defaultEffects c active i) fell ++ doneEffects c active i) after-block w3
-
         pub defaults-room : Room t3 (flat (defaultEffects c active i) fell)
-        defaults-room = room-first t3 (flat (defaultEffects c active i) fell) (doneEffects c active i) after-initial
+        defaults-room = room-next old2 old3 t2 t3 (performed active (initialBlock c byDefault i)) (flat (defaultEffects c active i) fell) after-block w3
 
-        module _ (old4 : Places) (t4 : Tally) (w4 : Wrote old3 old4 t3 t4 (flat (defaultEffects c active i) fell)) where
-          pub done-room : Room t4 (doneEffects c active i)
-          done-room = room-next old3 old4 t3 t4 (flat (defaultEffects c active i) fell) (doneEffects c active i) after-initial w4
+        pub entry-wrote : (old4 : Places) (t4 : Tally) → Wrote old3 old4 t3 t4 (flat (defaultEffects c active i) fell) → Wrote old old4 t t4 (rowEntered c active byDefault fell i)
+        unfolding rowEntered
+        entry-wrote old4 t4 w4 =
+            wrote-both old old1 old4 t t1 t4 (entered i ∷ []) _ w1
+            (wrote-both old1 old2 old4 t1 t2 t4 (performed active ((c .row) i .entry)) _ w2
+            (wrote-both old2 old3 old4 t2 t3 t4 (performed active (initialBlock c byDefault i)) _ w3 w4))
 
-          pub entry-wrote : (old5 : Places) (t5 : Tally) → Wrote old4 old5 t4 t5 (doneEffects c active i) → Wrote old old5 t t5 (rowEntered c active byDefault fell i)
-          unfolding rowEntered
-          entry-wrote old5 t5 w5 =
-              wrote-both old old1 old5 t t1 t5 (entered i ∷ []) _ w1
-              (wrote-both old1 old2 old5 t1 t2 t5 (performed active ((c .row) i .entry)) _ w2
-              (wrote-both old2 old3 old5 t2 t3 t5 (performed active (initialBlock c byDefault i)) _ w3
-              (wrote-both old3 old4 old5 t3 t4 t5 (flat (defaultEffects c active i) fell) _ w4 w5)))
+-- today no action asks which rows are active, so any may be handed in
+module _ (c : Chart) (a b byDefault fell : List ℕ) (i : ℕ) where
+  defaults-any : flat (defaultEffects c a i) fell ≡ flat (defaultEffects c b i) fell
+  defaults-any = sym (performed-flat c a i fell) ∙ performed-any a b (flat (defaultBlock c i) fell) ∙ performed-flat c b i fell
 
--- what is entered at a row of the set, where the rows that are active then have been worked out
-module _ (c : Chart) (stay : List ℕ) (e : Entry) (fell : List ℕ) (i : ℕ) (active : List ℕ) (h : active ≡ activeAt stay (e .set) i) where
-  pub row-room : (t : Tally) → Room t (entryEffects c stay e fell i) → Room t (rowEntered c active (e .byDefault) fell i)
-  row-room t m = rw h (subst (Room t) (entry-pieces c stay e fell i) m)
+  entered-any : rowEntered c a byDefault fell i ≡ rowEntered c b byDefault fell i
+  unfolding rowEntered
+  entered-any = rw (performed-any a b ((c .row) i .entry), performed-any a b (initialBlock c byDefault i), defaults-any)
 
-  pub row-wrote : (old new : Places) (t r : Tally) → Wrote old new t r (rowEntered c active (e .byDefault) fell i) → Wrote old new t r (entryEffects c stay e fell i)
-  row-wrote old new t r w = subst (Wrote old new t r) (sym (entry-pieces c stay e fell i)) (rw h at w)
+-- what is entered at a row of the set, and then its done events
+module _ (c : Chart) (stay : List ℕ) (e : Entry) (fell : List ℕ) (i : ℕ) (active : List ℕ) (t : Tally) (m : Room t (entryEffects c stay e fell i)) where
+  both : entryEffects c stay e fell i ≡ rowEntered c active (e .byDefault) fell i ++ doneEffects c (activeAt stay (e .set) i) i
+  both = entry-pieces c stay e fell i ∙ ap (λ (es : List Effect). es ++ doneEffects c (activeAt stay (e .set) i) i) (entered-any c (activeAt stay (e .set) i) active (e .byDefault) fell i)
+
+  pub row-room : Room t (rowEntered c active (e .byDefault) fell i)
+  row-room = room-first t (rowEntered c active (e .byDefault) fell i) _ (subst (Room t) both m)
+
+  module _ (old new : Places) (r : Tally) (w : Wrote old new t r (rowEntered c active (e .byDefault) fell i)) where
+    pub done-room : Room r (doneEffects c (activeAt stay (e .set) i) i)
+    done-room = room-next old new t r (rowEntered c active (e .byDefault) fell i) _ (subst (Room t) both m) w
+
+    pub row-wrote : (newer : Places) (u : Tally) → Wrote new newer r u (doneEffects c (activeAt stay (e .set) i) i) → Wrote old newer t u (entryEffects c stay e fell i)
+    row-wrote newer u v = subst (Wrote old newer t u) (sym both) (wrote-both old new newer t r u (rowEntered c active (e .byDefault) fell i) _ w v)
 
 -- the entry set and its rows whose child came by default
 abbrev pub entryIs : RowSet → RowSet → Entry
@@ -239,14 +249,14 @@ module _ (c : Chart) (conf : List ℕ) (i : ℕ) where
   unfolding doneEffects doneAbove
   done-pieces p g h e q f = rw (f, e, h, rw e at q)
 
-module _ (c : Chart) (conf : List ℕ) (g : ℕ) (b : Bool) (h : b ≡ isDoneAbove c conf g) where
+module _ (c : Chart) (conf active : List ℕ) (g : ℕ) (b : Bool) (e : active ≡ conf) (h : b ≡ isDoneAbove c active g) where
   pub above-yes : b ≡ true → doneAbove c conf g ≡ done g ∷ []
   unfolding doneAbove
-  above-yes q = rw (← h, q)
+  above-yes q = rw (← e, ← h, q)
 
   pub above-no : b ≡ false → doneAbove c conf g ≡ []
   unfolding doneAbove
-  above-no q = rw (← h, q)
+  above-no q = rw (← e, ← h, q)
 
 -- ---- rows in a final state
 

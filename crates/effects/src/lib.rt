@@ -318,14 +318,15 @@ fn active_at(stay: RowSet, set: RowSet, r: Row) -> RowSet
 // The done events of an entered row, if it is a final that is not under the root.
 fn done_effects(
     chart: &[u64],
-    active: RowSet,
+    stay: RowSet,
+    set: RowSet,
     r: Row,
     trace: &mut [u32],
     joins: &mut [u32],
     tally: Tally,
 ) -> Tally
-    requires { ⌜ RowReady (now chart) (r .0) × Room tally (doneEffects (chartOf (now chart)) (rowsOf active) (r .0)) ⌝ }
-    ensures { λ s. ⌜ Wrote (places (now (trace .entry)) (now (joins .entry))) (places (now (trace .exit)) (now (joins .exit))) tally s (doneEffects (chartOf (now (chart .entry))) (rowsOf active) (r .0)) ⌝ }
+    requires { ⌜ RowReady (now chart) (r .0) × Room tally (doneEffects (chartOf (now chart)) (activeAt (rowsOf stay) (rowsOf set) (r .0)) (r .0)) ⌝ }
+    ensures { λ s. ⌜ Wrote (places (now (trace .entry)) (now (joins .entry))) (places (now (trace .exit)) (now (joins .exit))) tally s (doneEffects (chartOf (now (chart .entry))) (activeAt (rowsOf stay) (rowsOf set) (r .0)) (r .0)) ⌝ }
 {
     if !is_final(kind_of(chart, r)) {
         return tally;
@@ -335,7 +336,7 @@ fn done_effects(
         return tally;
     }
     let g = parent_row(chart, p);
-    let both = is_done_above(chart, active, g);
+    let both = is_done_above(chart, active_at(stay, set, r), g);
     let sum = emit_join(trace, joins, tally, DONE, p.0 as u32);
     if both {
         return emit_join(trace, joins, sum, DONE, g.0 as u32);
@@ -411,7 +412,7 @@ fn default_blocks(
     }
 }
 
-// Row r is entered: these rows are active then, itself among them.
+// Row r is entered, without its done events: these rows are active then, itself among them.
 fn enter_row(
     chart: &[u64],
     active: RowSet,
@@ -429,11 +430,11 @@ fn enter_row(
     let block = entry_block_of(chart, r);
     let s2 = perform_block(block, active, trace, joins, s1);
     let s3 = initial_block(chart, active, defaults, r, trace, joins, s2);
-    let s4 = default_blocks(chart, active, r, fallen, trace, joins, s3);
-    done_effects(chart, active, r, trace, joins, s4)
+    default_blocks(chart, active, r, fallen, trace, joins, s3)
 }
 
-// Entries in document order.
+// Entries in document order. No action asks yet which rows are active: the rows that stay are handed in, and active_at is worked out for
+// done events alone.
 pub fn entry_effects(
     chart: &[u64],
     stay: RowSet,
@@ -452,8 +453,8 @@ pub fn entry_effects(
     loop {
         match set.next_from(k) {
             Found::At(r) => {
-                let active = active_at(stay, set, r);
-                sum = enter_row(chart, active, defaults, fallen, r, trace, joins, sum);
+                sum = enter_row(chart, stay, defaults, fallen, r, trace, joins, sum);
+                sum = done_effects(chart, stay, set, r, trace, joins, sum);
                 k = row_after(r);
             }
             Found::Nothing => {

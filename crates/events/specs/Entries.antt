@@ -177,12 +177,12 @@ module _ (chart : List ℕ) (g : Ready chart) (p : Effect → Bool) (h : Passes 
       all-both p (entered i ∷ []) _ (unfold all in and-true (p (entered i)) true (h .enter i l) refl)
       (all-both p (performed active (entryAt chart i)) _ (entry-block active i l)
       (all-both p (performed active (initialBlock (chartOf chart) byDefault i)) _ (list-block active (mem i byDefault) i l)
-      (all-both p (flat (defaultEffects (chartOf chart) active i) fell) _
-      (all-flat p (defaultEffects (chartOf chart) active i) fell (λ k m. list-block active (eqb i (parent (chartOf chart) k)) k (w .at k m .0)))
-      (done-effects active i l))))
+      (all-flat p (defaultEffects (chartOf chart) active i) fell (λ k m. list-block active (eqb i (parent (chartOf chart) k)) k (w .at k m .0)))))
 
   entry-passes : (stay : List ℕ) (e : Entry) (fell : List ℕ) → HistoryRows chart fell → (i : ℕ) → i < rowCount chart → all p (entryEffects (chartOf chart) stay e fell i) ≡ true
-  entry-passes stay e fell w i l = ap (all p) (entry-pieces (chartOf chart) stay e fell i) ∙ entered-passes (activeAt stay (e .set) i) (e .byDefault) fell w i l
+  entry-passes stay e fell w i l = ap (all p) (entry-pieces (chartOf chart) stay e fell i) ∙
+      all-both p (rowEntered (chartOf chart) (activeAt stay (e .set) i) (e .byDefault) fell i) _ (entered-passes (activeAt stay (e .set) i) (e .byDefault) fell w i l)
+      (done-effects (activeAt stay (e .set) i) i l)
 
   entering-passes : (stay : List ℕ) (e : Entry) (fell : List ℕ) → Within (rowCount chart) (e .set) → HistoryRows chart fell → all p (entering (chartOf chart) stay e fell) ≡ true
   unfolding entering

@@ -9,14 +9,14 @@ use Rattle.definition.specs.Tables.{chartOf}
 use Rattle.definition.specs.Chart.{isFinal, isRoot}
 use Rattle.rowset.specs.Member.{rowsOf}
 use Rattle.laws.specs.Loops.{told}
-use Rattle.effects.specs.Entering.{doneAbove, done-plain, done-closing, done-pieces, above-yes, above-no, final-later, not-root-later}
+use Rattle.effects.specs.Entering.{activeAt, doneAbove, done-plain, done-closing, done-pieces, above-yes, above-no, final-later, not-root-later}
 use Rattle.effects.specs.Trace.{queues, Wrote, Room, wrote-none, wrote-both, room-first, room-next}
 use Rattle.effects.proofs.done_effects.Statement.{statement}
 use Rattle.effects.proofs.done_effects.Tie as tie
 
 -- a final that is not under the root: its parent's event, then the grandparent's
 pieces : (c : tie.After-parent-row2) →
-    doneEffects (chartOf (c .before .before .before .before .before .before .before .before .before .before .before .args .chart .now)) (rowsOf (c .before .before .before .before .before .before .before .before .before .before .before .args .active)) (c .before .before .before .before .before .before .before .before .before .before .before .args .r .0) ≡ (done (c .before .before .before .before .parent-row .result .0) ∷ []) ++ doneAbove (chartOf (c .before .before .before .before .before .before .before .before .before .before .before .args .chart .now)) (rowsOf (c .before .before .before .before .before .before .before .before .before .before .before .args .active)) (c .parent-row2 .result .0)
+    doneEffects (chartOf (c .before .before .before .before .before .before .before .before .before .before .before .args .chart .now)) (activeAt (rowsOf (c .before .before .before .before .before .before .before .before .before .before .before .args .stay)) (rowsOf (c .before .before .before .before .before .before .before .before .before .before .before .args .set)) (c .before .before .before .before .before .before .before .before .before .before .before .args .r .0)) (c .before .before .before .before .before .before .before .before .before .before .before .args .r .0) ≡ (done (c .before .before .before .before .parent-row .result .0) ∷ []) ++ doneAbove (chartOf (c .before .before .before .before .before .before .before .before .before .before .before .args .chart .now)) (activeAt (rowsOf (c .before .before .before .before .before .before .before .before .before .before .before .args .stay)) (rowsOf (c .before .before .before .before .before .before .before .before .before .before .before .args .set)) (c .before .before .before .before .before .before .before .before .before .before .before .args .r .0)) (c .parent-row2 .result .0)
 pieces c = done-pieces _ _ _ _ _ (told isFinal _ _ _ _ (c .before .before .before .before .before .before .before .kind-of .ensures) (c .before .before .before .before .before .before .is-final .ensures) (not-false _ (c .before .before .before .before .before .if1 .left))) (c .before .before .before .before .parent-row .ensures .is) (told isRoot _ _ _ _ (c .before .before .before .kind-of2 .ensures) (c .before .before .is-root .ensures) (c .before .if2 .left)) (c .parent-row2 .ensures .is)
 
 kind-of-requires : tie.Need-kind-of-requires
@@ -47,16 +47,16 @@ is-done-above-requires : tie.Need-is-done-above-requires
 is-done-above-requires c κs = search needs
 
 emit-join-requires : tie.Need-emit-join-requires
-emit-join-requires c κs = (record { some = omega arith; most = omega arith; index = omega arith }, unfold queues in refl, room-first _ (done _ ∷ []) _ (subst (Room _) (pieces (c .before .before .before .before)) (c .before .before .before .before .before .before .before .before .before .before .before .before .before .before .before .pre .1)))
+emit-join-requires c κs = (record { some = omega arith; most = omega arith; index = omega arith }, unfold queues in refl, room-first _ (done _ ∷ []) _ (subst (Room _) (pieces (c .before .before .before .before .before)) (c .before .before .before .before .before .before .before .before .before .before .before .before .before .before .before .before .pre .1)))
 
 emit-join-requires-2 : tie.Need-emit-join-requires-2
-emit-join-requires-2 c κs = (record { some = omega arith; most = omega arith; index = omega arith }, unfold queues in refl, subst (Room _) (above-yes _ _ _ _ (c .before .before .before .before .before .before .before .before .before .before .before .before .is-done-above .ensures) (c .before .before .before .if3 .taken)) (room-next _ _ _ _ (done _ ∷ []) _ (subst (Room _) (pieces (c .before .before .before .before .before .before .before .before .before .before .before .before .before)) (c .before .before .before .before .before .before .before .before .before .before .before .before .before .before .before .before .before .before .before .before .before .before .before .before .pre .1)) (c .before .before .before .before .before .before .before .before .emit-join .ensures)))
+emit-join-requires-2 c κs = (record { some = omega arith; most = omega arith; index = omega arith }, unfold queues in refl, subst (Room _) (above-yes _ _ _ _ _ (c .before .before .before .before .before .before .before .before .before .before .before .before .before .active-at .ensures) (c .before .before .before .before .before .before .before .before .before .before .before .before .is-done-above .ensures) (c .before .before .before .if3 .taken)) (room-next _ _ _ _ (done _ ∷ []) _ (subst (Room _) (pieces (c .before .before .before .before .before .before .before .before .before .before .before .before .before .before)) (c .before .before .before .before .before .before .before .before .before .before .before .before .before .before .before .before .before .before .before .before .before .before .before .before .before .pre .1)) (c .before .before .before .before .before .before .before .before .emit-join .ensures)))
 
 returns-3 : tie.Need-returns-3
-returns-3 c = subst (Wrote _ _ _ _) (sym (pieces (c .before .before .before .before .before .before .before .before .before .before .before .before .before .before .before .before .before .before))) (wrote-both _ _ _ _ _ _ (done _ ∷ []) _ (c .before .before .before .before .before .before .before .before .before .before .before .before .before .emit-join .ensures) (subst (Wrote _ _ _ _) (sym (above-yes _ _ _ _ (c .before .before .before .before .before .before .before .before .before .before .before .before .before .before .before .before .before .is-done-above .ensures) (c .before .before .before .before .before .before .before .before .if3 .taken))) (c .before .before .before .before .emit-join2 .ensures)))
+returns-3 c = subst (Wrote _ _ _ _) (sym (pieces (c .before .before .before .before .before .before .before .before .before .before .before .before .before .before .before .before .before .before .before))) (wrote-both _ _ _ _ _ _ (done _ ∷ []) _ (c .before .before .before .before .before .before .before .before .before .before .before .before .before .emit-join .ensures) (subst (Wrote _ _ _ _) (sym (above-yes _ _ _ _ _ (c .before .before .before .before .before .before .before .before .before .before .before .before .before .before .before .before .before .before .active-at .ensures) (c .before .before .before .before .before .before .before .before .before .before .before .before .before .before .before .before .before .is-done-above .ensures) (c .before .before .before .before .before .before .before .before .if3 .taken))) (c .before .before .before .before .emit-join2 .ensures)))
 
 returns-4 : tie.Need-returns-4
-returns-4 c = subst (Wrote _ _ _ _) (sym (pieces (c .before .before .before .before .before .before .before .before .before .before))) (wrote-both _ _ _ _ _ _ (done _ ∷ []) _ (c .before .before .before .before .before .emit-join .ensures) (subst (Wrote _ _ _ _) (sym (above-no _ _ _ _ (c .before .before .before .before .before .before .before .before .before .is-done-above .ensures) (c .if3 .left))) (wrote-none _ _)))
+returns-4 c = subst (Wrote _ _ _ _) (sym (pieces (c .before .before .before .before .before .before .before .before .before .before .before))) (wrote-both _ _ _ _ _ _ (done _ ∷ []) _ (c .before .before .before .before .before .emit-join .ensures) (subst (Wrote _ _ _ _) (sym (above-no _ _ _ _ _ (c .before .before .before .before .before .before .before .before .before .before .active-at .ensures) (c .before .before .before .before .before .before .before .before .before .is-done-above .ensures) (c .if3 .left))) (wrote-none _ _)))
 
 cast-emit-join : tie.Need-cast-emit-join
 cast-emit-join c = search needs
@@ -76,6 +76,9 @@ same-length-3 c = search needs
 same-length-4 : tie.Need-same-length-4
 same-length-4 c = search needs
 
+active-at-requires : tie.Need-active-at-requires
+active-at-requires c κs = search needs
+
 pub done-effects-spec : {M : Type 1} → statement M
 done-effects-spec =
     tie.close
@@ -88,6 +91,7 @@ done-effects-spec =
     is-root-requires
     returns-2
     parent-row-requires-2
+    active-at-requires
     is-done-above-requires
     cast-emit-join
     emit-join-requires

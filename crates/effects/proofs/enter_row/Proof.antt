@@ -2,7 +2,7 @@ use mathlib.Core.List.{[]}
 use mathlib.Core.Path.{refl}
 use native.Mathlib.Omega.{arith}
 use borrow.Author.Needs.{needs}
-use Rattle.effects.specs.Entering.{entered-room, block-room, initial-room, defaults-room, done-room, entry-wrote}
+use Rattle.effects.specs.Entering.{entered-room, block-room, initial-room, defaults-room, entry-wrote}
 use Rattle.effects.specs.Blocks.{block-asked, block-wrote}
 use Rattle.effects.specs.Trace.{queues, places, wrote-length, wrote-joins}
 use Rattle.effects.proofs.enter_row.Statement.{statement}
@@ -20,11 +20,8 @@ initial-block-requires c κs = (record { tables = c .before .before .before .bef
 default-blocks-requires : tie.Need-default-blocks-requires
 default-blocks-requires c κs = (c .before .before .before .before .before .before .before .before .before .before .before .before .before .before .before .before .before .before .before .before .before .before .before .before .before .pre .1, defaults-room _ _ _ _ _ _ _ (c .before .before .before .before .before .before .before .before .before .before .before .before .before .before .before .before .before .before .before .before .before .before .before .before .before .pre .2) _ _ (c .before .before .before .before .before .before .before .before .before .before .before .before .before .before .before .before .before .before .before .emit .ensures .wrote _) _ _ (block-wrote _ _ _ _ (c .before .before .before .before .before .before .before .before .before .before .before .before .before .before .before .before .entry-block-of .ensures) _ _ _ _ (c .before .before .before .before .before .before .before .before .before .before .before .before .before .perform-block .ensures)) _ _ (c .before .before .before .before .before .before .initial-block .ensures))
 
-done-effects-requires : tie.Need-done-effects-requires
-done-effects-requires c κs = (c .before .before .before .before .before .before .before .before .before .before .before .before .before .before .before .before .before .before .before .before .before .before .before .before .before .before .before .before .before .before .before .before .pre .0, done-room _ _ _ _ _ _ _ (c .before .before .before .before .before .before .before .before .before .before .before .before .before .before .before .before .before .before .before .before .before .before .before .before .before .before .before .before .before .before .before .before .pre .2) _ _ (c .before .before .before .before .before .before .before .before .before .before .before .before .before .before .before .before .before .before .before .before .before .before .before .before .before .before .emit .ensures .wrote _) _ _ (block-wrote _ _ _ _ (c .before .before .before .before .before .before .before .before .before .before .before .before .before .before .before .before .before .before .before .before .before .before .before .entry-block-of .ensures) _ _ _ _ (c .before .before .before .before .before .before .before .before .before .before .before .before .before .before .before .before .before .before .before .before .perform-block .ensures)) _ _ (c .before .before .before .before .before .before .before .before .before .before .before .before .before .initial-block .ensures) _ _ (c .before .before .before .before .before .before .default-blocks .ensures))
-
 returns : tie.Need-returns
-returns c = entry-wrote _ _ _ _ _ _ _ (c .before .before .before .before .before .before .before .before .before .before .before .before .before .before .before .before .before .before .before .before .before .before .before .before .before .before .before .before .before .before .before .before .before .before .before .before .before .pre .2) _ _ (c .before .before .before .before .before .before .before .before .before .before .before .before .before .before .before .before .before .before .before .before .before .before .before .before .before .before .before .before .before .before .before .emit .ensures .wrote _) _ _ (block-wrote _ _ _ _ (c .before .before .before .before .before .before .before .before .before .before .before .before .before .before .before .before .before .before .before .before .before .before .before .before .before .before .before .before .entry-block-of .ensures) _ _ _ _ (c .before .before .before .before .before .before .before .before .before .before .before .before .before .before .before .before .before .before .before .before .before .before .before .before .before .perform-block .ensures)) _ _ (c .before .before .before .before .before .before .before .before .before .before .before .before .before .before .before .before .before .before .initial-block .ensures) _ _ (c .before .before .before .before .before .before .before .before .before .before .before .default-blocks .ensures) _ _ (c .before .before .before .before .done-effects .ensures)
+returns c = entry-wrote _ _ _ _ _ _ _ (c .before .before .before .before .before .before .before .before .before .before .before .before .before .before .before .before .before .before .before .before .before .before .before .before .before .before .before .before .before .before .pre .2) _ _ (c .before .before .before .before .before .before .before .before .before .before .before .before .before .before .before .before .before .before .before .before .before .before .before .before .emit .ensures .wrote _) _ _ (block-wrote _ _ _ _ (c .before .before .before .before .before .before .before .before .before .before .before .before .before .before .before .before .before .before .before .before .before .entry-block-of .ensures) _ _ _ _ (c .before .before .before .before .before .before .before .before .before .before .before .before .before .before .before .before .before .before .perform-block .ensures)) _ _ (c .before .before .before .before .before .before .before .before .before .before .before .initial-block .ensures) _ _ (c .before .before .before .before .default-blocks .ensures)
 
 cast-emit : tie.Need-cast-emit
 cast-emit c = search needs
@@ -46,7 +43,6 @@ enter-row-spec = tie.close (tie.spec
     perform-block-requires
     initial-block-requires
     default-blocks-requires
-    done-effects-requires
     same-length
     same-length-2
     returns)

@@ -5,7 +5,7 @@ use Rattle.definition.specs.Tables.{chartOf}
 use Rattle.rowset.specs.Visits.{found-next, rest-at, rest-end, next-less}
 use Rattle.rowset.specs.Search.{restFrom}
 use Rattle.rowset.specs.Member.{rowsOf}
-use Rattle.effects.specs.Entering.{entryIs, row-room, row-wrote}
+use Rattle.effects.specs.Entering.{entryIs, row-room, done-room, row-wrote}
 use Rattle.effects.specs.Trace.{places}
 use Rattle.effects.specs.Emitting.{Emitting, emitting-room, emitting-turn, emitting-end, emitting-length, emitting-joins, emitting-up}
 use Rattle.effects.proofs.entry_effects.Statement.{statement}
@@ -28,16 +28,19 @@ enum-known-r : tie.Need-enum-known-r Inv-loop μ-loop
 enum-known-r c = search needs
 
 enter-row-requires : tie.Need-enter-row-requires Inv-loop μ-loop
-enter-row-requires c κs = (record { ready = c .before .before .before .before .before .before .before .before .before .before .before .pre .0; inside = c .before .before .before .before .before .before .before .before .before .before .before .pre .1 .at _ (found-next _ _ _ (c .before .before .before .before .before .before .next-from .ensures) _ (c .before .before .before .before .r .given .1) .here) }, c .before .before .before .before .before .before .before .before .before .before .before .pre .2, row-room _ _ _ _ _ _ (c .before .before .active-at .ensures) _ (emitting-room _ _ _ _ _ _ _ _ _ (rest-at _ _ _ (c .before .before .before .before .before .before .next-from .ensures) _ (c .before .before .before .before .r .given .1)) (c .before .before .before .before .before .before .before .loop .inv)))
+enter-row-requires c κs = (record { ready = c .before .before .before .before .before .before .before .before .before .before .pre .0; inside = c .before .before .before .before .before .before .before .before .before .before .pre .1 .at _ (found-next _ _ _ (c .before .before .before .before .before .next-from .ensures) _ (c .before .before .before .r .given .1) .here) }, c .before .before .before .before .before .before .before .before .before .before .pre .2, row-room _ _ _ _ _ _ _ (emitting-room _ _ _ _ _ _ _ _ _ (rest-at _ _ _ (c .before .before .before .before .before .next-from .ensures) _ (c .before .before .before .r .given .1)) (c .before .before .before .before .before .before .loop .inv)))
+
+done-effects-requires : tie.Need-done-effects-requires Inv-loop μ-loop
+done-effects-requires c κs = (record { ready = c .before .before .before .before .before .before .before .before .before .before .before .before .before .before .before .before .before .pre .0; inside = c .before .before .before .before .before .before .before .before .before .before .before .before .before .before .before .before .before .pre .1 .at _ (found-next _ _ _ (c .before .before .before .before .before .before .before .before .before .before .before .before .next-from .ensures) _ (c .before .before .before .before .before .before .before .before .before .before .r .given .1) .here) }, done-room _ _ _ _ _ _ _ (emitting-room _ _ _ _ _ _ _ _ _ (rest-at _ _ _ (c .before .before .before .before .before .before .before .before .before .before .before .before .next-from .ensures) _ (c .before .before .before .before .before .before .before .before .before .before .r .given .1)) (c .before .before .before .before .before .before .before .before .before .before .before .before .before .loop .inv)) _ _ _ (c .before .before .before .before .before .before .enter-row .ensures))
 
 row-after-requires : tie.Need-row-after-requires Inv-loop μ-loop
 row-after-requires c κs = search needs
 
 loop-less : tie.Need-loop-less Inv-loop μ-loop
-loop-less c = rw (c .row-after .ensures) (next-less _ _ _ (c .before .before .before .before .before .before .before .before .before .before .before .before .next-from .ensures) _ (c .before .before .before .before .before .before .before .before .before .before .r .given .1))
+loop-less c = rw (c .row-after .ensures) (next-less _ _ _ (c .before .before .before .before .before .before .before .before .before .before .before .before .before .before .before .before .before .before .next-from .ensures) _ (c .before .before .before .before .before .before .before .before .before .before .before .before .before .before .before .before .r .given .1))
 
 loop-again : tie.Need-loop-again Inv-loop μ-loop
-loop-again c = rw (c .row-after .ensures) (emitting-turn _ _ _ _ _ _ _ _ _ _ _ (rest-at _ _ _ (c .before .before .before .before .before .before .before .before .before .before .before .before .next-from .ensures) _ (c .before .before .before .before .before .before .before .before .before .before .r .given .1)) (c .before .before .before .before .before .before .before .before .before .before .before .before .before .loop .inv) (row-wrote _ _ _ _ _ _ (c .before .before .before .before .before .before .before .before .active-at .ensures) _ _ _ _ (c .before .before .before .before .before .enter-row .ensures)))
+loop-again c = rw (c .row-after .ensures) (emitting-turn _ _ _ _ _ _ _ _ _ _ _ (rest-at _ _ _ (c .before .before .before .before .before .before .before .before .before .before .before .before .before .before .before .before .before .before .next-from .ensures) _ (c .before .before .before .before .before .before .before .before .before .before .before .before .before .before .before .before .r .given .1)) (c .before .before .before .before .before .before .before .before .before .before .before .before .before .before .before .before .before .before .before .loop .inv) (row-wrote _ _ _ _ _ _ _ (emitting-room _ _ _ _ _ _ _ _ _ (rest-at _ _ _ (c .before .before .before .before .before .before .before .before .before .before .before .before .before .before .before .before .before .before .next-from .ensures) _ (c .before .before .before .before .before .before .before .before .before .before .before .before .before .before .before .before .r .given .1)) (c .before .before .before .before .before .before .before .before .before .before .before .before .before .before .before .before .before .before .before .loop .inv)) _ _ _ (c .before .before .before .before .before .before .before .before .before .before .before .before .enter-row .ensures) _ _ (c .before .before .before .before .before .done-effects .ensures)))
 
 enum-told : tie.Need-enum-told Inv-loop μ-loop
 enum-told c = search needs
@@ -52,9 +55,6 @@ returns : tie.Need-returns Inv-loop μ-loop
 unfolding entering
 returns c = emitting-end _ _ _ _ _ _ _ (rest-end _ _ _ (c .before .before .next-from .ensures) (c .enum-told .given .1)) (c .before .before .before .loop .inv)
 
-active-at-requires : tie.Need-active-at-requires Inv-loop μ-loop
-active-at-requires c κs = search needs
-
 pub entry-effects-spec : {M : Type 1} → statement M
 entry-effects-spec =
     tie.close
@@ -64,8 +64,8 @@ entry-effects-spec =
     loop-holds
     next-from-requires
     enum-known-r
-    active-at-requires
     enter-row-requires
+    done-effects-requires
     row-after-requires
     loop-less
     loop-again
