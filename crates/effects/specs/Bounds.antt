@@ -11,7 +11,7 @@ use Rattle.definition.specs.Rows.{flat, from, keep, minus, mem, backwards}
 use Rattle.definition.specs.Chart.{kind, parent, isRoot, isFinal}
 use Rattle.definition.specs.Tables.{mostActions, rowCount, transitionCount, rowCell, transitionCell, blockAt, entryAt, exitAt, listBlockAt, transitionBlockAt, chartOf}
 use Rattle.definition.specs.Blocks.{done, performed}
-use Rattle.definition.specs.Microstep.{exitEffects, exiting, transitionEffects, Entry, initialBlock, defaultBlock, isDoneAbove, doneEffects, isAfter, entryEffects, entering}
+use Rattle.definition.specs.Microstep.{exitEffects, exiting, transitionEffects, Entry, initialBlock, defaultBlock, isDoneAbove, doneEffects, activeLeaving, activeAt, defaultEffects, entryEffects, entering}
 use Rattle.laws.specs.Orders.{mem-backwards}
 use Rattle.laws.specs.Folds.{flat-length, backwards-length, ascends-length}
 use Rattle.theory.specs.Round.{length-from}
@@ -22,7 +22,7 @@ use Rattle.tables.specs.Ranges.{InTables, row-fits, transition-fits}
 use Rattle.matching.specs.Chosen.{Within}
 use Rattle.effects.specs.declared.Tally.{Tally}
 use Rattle.effects.specs.Trace.{Room, room-few}
-use Rattle.effects.specs.Entering.{defaultEffects, activeAt, rowEntered, entryIs, entry-pieces, HistoryRows}
+use Rattle.effects.specs.Entering.{rowEntered, entryIs, entry-pieces, HistoryRows}
 
 performed-length : (active : List ℕ) (xs : List Action) → length (performed active xs) ≡ length xs
 unfolding performed
@@ -44,7 +44,7 @@ module _ (numbers : List ℕ) (h : InTables numbers) where
   unfolding exitEffects exitAt
   exit-short conf out i l =
       let f = row-fits numbers i (record { tables = h; below = l }) in
-      let b = short (minus conf (keep (isAfter i) out)) numbers (rowCell numbers i 5) (rowCell numbers i 6) (f .exit .short) in
+      let b = short (activeLeaving conf out i) numbers (rowCell numbers i 5) (rowCell numbers i 6) (f .exit .short) in
       omega arith
 
   transition-short : (stay : List ℕ) (t : ℕ) → t < transitionCount numbers → length (transitionEffects (chartOf numbers) stay t) ≤ 9

@@ -14,7 +14,7 @@ use Rattle.definition.specs.Chart.{Chart, kind, parent, isRoot, isParallel, isF
 use Rattle.definition.specs.Tables.{rowCount, kindAt, chartOf}
 use Rattle.definition.specs.Tree.{isDescendant, descendants, children, isCompound}
 use Rattle.definition.specs.Blocks.{Effect, exited, entered, done, perform, performed}
-use Rattle.definition.specs.Microstep.{exitEffects, Entry, initialBlock, defaultBlock, isActiveFinal, isInFinal, addInFinal, inFinal, isDoneAbove, doneEffects, isUpTo, isAfter, entryEffects}
+use Rattle.definition.specs.Microstep.{exitEffects, Entry, initialBlock, defaultBlock, isActiveFinal, isInFinal, addInFinal, inFinal, isDoneAbove, doneEffects, isPast, isUpTo, activeLeaving, activeAt, defaultEffects, entryEffects}
 use Rattle.laws.specs.Bools.{no, both-ways, and-left, and-right, and-true, or-false, not-so, clash}
 use Rattle.laws.specs.Sets.{mem-intersection, mem-insert, mem-from}
 use Rattle.laws.specs.Lists.{mem-subset, subset-mem, keep-cong}
@@ -34,25 +34,7 @@ use Rattle.effects.specs.Trace.{Places, Wrote, Room, wrote-both, room-fi
 use Rattle.matching.specs.Chosen.{Within}
 use Rattle.effects.specs.Blocks.{performed-any}
 
--- ---- blocks
-
--- the effects of history h's default block, if it is one of row i
-unfoldable pub defaultEffects : Chart → List ℕ → ℕ → ℕ → List Effect
-defaultEffects c active i h = performed active (defaultBlock c i h)
-
-performed-both : (active : List ℕ) (xs ys : List Action) → performed active (xs ++ ys) ≡ performed active xs ++ performed active ys
-unfolding performed
-performed-both active xs ys = map-append perform xs ys
-
-performed-flat : (c : Chart) (active : List ℕ) (i : ℕ) (hs : List ℕ) → performed active (flat (defaultBlock c i) hs) ≡ flat (defaultEffects c active i) hs
-unfolding flat defaultEffects
-performed-flat c active i [] = unfold performed in refl
-performed-flat c active i (h ∷ hs) =
-    performed-both active (defaultBlock c i h) (flat (defaultBlock c i) hs) ∙ ap (λ (es : List Effect). performed active (defaultBlock c i h) ++ es) (performed-flat c active i hs)
-
--- the active rows when row i is entered: those that stay, and those of the set up to it
-unfoldable pub activeAt : List ℕ → List ℕ → ℕ → List ℕ
-activeAt stay set i = union stay (keep (isUpTo i) set)
+-- ---- the active rows at hand
 
 up-to-test : (i x : ℕ) → x < 256 → (leb 0 x && ltb x (0 + min (i + 1) 256)) ≡ isUpTo i x
 up-to-test i x l =
@@ -65,31 +47,27 @@ unfolding activeAt intersection
 active-up stay set i n e =
     ap (union stay) (keep-cong (isIn (from (min n 256) 0)) (isUpTo i) (rowsOf set) (λ x m. rw e (mem-from x (min (i + 1) 256) 0 ∙ up-to-test i x (rows-low set x m))))
 
--- the active rows when row i of out is exited: those of the configuration, but for the rows of out behind it
-unfoldable pub activeOut : List ℕ → List ℕ → ℕ → List ℕ
-activeOut conf out i = minus conf (keep (isAfter i) out)
-
-behind-test : (i x : ℕ) → x < 256 → not (leb 0 x && ltb x (0 + min (i + 1) 256)) ≡ isAfter i x
+behind-test : (i x : ℕ) → x < 256 → not (leb 0 x && ltb x (0 + min (i + 1) 256)) ≡ isPast i x
 behind-test i x l = ap not (up-to-test i x l) ∙ go (leb x i) refl
   where
     go : (b : Bool) → leb x i ≡ b → not b ≡ ltb i x
     go true e = let m : x ≤ i = leb-true _ _ e in sym (not-so (ltb i x) (λ f. let n : i < x = ltb-true _ _ f in omega arith))
     go false e = sym (lt-ltb i x (leb-false x i e))
 
-pub active-behind : (conf : List ℕ) (out : RowSet) (i n : ℕ) → n ≡ i + 1 → minus conf (minus (rowsOf out) (from (min n 256) 0)) ≡ activeOut conf (rowsOf out) i
-unfolding activeOut minus
+pub active-behind : (conf : List ℕ) (out : RowSet) (i n : ℕ) → n ≡ i + 1 → minus conf (minus (rowsOf out) (from (min n 256) 0)) ≡ activeLeaving conf (rowsOf out) i
+unfolding activeLeaving minus
 active-behind conf out i n e =
-    ap (minus conf) (keep-cong (notIn (from (min n 256) 0)) (isAfter i) (rowsOf out) (λ x m. rw e (ap not (mem-from x (min (i + 1) 256) 0) ∙ behind-test i x (rows-low out x m))))
+    ap (minus conf) (keep-cong (notIn (from (min n 256) 0)) (isPast i) (rowsOf out) (λ x m. rw e (ap not (mem-from x (min (i + 1) 256) 0) ∙ behind-test i x (rows-low out x m))))
 
 -- exiting row i of out while these rows are active: its exit, then its exit block
-module _ (c : Chart) (conf out : List ℕ) (i : ℕ) (active : List ℕ) (h : active ≡ activeOut conf out i) (old new : Places) (t r : Tally) (w : Wrote old new t r (exited i ∷ [])) where
+module _ (c : Chart) (conf out : List ℕ) (i : ℕ) (active : List ℕ) (h : active ≡ activeLeaving conf out i) (old new : Places) (t r : Tally) (w : Wrote old new t r (exited i ∷ [])) where
   pub exit-room : Room t (exitEffects c conf out i) → Room r (performed active ((c .row) i .exit))
-  unfolding exitEffects activeOut
-  exit-room m = rw h (room-next old new t r (exited i ∷ []) (performed (minus conf (keep (isAfter i) out)) ((c .row) i .exit)) m w)
+  unfolding exitEffects
+  exit-room m = rw h (room-next old new t r (exited i ∷ []) (performed (activeLeaving conf out i) ((c .row) i .exit)) m w)
 
   pub exit-wrote : (newer : Places) (s : Tally) → Wrote new newer r s (performed active ((c .row) i .exit)) → Wrote old newer t s (exitEffects c conf out i)
-  unfolding exitEffects activeOut
-  exit-wrote newer s v = wrote-both old new newer t r s (exited i ∷ []) (performed (minus conf (keep (isAfter i) out)) ((c .row) i .exit)) w (rw h at v)
+  unfolding exitEffects
+  exit-wrote newer s v = wrote-both old new newer t r s (exited i ∷ []) (performed (activeLeaving conf out i) ((c .row) i .exit)) w (rw h at v)
 
 pub exit-first : (c : Chart) (conf out : List ℕ) (i : ℕ) (t : Tally) → Room t (exitEffects c conf out i) → Room t (exited i ∷ [])
 unfolding exitEffects
@@ -103,9 +81,8 @@ rowEntered c active byDefault fell i =
 
 pub entry-pieces : (c : Chart) (stay : List ℕ) (e : Entry) (fell : List ℕ) (i : ℕ) →
     entryEffects c stay e fell i ≡ rowEntered c (activeAt stay (e .set) i) (e .byDefault) fell i ++ doneEffects c (activeAt stay (e .set) i) i
-unfolding entryEffects activeAt rowEntered
-entry-pieces c stay e fell i =
-    rw (performed-both (union stay (keep (isUpTo i) (e .set))) ((c .row) i .entry ++ initialBlock c (e .byDefault) i) (flat (defaultBlock c i) fell), performed-both (union stay (keep (isUpTo i) (e .set))) ((c .row) i .entry) (initialBlock c (e .byDefault) i), performed-flat c (union stay (keep (isUpTo i) (e .set))) i fell) (simp append-assoc)
+unfolding entryEffects rowEntered
+entry-pieces c stay e fell i = simp append-assoc
 
 -- each piece has room after those before it, and all of them together are what entering the row does
 module _ (c : Chart) (active byDefault fell : List ℕ) (i : ℕ) (old : Places) (t : Tally) (m : Room t (rowEntered c active byDefault fell i)) where
@@ -143,12 +120,18 @@ module _ (c : Chart) (active byDefault fell : List ℕ) (i : ℕ) (old : Places)
 
 -- today no action asks which rows are active, so any may be handed in
 module _ (c : Chart) (a b byDefault fell : List ℕ) (i : ℕ) where
-  defaults-any : flat (defaultEffects c a i) fell ≡ flat (defaultEffects c b i) fell
-  defaults-any = sym (performed-flat c a i fell) ∙ performed-any a b (flat (defaultBlock c i) fell) ∙ performed-flat c b i fell
+  default-any : (h : ℕ) → defaultEffects c a i h ≡ defaultEffects c b i h
+  unfolding defaultEffects
+  default-any h = performed-any a b (defaultBlock c i h)
+
+  defaults-any : (hs : List ℕ) → flat (defaultEffects c a i) hs ≡ flat (defaultEffects c b i) hs
+  unfolding flat
+  defaults-any [] = refl
+  defaults-any (h ∷ hs) = rw (default-any h, defaults-any hs) refl
 
   entered-any : rowEntered c a byDefault fell i ≡ rowEntered c b byDefault fell i
   unfolding rowEntered
-  entered-any = rw (performed-any a b ((c .row) i .entry), performed-any a b (initialBlock c byDefault i), defaults-any)
+  entered-any = rw (performed-any a b ((c .row) i .entry), performed-any a b (initialBlock c byDefault i), defaults-any fell)
 
 -- what is entered at a row of the set, and then its done events
 module _ (c : Chart) (stay : List ℕ) (e : Entry) (fell : List ℕ) (i : ℕ) (active : List ℕ) (t : Tally) (m : Room t (entryEffects c stay e fell i)) where

@@ -8,7 +8,7 @@ ghost use lib.ListN.{set};
 ghost use Rattle.definition.specs.Rows.{any, flat};
 ghost use Rattle.definition.specs.Tables.{rowCount, transitionCount, chartOf};
 ghost use Rattle.definition.specs.Blocks.{perform, performed};
-ghost use Rattle.definition.specs.Microstep.{exitEffects, exiting, transitionEffects, initialBlock, isInFinal, addInFinal, isDoneAbove, doneEffects, entering};
+ghost use Rattle.definition.specs.Microstep.{exitEffects, exiting, transitionEffects, initialBlock, isInFinal, addInFinal, isDoneAbove, doneEffects, activeLeaving, activeAt, defaultEffects, entering};
 ghost use Rattle.tables.specs.Ranges.{InTables, RowIn, TransitionIn};
 ghost use Rattle.tables.specs.Parts.{actionsOf};
 ghost use Rattle.rowset.specs.Member.{rowsOf};
@@ -17,7 +17,7 @@ ghost use Rattle.effects.specs.Trace.{places, queues, Wrote, Shown, Room
 ghost use Rattle.effects.specs.Kinds.{effectOf, InEntry, ActionFits};
 ghost use Rattle.effects.specs.Blocks.{ActionsFit};
 ghost use Rattle.matching.specs.Chosen.{Within, Taken};
-ghost use Rattle.effects.specs.Entering.{defaultEffects, activeAt, activeOut, rowEntered, isFinalRow, finalBelow, entryIs, HistoryRow, HistoryRows};
+ghost use Rattle.effects.specs.Entering.{rowEntered, isFinalRow, finalBelow, entryIs, HistoryRow, HistoryRows};
 use chart::children_of;
 use chart::descendants_of;
 use chart::is_compound;
@@ -138,7 +138,7 @@ fn perform_block(
 
 // The rows that are active when row r is exited: those of the configuration, but for the rows of out behind it.
 fn active_out(conf: RowSet, out: RowSet, r: Row) -> RowSet
-    ensures { λ s. ⌜ rowsOf s ≡ activeOut (rowsOf conf) (rowsOf out) (r .0) ⌝ }
+    ensures { λ s. ⌜ rowsOf s ≡ activeLeaving (rowsOf conf) (rowsOf out) (r .0) ⌝ }
 {
     let n = row_after(r);
     conf.minus(out.minus(RowSet::below(n)))

@@ -16,7 +16,7 @@ use Rattle.definition.specs.Tables.{noNumber, rowCount, transitionCount, action
 use Rattle.definition.specs.Rules.{each, argumentFits, slotFits, idDiffers, idFits, actionNamed, rule2}
 use Rattle.definition.specs.Selection.{History}
 use Rattle.definition.specs.Blocks.{Effect, exited, taken, entered, acted, raised, done, traceNo, queued, perform, performed}
-use Rattle.definition.specs.Microstep.{exits, exitEffects, exiting, transitionEffects, targeted, Entry, initialBlock, defaultBlock, isDoneAbove, doneEffects, isAfter, entryEffects, entering, storedIn, staying, historyAfter, entryOf, fallen, effects}
+use Rattle.definition.specs.Microstep.{exits, exitEffects, exiting, transitionEffects, targeted, Entry, initialBlock, defaultBlock, isDoneAbove, doneEffects, activeLeaving, activeAt, defaultEffects, entryEffects, entering, storedIn, staying, historyAfter, entryOf, fallen, effects}
 use Rattle.definition.specs.Follower.{firstEntry, firstEffects}
 use Rattle.definition.specs.Compiled.{ownNumbers}
 use Rattle.laws.specs.Bools.{clash, not-so, and3, and-left, and-right, and-true}
@@ -28,7 +28,7 @@ use Rattle.tables.specs.Ranges.{RowIn, row-fits, transition-fits, argument-fits
 use Rattle.chart.specs.Ready.{Ready, CompiledWith}
 use Rattle.chart.specs.Own.{own-chart}
 use Rattle.matching.specs.Chosen.{Within}
-use Rattle.effects.specs.Entering.{defaultEffects, activeAt, rowEntered, entry-pieces, final-later, not-root-later, HistoryRows}
+use Rattle.effects.specs.Entering.{rowEntered, entry-pieces, final-later, not-root-later, HistoryRows}
 use Rattle.effects.specs.Trace.{joining, joinsOf}
 use Rattle.microstep.specs.Plan.{exits-within, targeted-within, entry-within, fallen-histories, paths-within, no-histories}
 use Rattle.events.specs.Rounds.{effectAt, queuedNames, isKnown, JoinsIn}
@@ -123,7 +123,7 @@ module _ (chart : List ℕ) (g : Ready chart) (p : Effect → Bool) (h : Passes 
   exit-passes : (conf out : List ℕ) (i : ℕ) → i < rowCount chart → all p (exitEffects (chartOf chart) conf out i) ≡ true
   unfolding exitEffects exitAt all
   exit-passes conf out i l =
-      and-true (p (exited i)) _ (h .exit i l) (block-passes (minus conf (keep (isAfter i) out)) (rowCell chart i 6) (rowCell chart i 5) (row-fits chart i (row-in i l) .exit .inside))
+      and-true (p (exited i)) _ (h .exit i l) (block-passes (activeLeaving conf out i) (rowCell chart i 6) (rowCell chart i 5) (row-fits chart i (row-in i l) .exit .inside))
 
   transition-passes : (stay : List ℕ) (t : ℕ) → t < transitionCount chart → all p (transitionEffects (chartOf chart) stay t) ≡ true
   unfolding transitionEffects transitionBlockAt all

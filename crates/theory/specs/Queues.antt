@@ -20,7 +20,7 @@ use Rattle.definition.specs.Chart.{Chart, Names, kind, parent, isRoot, isParall
 use Rattle.definition.specs.Tables.{rowCount, transitionCount, referenceCount, descriptorCount, actionCount, rowCell, transitionCell, actionAt, blockAt, entryAt, exitAt, idAt, listBlockAt, transitionBlockAt, nameAt, chartOf, noNumber, mostDescriptors, mostTargets, nameCount}
 use Rattle.definition.specs.Rules.{each, inside, optionalBelow, countsFit, sizesFit, blockFits, rowInRange, transitionInRange, referenceInRange, descriptorInRange, actionInRange, compiledSize, rule1, slotFits, idDiffers, idFits, raiseFits, actionNamed, rule2}
 use Rattle.definition.specs.Blocks.{Effect, done, queued, perform, performed}
-use Rattle.definition.specs.Microstep.{exitEffects, exiting, transitionEffects, Entry, initialBlock, defaultBlock, isDoneAbove, doneEffects, entryEffects, entering, exits, storedIn, effects, staying}
+use Rattle.definition.specs.Microstep.{exitEffects, exiting, transitionEffects, Entry, initialBlock, defaultBlock, isDoneAbove, doneEffects, activeAt, defaultEffects, entryEffects, entering, exits, storedIn, effects, staying}
 use Rattle.definition.specs.Selection.{History}
 use Rattle.definition.specs.Answers.{answerNo}
 use Rattle.definition.specs.Follower.{Follower, mostQueued, Round, idle, over, did, taking, selectedBy, closingRound, round, refusal, firstEntry, firstEffects, firstFollower, startOr, start, endedFollower, isEnded, postAnswer, withExternal, post, run}
@@ -235,14 +235,19 @@ module _ (numbers names : List ℕ) (r1 : rule1 numbers names (compiledSize numb
   transition-named stay u l = performed-names (chartOf numbers) names stay (transitionBlockAt numbers u) (transition-block u l)
 
   entry-named : (stay : List ℕ) (e : Entry) (fell : List ℕ) (i : ℕ) → all (queuesNames (chartOf numbers) (nameAt names)) (entryEffects (chartOf numbers) stay e fell i) ≡ true
-  unfolding entryEffects initialBlock defaultBlock all queuesNames queued
+  unfolding entryEffects initialBlock defaultBlock defaultEffects all queuesNames queued
   entry-named stay e fell i =
-      all-both (queuesNames (chartOf numbers) (nameAt names)) (performed _ (entryAt numbers i ++ initialBlock (chartOf numbers) (e .byDefault) i ++ flat (defaultBlock (chartOf numbers) i) fell)) _
-      (performed-names (chartOf numbers) names _ (entryAt numbers i ++ initialBlock (chartOf numbers) (e .byDefault) i ++ flat (defaultBlock (chartOf numbers) i) fell)
-      (all-both (raiseFits names) (entryAt numbers i ++ initialBlock (chartOf numbers) (e .byDefault) i) _
-      (all-both (raiseFits names) (entryAt numbers i) _ (row-blocks i .0) (maybe (mem i (e .byDefault)) i))
-      (all-flat (raiseFits names) (defaultBlock (chartOf numbers) i) fell (λ h m. maybe (eqb i (parent (chartOf numbers) h)) h))))
-      (done-effects-named _ i)
+      all-both (queuesNames (chartOf numbers) (nameAt names))
+      (performed (activeAt stay (e .set) i) (entryAt numbers i) ++ performed (activeAt stay (e .set) i) (initialBlock (chartOf numbers) (e .byDefault) i) ++
+      flat (defaultEffects (chartOf numbers) (activeAt stay (e .set) i) i) fell) _
+      (all-both (queuesNames (chartOf numbers) (nameAt names))
+      (performed (activeAt stay (e .set) i) (entryAt numbers i) ++ performed (activeAt stay (e .set) i) (initialBlock (chartOf numbers) (e .byDefault) i)) _
+      (all-both (queuesNames (chartOf numbers) (nameAt names)) (performed (activeAt stay (e .set) i) (entryAt numbers i)) _
+      (performed-names (chartOf numbers) names (activeAt stay (e .set) i) (entryAt numbers i) (row-blocks i .0))
+      (performed-names (chartOf numbers) names (activeAt stay (e .set) i) (initialBlock (chartOf numbers) (e .byDefault) i) (maybe (mem i (e .byDefault)) i)))
+      (all-flat (queuesNames (chartOf numbers) (nameAt names)) (defaultEffects (chartOf numbers) (activeAt stay (e .set) i) i) fell
+      (λ h m. performed-names (chartOf numbers) names (activeAt stay (e .set) i) (defaultBlock (chartOf numbers) i h) (maybe (eqb i (parent (chartOf numbers) h)) h))))
+      (done-effects-named (activeAt stay (e .set) i) i)
     where
       maybe : (b : Bool) (h : ℕ) → all (raiseFits names) (cond b (listBlockAt numbers h) []) ≡ true
       maybe true h = row-blocks h .2

@@ -11,7 +11,7 @@ use Rattle.definition.specs.Names.{Name}
 use Rattle.definition.specs.Chart.{Chart, Names, kind, parent, isRoot, isFinal}
 use Rattle.definition.specs.Selection.{History, exitSet}
 use Rattle.definition.specs.Blocks.{Effect, exited, taken, entered, acted, raised, done, perform, performed}
-use Rattle.definition.specs.Microstep.{exits, exitEffects, exiting, transitionEffects, Entry, isDoneAbove, doneEffects, entryEffects, entering, storedIn, effects, staying}
+use Rattle.definition.specs.Microstep.{exits, exitEffects, exiting, transitionEffects, Entry, initialBlock, defaultBlock, isDoneAbove, doneEffects, activeAt, defaultEffects, entryEffects, entering, storedIn, effects, staying}
 use Rattle.definition.specs.Follower.{Follower, Round, idle, over, did, taking, selectedBy, closingRound, round}
 use Rattle.laws.specs.Bools.{no}
 use Rattle.laws.specs.Sets.{NoTwice}
@@ -59,11 +59,22 @@ taken-done c conf i = go (isFinal (kind c i) && not (isRoot (kind c (parent c i)
     go true false = refl
     go false b = refl
 
+taken-default : (c : Chart) (conf : List ℕ) (i h : ℕ) → takenIn (defaultEffects c conf i h) ≡ []
+unfolding defaultEffects
+taken-default c conf i h = taken-performed conf (defaultBlock c i h)
+
 taken-entering : (c : Chart) (stay : List ℕ) (e : Entry) (fell : List ℕ) → takenIn (entering c stay e fell) ≡ []
 unfolding entering entryEffects takenIn flat ifTaken
 taken-entering c stay e fell =
     taken-flat (entryEffects c stay e fell) (e .set)
-    (λ i. taken-app (performed _ _) _ ∙ rw (taken-performed _ _) (taken-done c _ i))
+    (λ i. taken-app (performed (activeAt stay (e .set) i) ((c .row) i .entry) ++ performed (activeAt stay (e .set) i) (initialBlock c (e .byDefault) i) ++ flat (defaultEffects c (activeAt stay (e .set) i) i) fell) _ ∙
+    rw (
+      taken-app (performed (activeAt stay (e .set) i) ((c .row) i .entry) ++ performed (activeAt stay (e .set) i) (initialBlock c (e .byDefault) i)) (flat (defaultEffects c (activeAt stay (e .set) i) i) fell),
+      taken-app (performed (activeAt stay (e .set) i) ((c .row) i .entry)) (performed (activeAt stay (e .set) i) (initialBlock c (e .byDefault) i)),
+      taken-performed (activeAt stay (e .set) i) ((c .row) i .entry),
+      taken-performed (activeAt stay (e .set) i) (initialBlock c (e .byDefault) i),
+      taken-flat (defaultEffects c (activeAt stay (e .set) i) i) fell (λ h. taken-default c (activeAt stay (e .set) i) i h),
+    ) (taken-done c (activeAt stay (e .set) i) i))
 
 taken-blocks : (c : Chart) (stay ts : List ℕ) → takenIn (flat (transitionEffects c stay) ts) ≡ ts
 unfolding transitionEffects takenIn flat ifTaken

@@ -1,10 +1,11 @@
 use Prim.Native.Nat.{_-_}
 use borrow.Author.Needs.{needs}
 use Rattle.definition.specs.Tables.{chartOf}
+use Rattle.definition.specs.Microstep.{defaultEffects}
 use Rattle.rowset.specs.Visits.{found-next, rest-at, rest-end, next-less}
 use Rattle.rowset.specs.Search.{restFrom}
 use Rattle.rowset.specs.Member.{rowsOf}
-use Rattle.effects.specs.Entering.{defaultEffects, history-row}
+use Rattle.effects.specs.Entering.{history-row}
 use Rattle.effects.specs.Trace.{places}
 use Rattle.effects.specs.Emitting.{Emitting, emitting-room, emitting-turn, emitting-end, emitting-length, emitting-joins, emitting-up}
 use Rattle.effects.proofs.default_blocks.Statement.{statement}

@@ -4,12 +4,12 @@ use native.Mathlib.Omega.{arith}
 use borrow.Author.Tests.{not-true, not-false}
 use borrow.Author.Needs.{needs}
 use Rattle.definition.specs.Blocks.{done}
-use Rattle.definition.specs.Microstep.{doneEffects}
+use Rattle.definition.specs.Microstep.{doneEffects, activeAt}
 use Rattle.definition.specs.Tables.{chartOf}
 use Rattle.definition.specs.Chart.{isFinal, isRoot}
 use Rattle.rowset.specs.Member.{rowsOf}
 use Rattle.laws.specs.Loops.{told}
-use Rattle.effects.specs.Entering.{activeAt, doneAbove, done-plain, done-closing, done-pieces, above-yes, above-no, final-later, not-root-later}
+use Rattle.effects.specs.Entering.{doneAbove, done-plain, done-closing, done-pieces, above-yes, above-no, final-later, not-root-later}
 use Rattle.effects.specs.Trace.{queues, Wrote, Room, wrote-none, wrote-both, room-first, room-next}
 use Rattle.effects.proofs.done_effects.Statement.{statement}
 use Rattle.effects.proofs.done_effects.Tie as tie
