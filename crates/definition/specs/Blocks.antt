@@ -35,6 +35,6 @@ unfoldable pub perform : Action → Effect
 perform (Raise n) = raised n
 perform (Host n) = acted n
 
--- the effects of a block
-unfoldable pub performed : List Action → List Effect
-performed block = map perform block
+-- the effects of a block, performed where the rows conf are active
+unfoldable pub performed : List ℕ → List Action → List Effect
+performed conf block = map perform block

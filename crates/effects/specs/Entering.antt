@@ -1,20 +1,20 @@
 -- What entering a row does, piece by piece, and which rows are in a final state.
 use mathlib.Core.Path.{_≡_, refl, ap, sym, _∙_, subst}
-use mathlib.Core.Bool.{Bool, true, false, _&&_, _||_, cond}
+use mathlib.Core.Bool.{Bool, true, false, not, _&&_, _||_, cond}
 use mathlib.Core.List.{List, [], _∷_, _++_, map-append, append-assoc}
 use Prim.Native.Nat.{ℕ, zero, suc, _+_, _≤_, _<_, min}
 use native.Mathlib.Omega.{arith}
 use lib.Dec.{eqb, leb, ltb}
-use borrow.Author.Tests.{ne-eqb, lt-ltb, ltb-true, leb-true, le-leb}
+use borrow.Author.Tests.{ne-eqb, lt-ltb, ltb-true, leb-true, leb-false, le-leb}
 use Rattle.definition.specs.declared.Action.{Action}
 use Rattle.definition.specs.declared.Kind.{Kind}
 use Rattle.definition.specs.declared.Kind.the-variants.{Root, State, Parallel, Final, Shallow, Deep}
-use Rattle.definition.specs.Rows.{fold, from, keep, mem, isIn, any, flat, insert, union, intersection, subset, those, backwards}
+use Rattle.definition.specs.Rows.{fold, from, keep, mem, isIn, notIn, any, flat, insert, union, intersection, minus, subset, those, backwards}
 use Rattle.definition.specs.Chart.{Chart, kind, parent, isRoot, isParallel, isFinal, isHistory}
 use Rattle.definition.specs.Tables.{rowCount, kindAt, chartOf}
 use Rattle.definition.specs.Tree.{isDescendant, descendants, children, isCompound}
-use Rattle.definition.specs.Blocks.{Effect, entered, done, perform, performed}
-use Rattle.definition.specs.Microstep.{Entry, initialBlock, defaultBlock, isActiveFinal, isInFinal, addInFinal, inFinal, isDoneAbove, doneEffects, isUpTo, entryEffects}
+use Rattle.definition.specs.Blocks.{Effect, exited, entered, done, perform, performed}
+use Rattle.definition.specs.Microstep.{exitEffects, Entry, initialBlock, defaultBlock, isActiveFinal, isInFinal, addInFinal, inFinal, isDoneAbove, doneEffects, isPast, isUpTo, activeLeaving, activeAt, defaultEffects, entryEffects}
 use Rattle.laws.specs.Bools.{no, both-ways, and-left, and-right, and-true, or-false, not-so, clash}
 use Rattle.laws.specs.Sets.{mem-intersection, mem-insert, mem-from}
 use Rattle.laws.specs.Lists.{mem-subset, subset-mem, keep-cong}
@@ -30,27 +30,11 @@ use Rattle.chart.specs.Inside.{child-inside}
 use Rattle.theory.specs.Accepted.{Sound}
 use Rattle.rowset.specs.Rows.{rows-low}
 use Rattle.effects.specs.declared.Tally.{Tally}
-use Rattle.effects.specs.Trace.{Wrote, Room, wrote-both, room-first, room-next}
+use Rattle.effects.specs.Trace.{Places, Wrote, Room, wrote-both, room-first, room-next}
 use Rattle.matching.specs.Chosen.{Within}
+use Rattle.effects.specs.Blocks.{performed-any}
 
--- ---- blocks
-
--- the effects of history h's default block, if it is one of row i
-unfoldable pub defaultEffects : Chart → ℕ → ℕ → List Effect
-defaultEffects c i h = performed (defaultBlock c i h)
-
-performed-both : (xs ys : List Action) → performed (xs ++ ys) ≡ performed xs ++ performed ys
-unfolding performed
-performed-both xs ys = map-append perform xs ys
-
-performed-flat : (c : Chart) (i : ℕ) (hs : List ℕ) → performed (flat (defaultBlock c i) hs) ≡ flat (defaultEffects c i) hs
-unfolding flat defaultEffects
-performed-flat c i [] = unfold performed in refl
-performed-flat c i (h ∷ hs) = performed-both (defaultBlock c i h) (flat (defaultBlock c i) hs) ∙ ap (λ (es : List Effect). performed (defaultBlock c i h) ++ es) (performed-flat c i hs)
-
--- the active rows when row i is entered: those that stay, and those of the set up to it
-unfoldable pub activeAt : List ℕ → List ℕ → ℕ → List ℕ
-activeAt stay set i = union stay (keep (isUpTo i) set)
+-- ---- the active rows at hand
 
 up-to-test : (i x : ℕ) → x < 256 → (leb 0 x && ltb x (0 + min (i + 1) 256)) ≡ isUpTo i x
 up-to-test i x l =
@@ -63,54 +47,106 @@ unfolding activeAt intersection
 active-up stay set i n e =
     ap (union stay) (keep-cong (isIn (from (min n 256) 0)) (isUpTo i) (rowsOf set) (λ x m. rw e (mem-from x (min (i + 1) 256) 0 ∙ up-to-test i x (rows-low set x m))))
 
--- the pieces of entering row i: its entry, its entry block, its initial block, the default blocks of its histories, the done events
+behind-test : (i x : ℕ) → x < 256 → not (leb 0 x && ltb x (0 + min (i + 1) 256)) ≡ isPast i x
+behind-test i x l = ap not (up-to-test i x l) ∙ go (leb x i) refl
+  where
+    go : (b : Bool) → leb x i ≡ b → not b ≡ ltb i x
+    go true e = let m : x ≤ i = leb-true _ _ e in sym (not-so (ltb i x) (λ f. let n : i < x = ltb-true _ _ f in omega arith))
+    go false e = sym (lt-ltb i x (leb-false x i e))
+
+pub active-behind : (conf : List ℕ) (out : RowSet) (i n : ℕ) → n ≡ i + 1 → minus conf (minus (rowsOf out) (from (min n 256) 0)) ≡ activeLeaving conf (rowsOf out) i
+unfolding activeLeaving minus
+active-behind conf out i n e =
+    ap (minus conf) (keep-cong (notIn (from (min n 256) 0)) (isPast i) (rowsOf out) (λ x m. rw e (ap not (mem-from x (min (i + 1) 256) 0) ∙ behind-test i x (rows-low out x m))))
+
+-- exiting row i of out while these rows are active: its exit, then its exit block
+module _ (c : Chart) (conf out : List ℕ) (i : ℕ) (active : List ℕ) (h : active ≡ activeLeaving conf out i) (old new : Places) (t r : Tally) (w : Wrote old new t r (exited i ∷ [])) where
+  pub exit-room : Room t (exitEffects c conf out i) → Room r (performed active ((c .row) i .exit))
+  unfolding exitEffects
+  exit-room m = rw h (room-next old new t r (exited i ∷ []) (performed (activeLeaving conf out i) ((c .row) i .exit)) m w)
+
+  pub exit-wrote : (newer : Places) (s : Tally) → Wrote new newer r s (performed active ((c .row) i .exit)) → Wrote old newer t s (exitEffects c conf out i)
+  unfolding exitEffects
+  exit-wrote newer s v = wrote-both old new newer t r s (exited i ∷ []) (performed (activeLeaving conf out i) ((c .row) i .exit)) w (rw h at v)
+
+pub exit-first : (c : Chart) (conf out : List ℕ) (i : ℕ) (t : Tally) → Room t (exitEffects c conf out i) → Room t (exited i ∷ [])
+unfolding exitEffects
+exit-first c conf out i t m = room-first t (exited i ∷ []) _ m
+
+-- entering row i while these rows are active, piece by piece: its entry, its entry block, its initial block, the default blocks of its
+-- histories; the done events come behind them
+unfoldable pub rowEntered : Chart → List ℕ → List ℕ → List ℕ → ℕ → List Effect
+rowEntered c active byDefault fell i =
+    (entered i ∷ []) ++ (performed active ((c .row) i .entry) ++ (performed active (initialBlock c byDefault i) ++ flat (defaultEffects c active i) fell))
+
 pub entry-pieces : (c : Chart) (stay : List ℕ) (e : Entry) (fell : List ℕ) (i : ℕ) →
-    entryEffects c stay e fell i ≡
-    (entered i ∷ []) ++ (performed ((c .row) i .entry) ++ (performed (initialBlock c (e .byDefault) i) ++ (flat (defaultEffects c i) fell ++ doneEffects c (activeAt stay (e .set) i) i)))
-unfolding entryEffects activeAt
-entry-pieces c stay e fell i =
-    rw (performed-both ((c .row) i .entry ++ initialBlock c (e .byDefault) i) (flat (defaultBlock c i) fell), performed-both ((c .row) i .entry) (initialBlock c (e .byDefault) i), performed-flat c i fell) (simp append-assoc)
+    entryEffects c stay e fell i ≡ rowEntered c (activeAt stay (e .set) i) (e .byDefault) fell i ++ doneEffects c (activeAt stay (e .set) i) i
+unfolding entryEffects rowEntered
+entry-pieces c stay e fell i = simp append-assoc
 
 -- each piece has room after those before it, and all of them together are what entering the row does
-module _ (c : Chart) (stay : List ℕ) (e : Entry) (fell : List ℕ) (i : ℕ) (old : List ℕ) (t : Tally) (m : Room t (entryEffects c stay e fell i)) where
-  whole : Room t ((entered i ∷ []) ++ (performed ((c .row) i .entry) ++ (performed (initialBlock c (e .byDefault) i) ++ (flat (defaultEffects c i) fell ++ doneEffects c (activeAt stay (e .set) i) i))))
-  whole = subst (Room t) (entry-pieces c stay e fell i) m
+module _ (c : Chart) (active byDefault fell : List ℕ) (i : ℕ) (old : Places) (t : Tally) (m : Room t (rowEntered c active byDefault fell i)) where
+  whole : Room t ((entered i ∷ []) ++ (performed active ((c .row) i .entry) ++ (performed active (initialBlock c byDefault i) ++ flat (defaultEffects c active i) fell)))
+  unfolding rowEntered
+  whole = m
 
   pub entered-room : Room t (entered i ∷ [])
   entered-room = room-first t (entered i ∷ []) _ whole
 
-  module _ (old1 : List ℕ) (t1 : Tally) (w1 : Wrote old old1 t t1 (entered i ∷ [])) where
-    after-entered : Room t1 (performed ((c .row) i .entry) ++ (performed (initialBlock c (e .byDefault) i) ++ (flat (defaultEffects c i) fell ++ doneEffects c (activeAt stay (e .set) i) i)))
+  module _ (old1 : Places) (t1 : Tally) (w1 : Wrote old old1 t t1 (entered i ∷ [])) where
+    after-entered : Room t1 (performed active ((c .row) i .entry) ++ (performed active (initialBlock c byDefault i) ++ flat (defaultEffects c active i) fell))
     after-entered = room-next old old1 t t1 (entered i ∷ []) _ whole w1
 
-    pub block-room : Room t1 (performed ((c .row) i .entry))
-    block-room = room-first t1 (performed ((c .row) i .entry)) (performed (initialBlock c (e .byDefault) i) ++ (flat (defaultEffects c i) fell ++ doneEffects c (activeAt stay (e .set) i) i)) after-entered
+    pub block-room : Room t1 (performed active ((c .row) i .entry))
+    block-room = room-first t1 (performed active ((c .row) i .entry)) (performed active (initialBlock c byDefault i) ++ flat (defaultEffects c active i) fell) after-entered
 
-    module _ (old2 : List ℕ) (t2 : Tally) (w2 : Wrote old1 old2 t1 t2 (performed ((c .row) i .entry))) where
-      after-block : Room t2 (performed (initialBlock c (e .byDefault) i) ++ (flat (defaultEffects c i) fell ++ doneEffects c (activeAt stay (e .set) i) i))
-      after-block = room-next old1 old2 t1 t2 (performed ((c .row) i .entry)) (performed (initialBlock c (e .byDefault) i) ++ (flat (defaultEffects c i) fell ++ doneEffects c (activeAt stay (e .set) i) i)) after-entered w2
+    module _ (old2 : Places) (t2 : Tally) (w2 : Wrote old1 old2 t1 t2 (performed active ((c .row) i .entry))) where
+      after-block : Room t2 (performed active (initialBlock c byDefault i) ++ flat (defaultEffects c active i) fell)
+      after-block = room-next old1 old2 t1 t2 (performed active ((c .row) i .entry)) (performed active (initialBlock c byDefault i) ++ flat (defaultEffects c active i) fell) after-entered w2
 
-      pub initial-room : Room t2 (performed (initialBlock c (e .byDefault) i))
-      initial-room = room-first t2 (performed (initialBlock c (e .byDefault) i)) (flat (defaultEffects c i) fell ++ doneEffects c (activeAt stay (e .set) i) i) after-block
+      pub initial-room : Room t2 (performed active (initialBlock c byDefault i))
+      initial-room = room-first t2 (performed active (initialBlock c byDefault i)) (flat (defaultEffects c active i) fell) after-block
 
-      module _ (old3 : List ℕ) (t3 : Tally) (w3 : Wrote old2 old3 t2 t3 (performed (initialBlock c (e .byDefault) i))) where
-        after-initial : Room t3 (flat (defaultEffects c i) fell ++ doneEffects c (activeAt stay (e .set) i) i)
-        after-initial = room-next old2 old3 t2 t3 (performed (initialBlock c (e .byDefault) i)) (flat (defaultEffects c i) fell ++ doneEffects c (activeAt stay (e .set) i) i) after-block w3
+      module _ (old3 : Places) (t3 : Tally) (w3 : Wrote old2 old3 t2 t3 (performed active (initialBlock c byDefault i))) where
+        pub defaults-room : Room t3 (flat (defaultEffects c active i) fell)
+        defaults-room = room-next old2 old3 t2 t3 (performed active (initialBlock c byDefault i)) (flat (defaultEffects c active i) fell) after-block w3
 
-        pub defaults-room : Room t3 (flat (defaultEffects c i) fell)
-        defaults-room = room-first t3 (flat (defaultEffects c i) fell) (doneEffects c (activeAt stay (e .set) i) i) after-initial
+        pub entry-wrote : (old4 : Places) (t4 : Tally) → Wrote old3 old4 t3 t4 (flat (defaultEffects c active i) fell) → Wrote old old4 t t4 (rowEntered c active byDefault fell i)
+        unfolding rowEntered
+        entry-wrote old4 t4 w4 =
+            wrote-both old old1 old4 t t1 t4 (entered i ∷ []) _ w1
+            (wrote-both old1 old2 old4 t1 t2 t4 (performed active ((c .row) i .entry)) _ w2
+            (wrote-both old2 old3 old4 t2 t3 t4 (performed active (initialBlock c byDefault i)) _ w3 w4))
 
-        module _ (old4 : List ℕ) (t4 : Tally) (w4 : Wrote old3 old4 t3 t4 (flat (defaultEffects c i) fell)) where
-          pub done-room : Room t4 (doneEffects c (activeAt stay (e .set) i) i)
-          done-room = room-next old3 old4 t3 t4 (flat (defaultEffects c i) fell) (doneEffects c (activeAt stay (e .set) i) i) after-initial w4
+-- today no action asks which rows are active, so any may be handed in
+module _ (c : Chart) (a b byDefault fell : List ℕ) (i : ℕ) where
+  default-any : (h : ℕ) → defaultEffects c a i h ≡ defaultEffects c b i h
+  unfolding defaultEffects
+  default-any h = performed-any a b (defaultBlock c i h)
 
-          pub entry-wrote : (old5 : List ℕ) (t5 : Tally) → Wrote old4 old5 t4 t5 (doneEffects c (activeAt stay (e .set) i) i) → Wrote old old5 t t5 (entryEffects c stay e fell i)
-          entry-wrote old5 t5 w5 =
-              subst (Wrote old old5 t t5) (sym (entry-pieces c stay e fell i))
-              (wrote-both old old1 old5 t t1 t5 (entered i ∷ []) _ w1
-              (wrote-both old1 old2 old5 t1 t2 t5 (performed ((c .row) i .entry)) _ w2
-              (wrote-both old2 old3 old5 t2 t3 t5 (performed (initialBlock c (e .byDefault) i)) _ w3
-              (wrote-both old3 old4 old5 t3 t4 t5 (flat (defaultEffects c i) fell) _ w4 w5))))
+  defaults-any : (hs : List ℕ) → flat (defaultEffects c a i) hs ≡ flat (defaultEffects c b i) hs
+  unfolding flat
+  defaults-any [] = refl
+  defaults-any (h ∷ hs) = rw (default-any h, defaults-any hs) refl
+
+  entered-any : rowEntered c a byDefault fell i ≡ rowEntered c b byDefault fell i
+  unfolding rowEntered
+  entered-any = rw (performed-any a b ((c .row) i .entry), performed-any a b (initialBlock c byDefault i), defaults-any fell)
+
+-- what is entered at a row of the set, and then its done events
+module _ (c : Chart) (stay : List ℕ) (e : Entry) (fell : List ℕ) (i : ℕ) (active : List ℕ) (t : Tally) (m : Room t (entryEffects c stay e fell i)) where
+  both : entryEffects c stay e fell i ≡ rowEntered c active (e .byDefault) fell i ++ doneEffects c (activeAt stay (e .set) i) i
+  both = entry-pieces c stay e fell i ∙ ap (λ (es : List Effect). es ++ doneEffects c (activeAt stay (e .set) i) i) (entered-any c (activeAt stay (e .set) i) active (e .byDefault) fell i)
+
+  pub row-room : Room t (rowEntered c active (e .byDefault) fell i)
+  row-room = room-first t (rowEntered c active (e .byDefault) fell i) _ (subst (Room t) both m)
+
+  module _ (old new : Places) (r : Tally) (w : Wrote old new t r (rowEntered c active (e .byDefault) fell i)) where
+    pub done-room : Room r (doneEffects c (activeAt stay (e .set) i) i)
+    done-room = room-next old new t r (rowEntered c active (e .byDefault) fell i) _ (subst (Room t) both m) w
+
+    pub row-wrote : (newer : Places) (u : Tally) → Wrote new newer r u (doneEffects c (activeAt stay (e .set) i) i) → Wrote old newer t u (entryEffects c stay e fell i)
+    row-wrote newer u v = subst (Wrote old newer t u) (sym both) (wrote-both old new newer t r u (rowEntered c active (e .byDefault) fell i) _ w v)
 
 -- the entry set and its rows whose child came by default
 abbrev pub entryIs : RowSet → RowSet → Entry
@@ -156,23 +192,23 @@ history-later chart h w = not-root-later chart h (w .row .ready) (history-plain 
 pub final-later : (chart : List ℕ) (i : ℕ) → Ready chart → isFinal (kindAt chart i) ≡ true → 0 < i
 final-later chart i w e = not-root-later chart i w (final-plain (kindAt chart i) e)
 
-module _ (c : Chart) (byDefault : List ℕ) (i : ℕ) where
+module _ (c : Chart) (active byDefault : List ℕ) (i : ℕ) where
   -- "initial block, if its child came by default"
-  pub initial-runs : mem i byDefault ≡ true → performed (initialBlock c byDefault i) ≡ performed ((c .row) i .block)
+  pub initial-runs : mem i byDefault ≡ true → performed active (initialBlock c byDefault i) ≡ performed active ((c .row) i .block)
   unfolding initialBlock
   initial-runs h = rw h
 
-  pub initial-not : mem i byDefault ≡ false → performed (initialBlock c byDefault i) ≡ []
+  pub initial-not : mem i byDefault ≡ false → performed active (initialBlock c byDefault i) ≡ []
   unfolding initialBlock performed
   initial-not h = rw h
 
-module _ (c : Chart) (i h : ℕ) where
+module _ (c : Chart) (active : List ℕ) (i h : ℕ) where
   -- "default block, if a history of this row fell to its default list"
-  pub default-runs : eqb i (parent c h) ≡ true → defaultEffects c i h ≡ performed ((c .row) h .block)
+  pub default-runs : eqb i (parent c h) ≡ true → defaultEffects c active i h ≡ performed active ((c .row) h .block)
   unfolding defaultEffects defaultBlock
   default-runs e = rw e
 
-  pub default-not : eqb i (parent c h) ≡ false → defaultEffects c i h ≡ []
+  pub default-not : eqb i (parent c h) ≡ false → defaultEffects c active i h ≡ []
   unfolding defaultEffects defaultBlock performed
   default-not e = rw e
 

@@ -1,23 +1,23 @@
-// Writes the effects of a round into a lent place, and counts them. An entry that finds no room is counted alone, so a round can be worked
-// out before its entries are known to fit: into a draft, or with no place to write into.
+// Writes the effects of a round into lent places, and counts them: each into a trace, and those that queue a name into joins too. A number
+// that finds no room is counted alone, so a round can be worked out before its entries are known to fit: into a draft, or with no place to
+// write into.
 ghost use mathlib.Core.Path.{_≡_};
-ghost use mathlib.Core.Bool.{cond};
 ghost use mathlib.Core.List.{[], _∷_};
 ghost use Prim.Native.Nat.{_+_};
-ghost use lib.Dec.{leb};
+ghost use lib.ListN.{set};
 ghost use Rattle.definition.specs.Rows.{any, flat};
 ghost use Rattle.definition.specs.Tables.{rowCount, transitionCount, chartOf};
 ghost use Rattle.definition.specs.Blocks.{perform, performed};
-ghost use Rattle.definition.specs.Microstep.{exitEffects, exiting, transitionEffects, initialBlock, isInFinal, addInFinal, isDoneAbove, doneEffects, entryEffects, entering};
+ghost use Rattle.definition.specs.Microstep.{exitEffects, exiting, transitionEffects, initialBlock, isInFinal, addInFinal, isDoneAbove, doneEffects, activeLeaving, activeAt, defaultEffects, entering};
 ghost use Rattle.tables.specs.Ranges.{InTables, RowIn, TransitionIn};
 ghost use Rattle.tables.specs.Parts.{actionsOf};
 ghost use Rattle.rowset.specs.Member.{rowsOf};
 ghost use Rattle.chart.specs.Ready.{Ready, RowReady};
-ghost use Rattle.effects.specs.Trace.{Wrote, Room};
+ghost use Rattle.effects.specs.Trace.{places, queues, Wrote, Shown, Room};
 ghost use Rattle.effects.specs.Kinds.{effectOf, InEntry, ActionFits};
 ghost use Rattle.effects.specs.Blocks.{ActionsFit};
 ghost use Rattle.matching.specs.Chosen.{Within, Taken};
-ghost use Rattle.effects.specs.Entering.{defaultEffects, activeAt, isFinalRow, finalBelow, entryIs, HistoryRow, HistoryRows};
+ghost use Rattle.effects.specs.Entering.{rowEntered, isFinalRow, finalBelow, entryIs, HistoryRow, HistoryRows};
 use chart::children_of;
 use chart::descendants_of;
 use chart::is_compound;
@@ -65,48 +65,70 @@ pub fn row_after(r: Row) -> u16
     r.0 as u16 + 1
 }
 
-// Raised names and done events join the queue.
-fn queued_by(kind: u32) -> u64
-    ensures { λ n. ⌜ n ≡ cond (leb 5 kind) 1 0 ⌝ }
+// A number at its place, if the list reaches it.
+fn put(list: &mut [u32], place: u64, number: u32)
+    ensures { λ _. ⌜ now (list .exit) ≡ set (now (list .entry)) place number ⌝ }
 {
-    if RAISED <= kind { 1 } else { 0 }
+    let at = place as usize;
+    if at < list.len() {
+        list[at] = number;
+    }
 }
 
+// An entry that queues no name.
 fn emit(trace: &mut [u32], tally: Tally, kind: u32, index: u32) -> Tally
-    requires { ⌜ InEntry kind index × Room tally (effectOf kind index ∷ []) ⌝ }
-    ensures { λ r. ⌜ Wrote (now (trace .entry)) (now (trace .exit)) tally r (effectOf kind index ∷ []) ⌝ }
+    requires { ⌜ InEntry kind index × (queues (effectOf kind index) ≡ 0) × Room tally (effectOf kind index ∷ []) ⌝ }
+    ensures { λ r. ⌜ Shown (now (trace .entry)) (now (trace .exit)) tally r (effectOf kind index) ⌝ }
 {
-    let at = tally.entries as usize;
-    if at < trace.len() {
-        trace[at] = kind * 65536 + index;
-    }
+    put(trace, tally.entries, kind * 65536 + index);
     Tally {
         entries: tally.entries + 1,
-        names: tally.names + queued_by(kind),
+        names: tally.names,
     }
 }
 
-fn perform_action(trace: &mut [u32], tally: Tally, action: Action) -> Tally
+// An entry whose name joins the queue.
+fn emit_join(trace: &mut [u32], joins: &mut [u32], tally: Tally, kind: u32, index: u32) -> Tally
+    requires { ⌜ InEntry kind index × (queues (effectOf kind index) ≡ 1) × Room tally (effectOf kind index ∷ []) ⌝ }
+    ensures { λ r. ⌜ Wrote (places (now (trace .entry)) (now (joins .entry))) (places (now (trace .exit)) (now (joins .exit))) tally r (effectOf kind index ∷ []) ⌝ }
+{
+    let number = kind * 65536 + index;
+    put(trace, tally.entries, number);
+    put(joins, tally.names, number);
+    Tally {
+        entries: tally.entries + 1,
+        names: tally.names + 1,
+    }
+}
+
+fn perform_action(trace: &mut [u32], joins: &mut [u32], tally: Tally, action: Action) -> Tally
     requires { ⌜ ActionFits action × Room tally (perform action ∷ []) ⌝ }
-    ensures { λ r. ⌜ Wrote (now (trace .entry)) (now (trace .exit)) tally r (perform action ∷ []) ⌝ }
+    ensures { λ r. ⌜ Wrote (places (now (trace .entry)) (now (joins .entry))) (places (now (trace .exit)) (now (joins .exit))) tally r (perform action ∷ []) ⌝ }
 {
     match action {
-        Action::Raise(n) => emit(trace, tally, RAISED, n as u32),
+        Action::Raise(n) => emit_join(trace, joins, tally, RAISED, n as u32),
         Action::Host(n) => emit(trace, tally, ACTED, n as u32),
     }
 }
 
 // ---- blocks
 
-fn perform_block(block: &[u64], trace: &mut [u32], tally: Tally) -> Tally
-    requires { ⌜ ActionsFit (now block) × Room tally (performed (actionsOf (now block))) ⌝ }
-    ensures { λ r. ⌜ Wrote (now (trace .entry)) (now (trace .exit)) tally r (performed (actionsOf (now (block .entry)))) ⌝ }
+// Performed while these rows are active.
+fn perform_block(
+    block: &[u64],
+    active: RowSet,
+    trace: &mut [u32],
+    joins: &mut [u32],
+    tally: Tally,
+) -> Tally
+    requires { ⌜ ActionsFit (now block) × Room tally (performed (rowsOf active) (actionsOf (now block))) ⌝ }
+    ensures { λ r. ⌜ Wrote (places (now (trace .entry)) (now (joins .entry))) (places (now (trace .exit)) (now (joins .exit))) tally r (performed (rowsOf active) (actionsOf (now (block .entry)))) ⌝ }
 {
     let n = actions_in(block);
     let mut sum = tally;
     let mut k = 0;
     while k < n {
-        sum = perform_action(trace, sum, action_of(block, k));
+        sum = perform_action(trace, joins, sum, action_of(block, k));
         k += 1;
     }
     sum
@@ -114,25 +136,50 @@ fn perform_block(block: &[u64], trace: &mut [u32], tally: Tally) -> Tally
 
 // ---- exits: "descendants first, reverse document order"
 
-fn exit_row(chart: &[u64], r: Row, trace: &mut [u32], tally: Tally) -> Tally
-    requires { ⌜ RowIn (now chart) (r .0) × Room tally (exitEffects (chartOf (now chart)) (r .0)) ⌝ }
-    ensures { λ s. ⌜ Wrote (now (trace .entry)) (now (trace .exit)) tally s (exitEffects (chartOf (now (chart .entry))) (r .0)) ⌝ }
+// The rows that are active when row r is exited: those of the configuration, but for the rows of out behind it.
+fn active_out(conf: RowSet, out: RowSet, r: Row) -> RowSet
+    ensures { λ s. ⌜ rowsOf s ≡ activeLeaving (rowsOf conf) (rowsOf out) (r .0) ⌝ }
 {
-    let sum = emit(trace, tally, EXITED, r.0 as u32);
-    let block = exit_block_of(chart, r);
-    perform_block(block, trace, sum)
+    let n = row_after(r);
+    conf.minus(out.minus(RowSet::below(n)))
 }
 
-pub fn exit_effects(chart: &[u64], out: RowSet, trace: &mut [u32], tally: Tally) -> Tally
-    requires { ⌜ InTables (now chart) × Within (rowCount (now chart)) (rowsOf out) × Room tally (exiting (chartOf (now chart)) (rowsOf out)) ⌝ }
-    ensures { λ s. ⌜ Wrote (now (trace .entry)) (now (trace .exit)) tally s (exiting (chartOf (now (chart .entry))) (rowsOf out)) ⌝ }
+fn exit_row(
+    chart: &[u64],
+    conf: RowSet,
+    out: RowSet,
+    r: Row,
+    trace: &mut [u32],
+    joins: &mut [u32],
+    tally: Tally,
+) -> Tally
+    requires { ⌜ RowIn (now chart) (r .0) × Room tally (exitEffects (chartOf (now chart)) (rowsOf conf) (rowsOf out) (r .0)) ⌝ }
+    ensures { λ s. ⌜ Wrote (places (now (trace .entry)) (now (joins .entry))) (places (now (trace .exit)) (now (joins .exit))) tally s (exitEffects (chartOf (now (chart .entry))) (rowsOf conf) (rowsOf out) (r .0)) ⌝ }
+{
+    let sum = emit(trace, tally, EXITED, r.0 as u32);
+    let active = active_out(conf, out, r);
+    let block = exit_block_of(chart, r);
+    perform_block(block, active, trace, joins, sum)
+}
+
+// The rows out of a configuration.
+pub fn exit_effects(
+    chart: &[u64],
+    conf: RowSet,
+    out: RowSet,
+    trace: &mut [u32],
+    joins: &mut [u32],
+    tally: Tally,
+) -> Tally
+    requires { ⌜ InTables (now chart) × Within (rowCount (now chart)) (rowsOf out) × Room tally (exiting (chartOf (now chart)) (rowsOf conf) (rowsOf out)) ⌝ }
+    ensures { λ s. ⌜ Wrote (places (now (trace .entry)) (now (joins .entry))) (places (now (trace .exit)) (now (joins .exit))) tally s (exiting (chartOf (now (chart .entry))) (rowsOf conf) (rowsOf out)) ⌝ }
 {
     let mut sum = tally;
     let mut k: u16 = 256;
     loop {
         match out.prev_below(k) {
             Found::At(r) => {
-                sum = exit_row(chart, r, trace, sum);
+                sum = exit_row(chart, conf, out, r, trace, joins, sum);
                 k = r.0 as u16;
             }
             Found::Nothing => {
@@ -144,24 +191,38 @@ pub fn exit_effects(chart: &[u64], out: RowSet, trace: &mut [u32], tally: Tally)
 
 // ---- transitions
 
-fn take_transition(chart: &[u64], t: Transition, trace: &mut [u32], tally: Tally) -> Tally
-    requires { ⌜ TransitionIn (now chart) (t .0) × Room tally (transitionEffects (chartOf (now chart)) (t .0)) ⌝ }
-    ensures { λ s. ⌜ Wrote (now (trace .entry)) (now (trace .exit)) tally s (transitionEffects (chartOf (now (chart .entry))) (t .0)) ⌝ }
+fn take_transition(
+    chart: &[u64],
+    stay: RowSet,
+    t: Transition,
+    trace: &mut [u32],
+    joins: &mut [u32],
+    tally: Tally,
+) -> Tally
+    requires { ⌜ TransitionIn (now chart) (t .0) × Room tally (transitionEffects (chartOf (now chart)) (rowsOf stay) (t .0)) ⌝ }
+    ensures { λ s. ⌜ Wrote (places (now (trace .entry)) (now (joins .entry))) (places (now (trace .exit)) (now (joins .exit))) tally s (transitionEffects (chartOf (now (chart .entry))) (rowsOf stay) (t .0)) ⌝ }
 {
     let sum = emit(trace, tally, TAKEN, t.0 as u32);
     let block = transition_block_of(chart, t);
-    perform_block(block, trace, sum)
+    perform_block(block, stay, trace, joins, sum)
 }
 
-// In selection order.
-pub fn transition_effects(chart: &[u64], chosen: &[u16], trace: &mut [u32], tally: Tally) -> Tally
-    requires { ⌜ InTables (now chart) × Taken (transitionCount (now chart)) (now chosen) × Room tally (flat (transitionEffects (chartOf (now chart))) (now chosen)) ⌝ }
-    ensures { λ s. ⌜ Wrote (now (trace .entry)) (now (trace .exit)) tally s (flat (transitionEffects (chartOf (now (chart .entry)))) (now (chosen .entry))) ⌝ }
+// In selection order, while the rows that stay are active.
+pub fn transition_effects(
+    chart: &[u64],
+    stay: RowSet,
+    chosen: &[u16],
+    trace: &mut [u32],
+    joins: &mut [u32],
+    tally: Tally,
+) -> Tally
+    requires { ⌜ InTables (now chart) × Taken (transitionCount (now chart)) (now chosen) × Room tally (flat (transitionEffects (chartOf (now chart)) (rowsOf stay)) (now chosen)) ⌝ }
+    ensures { λ s. ⌜ Wrote (places (now (trace .entry)) (now (joins .entry))) (places (now (trace .exit)) (now (joins .exit))) tally s (flat (transitionEffects (chartOf (now (chart .entry))) (rowsOf stay)) (now (chosen .entry))) ⌝ }
 {
     let mut sum = tally;
     let mut i = 0;
     while i < chosen.len() {
-        sum = take_transition(chart, Transition(chosen[i]), trace, sum);
+        sum = take_transition(chart, stay, Transition(chosen[i]), trace, joins, sum);
         i += 1;
     }
     sum
@@ -261,10 +322,11 @@ fn done_effects(
     set: RowSet,
     r: Row,
     trace: &mut [u32],
+    joins: &mut [u32],
     tally: Tally,
 ) -> Tally
     requires { ⌜ RowReady (now chart) (r .0) × Room tally (doneEffects (chartOf (now chart)) (activeAt (rowsOf stay) (rowsOf set) (r .0)) (r .0)) ⌝ }
-    ensures { λ s. ⌜ Wrote (now (trace .entry)) (now (trace .exit)) tally s (doneEffects (chartOf (now (chart .entry))) (activeAt (rowsOf stay) (rowsOf set) (r .0)) (r .0)) ⌝ }
+    ensures { λ s. ⌜ Wrote (places (now (trace .entry)) (now (joins .entry))) (places (now (trace .exit)) (now (joins .exit))) tally s (doneEffects (chartOf (now (chart .entry))) (activeAt (rowsOf stay) (rowsOf set) (r .0)) (r .0)) ⌝ }
 {
     if !is_final(kind_of(chart, r)) {
         return tally;
@@ -275,9 +337,9 @@ fn done_effects(
     }
     let g = parent_row(chart, p);
     let both = is_done_above(chart, active_at(stay, set, r), g);
-    let sum = emit(trace, tally, DONE, p.0 as u32);
+    let sum = emit_join(trace, joins, tally, DONE, p.0 as u32);
     if both {
-        return emit(trace, sum, DONE, g.0 as u32);
+        return emit_join(trace, joins, sum, DONE, g.0 as u32);
     }
     sum
 }
@@ -285,38 +347,62 @@ fn done_effects(
 // ---- entries: "entry block; initial block, if its child came by default; default block, if a history of this row fell to its
 // default list", then the done events
 
-fn initial_block(chart: &[u64], defaults: RowSet, r: Row, trace: &mut [u32], tally: Tally) -> Tally
-    requires { ⌜ RowIn (now chart) (r .0) × Room tally (performed (initialBlock (chartOf (now chart)) (rowsOf defaults) (r .0))) ⌝ }
-    ensures { λ s. ⌜ Wrote (now (trace .entry)) (now (trace .exit)) tally s (performed (initialBlock (chartOf (now (chart .entry))) (rowsOf defaults) (r .0))) ⌝ }
+fn initial_block(
+    chart: &[u64],
+    active: RowSet,
+    defaults: RowSet,
+    r: Row,
+    trace: &mut [u32],
+    joins: &mut [u32],
+    tally: Tally,
+) -> Tally
+    requires { ⌜ RowIn (now chart) (r .0) × Room tally (performed (rowsOf active) (initialBlock (chartOf (now chart)) (rowsOf defaults) (r .0))) ⌝ }
+    ensures { λ s. ⌜ Wrote (places (now (trace .entry)) (now (joins .entry))) (places (now (trace .exit)) (now (joins .exit))) tally s (performed (rowsOf active) (initialBlock (chartOf (now (chart .entry))) (rowsOf defaults) (r .0))) ⌝ }
 {
     if !defaults.has(r) {
         return tally;
     }
     let block = list_block_of(chart, r);
-    perform_block(block, trace, tally)
+    perform_block(block, active, trace, joins, tally)
 }
 
-fn default_block(chart: &[u64], r: Row, h: Row, trace: &mut [u32], tally: Tally) -> Tally
-    requires { ⌜ HistoryRow (now chart) (h .0) × Room tally (defaultEffects (chartOf (now chart)) (r .0) (h .0)) ⌝ }
-    ensures { λ s. ⌜ Wrote (now (trace .entry)) (now (trace .exit)) tally s (defaultEffects (chartOf (now (chart .entry))) (r .0) (h .0)) ⌝ }
+fn default_block(
+    chart: &[u64],
+    active: RowSet,
+    r: Row,
+    h: Row,
+    trace: &mut [u32],
+    joins: &mut [u32],
+    tally: Tally,
+) -> Tally
+    requires { ⌜ HistoryRow (now chart) (h .0) × Room tally (defaultEffects (chartOf (now chart)) (rowsOf active) (r .0) (h .0)) ⌝ }
+    ensures { λ s. ⌜ Wrote (places (now (trace .entry)) (now (joins .entry))) (places (now (trace .exit)) (now (joins .exit))) tally s (defaultEffects (chartOf (now (chart .entry))) (rowsOf active) (r .0) (h .0)) ⌝ }
 {
     if !same_row(r, parent_row(chart, h)) {
         return tally;
     }
     let block = list_block_of(chart, h);
-    perform_block(block, trace, tally)
+    perform_block(block, active, trace, joins, tally)
 }
 
-fn default_blocks(chart: &[u64], r: Row, fallen: RowSet, trace: &mut [u32], tally: Tally) -> Tally
-    requires { ⌜ HistoryRows (now chart) (rowsOf fallen) × Room tally (flat (defaultEffects (chartOf (now chart)) (r .0)) (rowsOf fallen)) ⌝ }
-    ensures { λ s. ⌜ Wrote (now (trace .entry)) (now (trace .exit)) tally s (flat (defaultEffects (chartOf (now (chart .entry))) (r .0)) (rowsOf fallen)) ⌝ }
+fn default_blocks(
+    chart: &[u64],
+    active: RowSet,
+    r: Row,
+    fallen: RowSet,
+    trace: &mut [u32],
+    joins: &mut [u32],
+    tally: Tally,
+) -> Tally
+    requires { ⌜ HistoryRows (now chart) (rowsOf fallen) × Room tally (flat (defaultEffects (chartOf (now chart)) (rowsOf active) (r .0)) (rowsOf fallen)) ⌝ }
+    ensures { λ s. ⌜ Wrote (places (now (trace .entry)) (now (joins .entry))) (places (now (trace .exit)) (now (joins .exit))) tally s (flat (defaultEffects (chartOf (now (chart .entry))) (rowsOf active) (r .0)) (rowsOf fallen)) ⌝ }
 {
     let mut sum = tally;
     let mut k: u16 = 0;
     loop {
         match fallen.next_from(k) {
             Found::At(h) => {
-                sum = default_block(chart, r, h, trace, sum);
+                sum = default_block(chart, active, r, h, trace, joins, sum);
                 k = row_after(h);
             }
             Found::Nothing => {
@@ -326,28 +412,29 @@ fn default_blocks(chart: &[u64], r: Row, fallen: RowSet, trace: &mut [u32], tall
     }
 }
 
+// Row r is entered, without its done events: these rows are active then, itself among them.
 fn enter_row(
     chart: &[u64],
-    stay: RowSet,
-    set: RowSet,
+    active: RowSet,
     defaults: RowSet,
     fallen: RowSet,
     r: Row,
     trace: &mut [u32],
+    joins: &mut [u32],
     tally: Tally,
 ) -> Tally
-    requires { ⌜ RowReady (now chart) (r .0) × HistoryRows (now chart) (rowsOf fallen) × Room tally (entryEffects (chartOf (now chart)) (rowsOf stay) (entryIs set defaults) (rowsOf fallen) (r .0)) ⌝ }
-    ensures { λ s. ⌜ Wrote (now (trace .entry)) (now (trace .exit)) tally s (entryEffects (chartOf (now (chart .entry))) (rowsOf stay) (entryIs set defaults) (rowsOf fallen) (r .0)) ⌝ }
+    requires { ⌜ RowReady (now chart) (r .0) × HistoryRows (now chart) (rowsOf fallen) × Room tally (rowEntered (chartOf (now chart)) (rowsOf active) (rowsOf defaults) (rowsOf fallen) (r .0)) ⌝ }
+    ensures { λ s. ⌜ Wrote (places (now (trace .entry)) (now (joins .entry))) (places (now (trace .exit)) (now (joins .exit))) tally s (rowEntered (chartOf (now (chart .entry))) (rowsOf active) (rowsOf defaults) (rowsOf fallen) (r .0)) ⌝ }
 {
     let s1 = emit(trace, tally, ENTERED, r.0 as u32);
     let block = entry_block_of(chart, r);
-    let s2 = perform_block(block, trace, s1);
-    let s3 = initial_block(chart, defaults, r, trace, s2);
-    let s4 = default_blocks(chart, r, fallen, trace, s3);
-    done_effects(chart, stay, set, r, trace, s4)
+    let s2 = perform_block(block, active, trace, joins, s1);
+    let s3 = initial_block(chart, active, defaults, r, trace, joins, s2);
+    default_blocks(chart, active, r, fallen, trace, joins, s3)
 }
 
-// Entries in document order.
+// Entries in document order. No action asks yet which rows are active: the rows that stay are handed in, and active_at is worked out for
+// done events alone.
 pub fn entry_effects(
     chart: &[u64],
     stay: RowSet,
@@ -355,17 +442,19 @@ pub fn entry_effects(
     defaults: RowSet,
     fallen: RowSet,
     trace: &mut [u32],
+    joins: &mut [u32],
     tally: Tally,
 ) -> Tally
     requires { ⌜ Ready (now chart) × Within (rowCount (now chart)) (rowsOf set) × HistoryRows (now chart) (rowsOf fallen) × Room tally (entering (chartOf (now chart)) (rowsOf stay) (entryIs set defaults) (rowsOf fallen)) ⌝ }
-    ensures { λ s. ⌜ Wrote (now (trace .entry)) (now (trace .exit)) tally s (entering (chartOf (now (chart .entry))) (rowsOf stay) (entryIs set defaults) (rowsOf fallen)) ⌝ }
+    ensures { λ s. ⌜ Wrote (places (now (trace .entry)) (now (joins .entry))) (places (now (trace .exit)) (now (joins .exit))) tally s (entering (chartOf (now (chart .entry))) (rowsOf stay) (entryIs set defaults) (rowsOf fallen)) ⌝ }
 {
     let mut sum = tally;
     let mut k: u16 = 0;
     loop {
         match set.next_from(k) {
             Found::At(r) => {
-                sum = enter_row(chart, stay, set, defaults, fallen, r, trace, sum);
+                sum = enter_row(chart, stay, defaults, fallen, r, trace, joins, sum);
+                sum = done_effects(chart, stay, set, r, trace, joins, sum);
                 k = row_after(r);
             }
             Found::Nothing => {

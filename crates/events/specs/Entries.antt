@@ -1,7 +1,7 @@
--- The entries of a round or start: they are found again in the trace, and the names that they queue stand in the tables.
+-- The joins of a round or start: the effects are found again in them, and the names that they queue stand in the tables.
 use mathlib.Core.Path.{_≡_, refl, sym, ap, ap₂, _∙_}
 use mathlib.Core.Bool.{Bool, true, false, not, _&&_, cond}
-use mathlib.Core.List.{List, [], _∷_, _++_, map}
+use mathlib.Core.List.{List, [], _∷_, _++_, map, map-append, append-nil}
 use Prim.Native.Nat.{ℕ, zero, suc, _+_, _*_, _/_, _%_, _≤_, _<_}
 use native.Mathlib.Omega.{arith}
 use lib.Dec.{eqb, leb, ltb}
@@ -9,18 +9,18 @@ use borrow.Author.Tests.{eqb-true, eq-eqb, leb-true, le-leb, ltb-true, lt-ltb, n
 use Rattle.definition.specs.declared.Action.{Action}
 use Rattle.definition.specs.declared.Action.the-variants.{Raise, Host}
 use Rattle.definition.specs.declared.Kind.{Kind}
-use Rattle.definition.specs.Rows.{from, mem, all, flat, backwards}
-use Rattle.definition.specs.Names.{isId}
-use Rattle.definition.specs.Chart.{Chart, kindNo, kind, parent, isRoot, isParallel, isFinal}
+use Rattle.definition.specs.Rows.{from, keep, minus, mem, all, flat, backwards}
+use Rattle.definition.specs.Names.{Name, isId}
+use Rattle.definition.specs.Chart.{Chart, Names, kindNo, kind, parent, isRoot, isParallel, isFinal}
 use Rattle.definition.specs.Tables.{noNumber, rowCount, transitionCount, actionCount, nameCount, rowCell, transitionCell, actionAt, blockAt, entryAt, exitAt, idAt, listBlockAt, transitionBlockAt, nameAt, chartOf}
 use Rattle.definition.specs.Rules.{each, argumentFits, slotFits, idDiffers, idFits, actionNamed, rule2}
 use Rattle.definition.specs.Selection.{History}
 use Rattle.definition.specs.Blocks.{Effect, exited, taken, entered, acted, raised, done, traceNo, queued, perform, performed}
-use Rattle.definition.specs.Microstep.{exits, exitEffects, exiting, transitionEffects, targeted, Entry, initialBlock, defaultBlock, isDoneAbove, doneEffects, entryEffects, entering, storedIn, staying, historyAfter, entryOf, fallen, effects}
+use Rattle.definition.specs.Microstep.{exits, exitEffects, exiting, transitionEffects, targeted, Entry, initialBlock, defaultBlock, isDoneAbove, doneEffects, activeLeaving, activeAt, defaultEffects, entryEffects, entering, storedIn, staying, historyAfter, entryOf, fallen, effects}
 use Rattle.definition.specs.Follower.{firstEntry, firstEffects}
 use Rattle.definition.specs.Compiled.{ownNumbers}
 use Rattle.laws.specs.Bools.{clash, not-so, and3, and-left, and-right, and-true}
-use Rattle.laws.specs.Lists.{all-both, all-flat}
+use Rattle.laws.specs.Lists.{all-both, all-flat, flat-app}
 use Rattle.laws.specs.Loops.{each-below}
 use Rattle.laws.specs.Orders.{mem-backwards}
 use Rattle.theory.specs.Tree.{low}
@@ -28,11 +28,12 @@ use Rattle.tables.specs.Ranges.{RowIn, row-fits, transition-fits, argument-fits
 use Rattle.chart.specs.Ready.{Ready, CompiledWith}
 use Rattle.chart.specs.Own.{own-chart}
 use Rattle.matching.specs.Chosen.{Within}
-use Rattle.effects.specs.Entering.{defaultEffects, activeAt, entry-pieces, final-later, not-root-later, HistoryRows}
+use Rattle.effects.specs.Entering.{rowEntered, entry-pieces, final-later, not-root-later, HistoryRows}
+use Rattle.effects.specs.Trace.{joining, joinsOf}
 use Rattle.microstep.specs.Plan.{exits-within, targeted-within, entry-within, fallen-histories, paths-within, no-histories}
-use Rattle.events.specs.Rounds.{effectAt, queuedNames, isKnown, EntriesIn}
+use Rattle.events.specs.Rounds.{effectAt, queuedNames, isKnown, JoinsIn}
 
--- ---- the trace read back
+-- ---- a number read back
 
 unfoldable pub indexOf : Effect → ℕ
 indexOf (exited i) = i
@@ -62,11 +63,40 @@ effect-back (acted i) h = let l : i ≤ 65535 = leb-true _ _ h in rw (kind-back 
 effect-back (raised i) h = let l : i ≤ 65535 = leb-true _ _ h in rw (kind-back 5 i l, index-back 5 i l)
 effect-back (done i) h = let l : i ≤ 65535 = leb-true _ _ h in rw (kind-back 6 i l, index-back 6 i l)
 
-pub entries-back : (es : List Effect) → all indexFits es ≡ true → map effectAt (map traceNo es) ≡ es
-unfolding all
-entries-back [] h = refl
-entries-back (e ∷ es) h =
-    ap₂ {C = List Effect} (λ x xs. x ∷ xs) (effect-back e (and-left (indexFits e) _ h)) (entries-back es (and-right (indexFits e) _ h))
+-- what joins is known, and stands for the names that the effects queue
+module _ (chart : List ℕ) (names : Names) where
+  joining-known : (e : Effect) → indexFits e ≡ true → isKnown chart e ≡ true → all (isKnown chart) (map effectAt (joining e)) ≡ true
+  unfolding joining all
+  joining-known (exited i) h k = refl
+  joining-known (taken i) h k = refl
+  joining-known (entered i) h k = refl
+  joining-known (acted i) h k = refl
+  joining-known (raised i) h k = rw (effect-back (raised i) h, k)
+  joining-known (done i) h k = rw (effect-back (done i) h, k)
+
+  joining-queues : (e : Effect) → indexFits e ≡ true → flat (queued (chartOf chart) names) (map effectAt (joining e)) ≡ queued (chartOf chart) names e
+  unfolding joining flat
+  joining-queues (exited i) h = unfold queued in refl
+  joining-queues (taken i) h = unfold queued in refl
+  joining-queues (entered i) h = unfold queued in refl
+  joining-queues (acted i) h = unfold queued in refl
+  joining-queues (raised i) h = rw (effect-back (raised i) h) (append-nil (queued (chartOf chart) names (raised i)))
+  joining-queues (done i) h = rw (effect-back (done i) h) (append-nil (queued (chartOf chart) names (done i)))
+
+  pub joins-known : (es : List Effect) → all indexFits es ≡ true → all (isKnown chart) es ≡ true → all (isKnown chart) (map effectAt (joinsOf es)) ≡ true
+  unfolding joinsOf flat all
+  joins-known [] h k = refl
+  joins-known (e ∷ es) h k =
+      ap (all (isKnown chart)) (map-append effectAt (joining e) (joinsOf es)) ∙
+      all-both (isKnown chart) (map effectAt (joining e)) _ (joining-known e (and-left (indexFits e) _ h) (and-left (isKnown chart e) _ k))
+      (joins-known es (and-right (indexFits e) _ h) (and-right (isKnown chart e) _ k))
+
+  pub joins-queue : (es : List Effect) → all indexFits es ≡ true → flat (queued (chartOf chart) names) (map effectAt (joinsOf es)) ≡ flat (queued (chartOf chart) names) es
+  unfolding joinsOf flat all
+  joins-queue [] h = refl
+  joins-queue (e ∷ es) h =
+      ap (flat (queued (chartOf chart) names)) (map-append effectAt (joining e) (joinsOf es)) ∙ flat-app (queued (chartOf chart) names) (map effectAt (joining e)) (map effectAt (joinsOf es)) ∙
+      ap₂ {C = List Name} (λ a b. a ++ b) (joining-queues e (and-left (indexFits e) _ h)) (joins-queue es (and-right (indexFits e) _ h))
 
 -- ---- every effect passes a test, if those of each row, transition and action do
 
@@ -82,33 +112,33 @@ parallel-plain : (k : Kind) → isParallel k ≡ true → isRoot k ≡ false
 parallel-plain k h = not-so (isRoot k) (λ r. let a : kindNo k ≡ 2 = eqb-true _ _ h in let b : kindNo k ≡ 0 = eqb-true _ _ r in omega arith)
 
 module _ (chart : List ℕ) (g : Ready chart) (p : Effect → Bool) (h : Passes chart p) where
-  block-passes : (count start : ℕ) → start + count ≤ actionCount chart → all p (performed (blockAt chart start count)) ≡ true
+  block-passes : (active : List ℕ) (count start : ℕ) → start + count ≤ actionCount chart → all p (performed active (blockAt chart start count)) ≡ true
   unfolding performed blockAt all from
-  block-passes zero start l = refl
-  block-passes (suc n) start l = and-true (p (perform (actionAt chart start))) _ (h .act start (omega arith)) (block-passes n (suc start) (omega arith))
+  block-passes active zero start l = refl
+  block-passes active (suc n) start l = and-true (p (perform (actionAt chart start))) _ (h .act start (omega arith)) (block-passes active n (suc start) (omega arith))
 
   row-in : (i : ℕ) → i < rowCount chart → RowIn chart i
   row-in i l = record { tables = g .tables; below = l }
 
-  exit-passes : (i : ℕ) → i < rowCount chart → all p (exitEffects (chartOf chart) i) ≡ true
+  exit-passes : (conf out : List ℕ) (i : ℕ) → i < rowCount chart → all p (exitEffects (chartOf chart) conf out i) ≡ true
   unfolding exitEffects exitAt all
-  exit-passes i l =
-      and-true (p (exited i)) _ (h .exit i l) (block-passes (rowCell chart i 6) (rowCell chart i 5) (row-fits chart i (row-in i l) .exit .inside))
+  exit-passes conf out i l =
+      and-true (p (exited i)) _ (h .exit i l) (block-passes (activeLeaving conf out i) (rowCell chart i 6) (rowCell chart i 5) (row-fits chart i (row-in i l) .exit .inside))
 
-  transition-passes : (t : ℕ) → t < transitionCount chart → all p (transitionEffects (chartOf chart) t) ≡ true
+  transition-passes : (stay : List ℕ) (t : ℕ) → t < transitionCount chart → all p (transitionEffects (chartOf chart) stay t) ≡ true
   unfolding transitionEffects transitionBlockAt all
-  transition-passes t l =
+  transition-passes stay t l =
       and-true (p (taken t)) _ (h .take t l)
-      (block-passes (transitionCell chart t 8) (transitionCell chart t 7) (transition-fits chart t (record { tables = g .tables; below = l }) .block .inside))
+      (block-passes stay (transitionCell chart t 8) (transitionCell chart t 7) (transition-fits chart t (record { tables = g .tables; below = l }) .block .inside))
 
-  entry-block : (i : ℕ) → i < rowCount chart → all p (performed (entryAt chart i)) ≡ true
+  entry-block : (active : List ℕ) (i : ℕ) → i < rowCount chart → all p (performed active (entryAt chart i)) ≡ true
   unfolding entryAt
-  entry-block i l = block-passes (rowCell chart i 4) (rowCell chart i 3) (row-fits chart i (row-in i l) .entry .inside)
+  entry-block active i l = block-passes active (rowCell chart i 4) (rowCell chart i 3) (row-fits chart i (row-in i l) .entry .inside)
 
-  list-block : (b : Bool) (i : ℕ) → i < rowCount chart → all p (performed (cond b (listBlockAt chart i) [])) ≡ true
+  list-block : (active : List ℕ) (b : Bool) (i : ℕ) → i < rowCount chart → all p (performed active (cond b (listBlockAt chart i) [])) ≡ true
   unfolding listBlockAt
-  list-block true i l = block-passes (rowCell chart i 10) (rowCell chart i 9) (row-fits chart i (row-in i l) .block .inside)
-  list-block false i l = unfold performed all in refl
+  list-block active true i l = block-passes active (rowCell chart i 10) (rowCell chart i 9) (row-fits chart i (row-in i l) .block .inside)
+  list-block active false i l = unfold performed all in refl
 
   done-passes : (i : ℕ) → i < rowCount chart → isRoot (kind (chartOf chart) i) ≡ false → p (done i) ≡ true
   done-passes zero l r = let z = not-root-later chart 0 g r in absurd (omega arith)
@@ -141,24 +171,26 @@ module _ (chart : List ℕ) (g : Ready chart) (p : Effect → Bool) (h : Passes 
           (inner (isDoneAbove c conf (parent c (parent c i))) refl (parent-inside (parent c i) (not-root-later chart (parent c i) g r) m))
       outer false e = refl
 
-  entry-passes : (stay : List ℕ) (e : Entry) (fell : List ℕ) → HistoryRows chart fell → (i : ℕ) → i < rowCount chart → all p (entryEffects (chartOf chart) stay e fell i) ≡ true
-  unfolding initialBlock defaultEffects defaultBlock
-  entry-passes stay e fell w i l =
-      ap (all p) (entry-pieces (chartOf chart) stay e fell i) ∙
+  entered-passes : (active byDefault fell : List ℕ) → HistoryRows chart fell → (i : ℕ) → i < rowCount chart → all p (rowEntered (chartOf chart) active byDefault fell i) ≡ true
+  unfolding rowEntered initialBlock defaultEffects defaultBlock
+  entered-passes active byDefault fell w i l =
       all-both p (entered i ∷ []) _ (unfold all in and-true (p (entered i)) true (h .enter i l) refl)
-      (all-both p (performed (entryAt chart i)) _ (entry-block i l)
-      (all-both p (performed (initialBlock (chartOf chart) (e .byDefault) i)) _ (list-block (mem i (e .byDefault)) i l)
-      (all-both p (flat (defaultEffects (chartOf chart) i) fell) _
-      (all-flat p (defaultEffects (chartOf chart) i) fell (λ k m. list-block (eqb i (parent (chartOf chart) k)) k (w .at k m .0)))
-      (done-effects (activeAt stay (e .set) i) i l))))
+      (all-both p (performed active (entryAt chart i)) _ (entry-block active i l)
+      (all-both p (performed active (initialBlock (chartOf chart) byDefault i)) _ (list-block active (mem i byDefault) i l)
+      (all-flat p (defaultEffects (chartOf chart) active i) fell (λ k m. list-block active (eqb i (parent (chartOf chart) k)) k (w .at k m .0)))))
+
+  entry-passes : (stay : List ℕ) (e : Entry) (fell : List ℕ) → HistoryRows chart fell → (i : ℕ) → i < rowCount chart → all p (entryEffects (chartOf chart) stay e fell i) ≡ true
+  entry-passes stay e fell w i l = ap (all p) (entry-pieces (chartOf chart) stay e fell i) ∙
+      all-both p (rowEntered (chartOf chart) (activeAt stay (e .set) i) (e .byDefault) fell i) _ (entered-passes (activeAt stay (e .set) i) (e .byDefault) fell w i l)
+      (done-effects (activeAt stay (e .set) i) i l)
 
   entering-passes : (stay : List ℕ) (e : Entry) (fell : List ℕ) → Within (rowCount chart) (e .set) → HistoryRows chart fell → all p (entering (chartOf chart) stay e fell) ≡ true
   unfolding entering
   entering-passes stay e fell w v = all-flat p (entryEffects (chartOf chart) stay e fell) (e .set) (λ i m. entry-passes stay e fell v i (w .at i m))
 
-  exiting-passes : (out : List ℕ) → Within (rowCount chart) out → all p (exiting (chartOf chart) out) ≡ true
+  exiting-passes : (conf out : List ℕ) → Within (rowCount chart) out → all p (exiting (chartOf chart) conf out) ≡ true
   unfolding exiting
-  exiting-passes out w = all-flat p (exitEffects (chartOf chart)) (backwards out) (λ i m. exit-passes i (w .at i (sym (mem-backwards i out) ∙ m)))
+  exiting-passes conf out w = all-flat p (exitEffects (chartOf chart) conf out) (backwards out) (λ i m. exit-passes conf out i (w .at i (sym (mem-backwards i out) ∙ m)))
 
   -- of a round from this configuration
   pub round-passes : (conf : List ℕ) (hist : History) (ts : List ℕ) → Within (rowCount chart) conf → Within (transitionCount chart) ts → all p (effects (chartOf chart) conf hist ts) ≡ true
@@ -166,9 +198,9 @@ module _ (chart : List ℕ) (g : Ready chart) (p : Effect → Bool) (h : Passes 
   round-passes conf hist ts w v =
       let c = chartOf chart in
       let after = storedIn (historyAfter c conf hist ts) in
-      all-both p (exiting c (exits c conf hist ts) ++ flat (transitionEffects c) ts) _
-      (all-both p (exiting c (exits c conf hist ts)) _ (exiting-passes (exits c conf hist ts) (exits-within c (rowCount chart) conf hist ts _ w refl))
-      (all-flat p (transitionEffects c) ts (λ t m. transition-passes t (v .at t m))))
+      all-both p (exiting c conf (exits c conf hist ts) ++ flat (transitionEffects c (staying c conf hist ts)) ts) _
+      (all-both p (exiting c conf (exits c conf hist ts)) _ (exiting-passes conf (exits c conf hist ts) (exits-within c (rowCount chart) conf hist ts _ w refl))
+      (all-flat p (transitionEffects c (staying c conf hist ts)) ts (λ t m. transition-passes (staying c conf hist ts) t (v .at t m))))
       (entering-passes (staying c conf hist ts) (entryOf c conf hist ts) (fallen c after ts)
       (entry-within c (targeted c hist after ts) _ refl (targeted-within c hist after ts _ refl)) (fallen-histories chart g after ts _ v refl))
 
@@ -232,30 +264,23 @@ module _ (chart names : List ℕ) (k : CompiledWith chart names) where
     finish = λ i l. and-true (ltb (suc i) (rowCount chart)) _ (lt-ltb _ _ l) (lt-ltb _ _ (id-known i l));
   }
 
--- ---- the entries of a round and of a start, as they join the queue
+-- ---- the joins of a round and of a start
 
-pub record EntriesOf (chart names : List ℕ) (es : List Effect) : Type 0 where
-  pub inside : EntriesIn chart (map traceNo es)
-  pub back : map effectAt (map traceNo es) ≡ es
-  pub queues : queuedNames (chartOf chart) (nameAt names) (map traceNo es) ≡ flat (queued (chartOf chart) (nameAt names)) es
+pub record JoinsStand (chart names : List ℕ) (es : List Effect) : Type 0 where
+  pub inside : JoinsIn chart (joinsOf es)
+  pub queues : queuedNames (chartOf chart) (nameAt names) (joinsOf es) ≡ flat (queued (chartOf chart) (nameAt names)) es
 
 module _ (chart names : List ℕ) (k : CompiledWith chart names) where
-  entered-as : (es : List Effect) → all indexFits es ≡ true → all (isKnown chart) es ≡ true → EntriesOf chart names es
+  joins-stand : (es : List Effect) → all indexFits es ≡ true → all (isKnown chart) es ≡ true → JoinsStand chart names es
   unfolding queuedNames
-  entered-as es a b =
-      let e = entries-back es a in
-      record {
-        inside = record { known = ap (all (isKnown chart)) e ∙ b };
-        back = e;
-        queues = ap (flat (queued (chartOf chart) (nameAt names))) e;
-      }
+  joins-stand es a b = record { inside = record { known = joins-known chart (nameAt names) es a b }; queues = joins-queue chart (nameAt names) es a }
 
-  pub round-entries : (conf : List ℕ) (hist : History) (ts : List ℕ) → Within (rowCount chart) conf → Within (transitionCount chart) ts → EntriesOf chart names (effects (chartOf chart) conf hist ts)
-  round-entries conf hist ts w v =
-      entered-as (effects (chartOf chart) conf hist ts) (round-passes chart (k .ready) indexFits (indices-pass chart names k) conf hist ts w v)
+  pub round-joins : (conf : List ℕ) (hist : History) (ts : List ℕ) → Within (rowCount chart) conf → Within (transitionCount chart) ts → JoinsStand chart names (effects (chartOf chart) conf hist ts)
+  round-joins conf hist ts w v =
+      joins-stand (effects (chartOf chart) conf hist ts) (round-passes chart (k .ready) indexFits (indices-pass chart names k) conf hist ts w v)
       (round-passes chart (k .ready) (isKnown chart) (known-pass chart names k) conf hist ts w v)
 
-  pub start-entries : EntriesOf chart names (firstEffects (chartOf chart))
-  start-entries =
-      entered-as (firstEffects (chartOf chart)) (start-passes chart (k .ready) indexFits (indices-pass chart names k))
+  pub start-joins : JoinsStand chart names (firstEffects (chartOf chart))
+  start-joins =
+      joins-stand (firstEffects (chartOf chart)) (start-passes chart (k .ready) indexFits (indices-pass chart names k))
       (start-passes chart (k .ready) (isKnown chart) (known-pass chart names k))

@@ -1,4 +1,4 @@
--- Names join the internal queue, entry by entry.
+-- Names join the internal queue, one by one.
 use mathlib.Core.Path.{_≡_, refl, sym, ap, _∙_}
 use mathlib.Core.Bool.{true, _&&_}
 use mathlib.Core.List.{List, [], _∷_, _++_, map, map-append, append-nil, append-assoc}
@@ -20,7 +20,7 @@ use Rattle.laws.specs.Lists.{flat-app}
 use Rattle.tables.specs.Parts.{IdOf, SlotOf}
 use Rattle.queue.specs.Queues.{queueBytes, queueOf, queue-last, queue-length, names-length}
 use Rattle.effects.specs.Kinds.{effectOf}
-use Rattle.events.specs.Rounds.{effectAt, queuedNames, isKnown, EntriesIn, Joins}
+use Rattle.events.specs.Rounds.{effectAt, queuedNames, isKnown, JoinsIn, Joins}
 
 -- ---- no name, one name, those of two lists
 
@@ -40,140 +40,128 @@ joins-both xs ys before between after count n m h k =
       number = let s = length-append xs ys in omega arith;
     }
 
--- ---- one entry, by its kind
+-- ---- one join, by its kind
 
-kind-none : (c : Chart) (names : Names) (k i : ℕ) → k < 5 → queued c names (effectOf k i) ≡ []
+kind-none : (c : Chart) (names : Names) (k i : ℕ) → (k ≡ 5 → ⊥) → (k ≡ 6 → ⊥) → queued c names (effectOf k i) ≡ []
 unfolding queued
-kind-none c names zero i l = refl
-kind-none c names (suc zero) i l = refl
-kind-none c names (suc (suc zero)) i l = refl
-kind-none c names (suc (suc (suc zero))) i l = refl
-kind-none c names (suc (suc (suc (suc zero)))) i l = refl
-kind-none c names (suc (suc (suc (suc (suc k))))) i l = absurd (omega arith)
+kind-none c names zero i a b = refl
+kind-none c names (suc zero) i a b = refl
+kind-none c names (suc (suc zero)) i a b = refl
+kind-none c names (suc (suc (suc zero))) i a b = refl
+kind-none c names (suc (suc (suc (suc zero)))) i a b = refl
+kind-none c names (suc (suc (suc (suc (suc zero))))) i a b = absurd (a refl)
+kind-none c names (suc (suc (suc (suc (suc (suc zero)))))) i a b = absurd (b refl)
+kind-none c names (suc (suc (suc (suc (suc (suc (suc k))))))) i a b = refl
 
--- past the kind of raised names every kind is read as that of done events
-kind-done : (k i : ℕ) → 5 < k → effectOf k i ≡ effectOf 6 i
-kind-done zero i l = absurd (omega arith)
-kind-done (suc zero) i l = absurd (omega arith)
-kind-done (suc (suc zero)) i l = absurd (omega arith)
-kind-done (suc (suc (suc zero))) i l = absurd (omega arith)
-kind-done (suc (suc (suc (suc zero)))) i l = absurd (omega arith)
-kind-done (suc (suc (suc (suc (suc zero))))) i l = absurd (omega arith)
-kind-done (suc (suc (suc (suc (suc (suc k)))))) i l = refl
-
-module _ (c : Chart) (names : Names) (entry : ℕ) where
-  pub queued-none : entry / 65536 < 5 → queued c names (effectAt entry) ≡ []
+module _ (c : Chart) (names : Names) (join : ℕ) where
+  pub queued-none : (join / 65536 ≡ 5 → ⊥) → (join / 65536 ≡ 6 → ⊥) → queued c names (effectAt join) ≡ []
   unfolding effectAt
-  queued-none l = kind-none c names (entry / 65536) (entry % 65536) l
+  queued-none a b = kind-none c names (join / 65536) (join % 65536) a b
 
-  pub queued-raised : entry / 65536 ≡ 5 → queued c names (effectAt entry) ≡ names (entry % 65536) ∷ []
+  pub queued-raised : join / 65536 ≡ 5 → queued c names (effectAt join) ≡ names (join % 65536) ∷ []
   unfolding effectAt queued
   queued-raised e = rw e
 
-  pub queued-done : 5 < entry / 65536 → queued c names (effectAt entry) ≡ doneName (names ((c .row) (entry % 65536) .id)) ∷ []
+  pub queued-done : join / 65536 ≡ 6 → queued c names (effectAt join) ≡ doneName (names ((c .row) (join % 65536) .id)) ∷ []
   unfolding effectAt queued
-  queued-done l = rw (kind-done (entry / 65536) (entry % 65536) l)
+  queued-done e = rw e
 
-module _ (chart : List ℕ) (entry : ℕ) (h : isKnown chart (effectAt entry) ≡ true) where
-  pub known-raised : entry / 65536 ≡ 5 → entry % 65536 < nameCount chart
+module _ (chart : List ℕ) (join : ℕ) (h : isKnown chart (effectAt join) ≡ true) where
+  pub known-raised : join / 65536 ≡ 5 → join % 65536 < nameCount chart
   unfolding effectAt isKnown
   known-raised e = ltb-true _ _ (rw e at h)
 
-  known-done : 5 < entry / 65536 → (ltb (entry % 65536) (rowCount chart) && ltb (idAt chart (entry % 65536)) (nameCount chart)) ≡ true
+  known-done : join / 65536 ≡ 6 → (ltb (join % 65536) (rowCount chart) && ltb (idAt chart (join % 65536)) (nameCount chart)) ≡ true
   unfolding effectAt isKnown
-  known-done l = rw (kind-done (entry / 65536) (entry % 65536) l) at h
+  known-done e = rw e at h
 
-  pub known-row : 5 < entry / 65536 → entry % 65536 < rowCount chart
-  known-row l = ltb-true _ _ (and-left (ltb (entry % 65536) (rowCount chart)) _ (known-done l))
+  pub known-row : join / 65536 ≡ 6 → join % 65536 < rowCount chart
+  known-row l = ltb-true _ _ (and-left (ltb (join % 65536) (rowCount chart)) _ (known-done l))
 
-  pub known-id : 5 < entry / 65536 → idAt chart (entry % 65536) < nameCount chart
-  known-id l = ltb-true _ _ (and-right (ltb (entry % 65536) (rowCount chart)) _ (known-done l))
-
--- an entry of the last kind
-pub past-raised : (k : ℕ) → 5 ≤ k → (k ≡ 5 → ⊥) → 5 < k
-past-raised k l n = omega arith
+  pub known-id : join / 65536 ≡ 6 → idAt chart (join % 65536) < nameCount chart
+  known-id l = ltb-true _ _ (and-right (ltb (join % 65536) (rowCount chart)) _ (known-done l))
 
 -- one name joins: there is a slot for it, and what was put there is the queue with it
-module _ (chart names : List ℕ) (entry count : ℕ) (room : count + length (queued (chartOf chart) (nameAt names) (effectAt entry)) ≤ 32) where
-  one-low : (name : Name) → queued (chartOf chart) (nameAt names) (effectAt entry) ≡ name ∷ [] → count < 32
+module _ (chart names : List ℕ) (join count : ℕ) (room : count + length (queued (chartOf chart) (nameAt names) (effectAt join)) ≤ 32) where
+  one-low : (name : Name) → queued (chartOf chart) (nameAt names) (effectAt join) ≡ name ∷ [] → count < 32
   one-low name e = let l = ap {B = ℕ} length e in omega arith
 
-  pub raised-low : entry / 65536 ≡ 5 → count < 32
-  raised-low k = one-low _ (queued-raised (chartOf chart) (nameAt names) entry k)
+  pub raised-low : join / 65536 ≡ 5 → count < 32
+  raised-low k = one-low _ (queued-raised (chartOf chart) (nameAt names) join k)
 
-  pub done-low : 5 < entry / 65536 → count < 32
-  done-low k = one-low _ (queued-done (chartOf chart) (nameAt names) entry k)
+  pub done-low : join / 65536 ≡ 6 → count < 32
+  done-low k = one-low _ (queued-done (chartOf chart) (nameAt names) join k)
 
-  pub raised-joins : entry / 65536 ≡ 5 → (before after slot name : List ℕ) → SlotOf names (entry % 65536) slot → name ≡ beforeZero slot →
-      after ≡ take (count * 64) before ++ (slotOf name ++ drop (count * 64 + 64) before) → Joins (queued (chartOf chart) (nameAt names) (effectAt entry)) before after count (count + 1)
+  pub raised-joins : join / 65536 ≡ 5 → (before after slot name : List ℕ) → SlotOf names (join % 65536) slot → name ≡ beforeZero slot →
+      after ≡ take (count * 64) before ++ (slotOf name ++ drop (count * 64 + 64) before) → Joins (queued (chartOf chart) (nameAt names) (effectAt join)) before after count (count + 1)
   unfolding nameAt
   raised-joins k before after slot name s e put =
-      joins-one _ name before after count (queued-raised (chartOf chart) (nameAt names) entry k ∙ rw (e, s .is)) (raised-low k) put
+      joins-one _ name before after count (queued-raised (chartOf chart) (nameAt names) join k ∙ rw (e, s .is)) (raised-low k) put
 
-  pub done-joins : 5 < entry / 65536 → (n : ℕ) (before after slot name : List ℕ) → IdOf chart (entry % 65536) n → SlotOf names n slot → name ≡ beforeZero slot →
-      after ≡ take (count * 64) before ++ (slotOf (doneName name) ++ drop (count * 64 + 64) before) → Joins (queued (chartOf chart) (nameAt names) (effectAt entry)) before after count (count + 1)
+  pub done-joins : join / 65536 ≡ 6 → (n : ℕ) (before after slot name : List ℕ) → IdOf chart (join % 65536) n → SlotOf names n slot → name ≡ beforeZero slot →
+      after ≡ take (count * 64) before ++ (slotOf (doneName name) ++ drop (count * 64 + 64) before) → Joins (queued (chartOf chart) (nameAt names) (effectAt join)) before after count (count + 1)
   unfolding nameAt
   done-joins k n before after slot name i s e put =
-      joins-one _ (doneName name) before after count (queued-done (chartOf chart) (nameAt names) entry k ∙ rw (e, s .is, i .is)) (done-low k) put
+      joins-one _ (doneName name) before after count (queued-done (chartOf chart) (nameAt names) join k ∙ rw (e, s .is, i .is)) (done-low k) put
 
--- ---- entry by entry
+-- ---- join by join
 
 module _ (c : Chart) (names : Names) where
   queued-app : (xs ys : List ℕ) → queuedNames c names (xs ++ ys) ≡ queuedNames c names xs ++ queuedNames c names ys
   unfolding queuedNames
   queued-app xs ys = ap (flat (queued c names)) (map-append effectAt xs ys) ∙ flat-app (queued c names) (map effectAt xs) (map effectAt ys)
 
-  queued-one : (entry : ℕ) → queuedNames c names (entry ∷ []) ≡ queued c names (effectAt entry)
+  queued-one : (join : ℕ) → queuedNames c names (join ∷ []) ≡ queued c names (effectAt join)
   unfolding queuedNames flat
-  queued-one entry = append-nil (queued c names (effectAt entry))
+  queued-one join = append-nil (queued c names (effectAt join))
 
-  queued-more : (entries : List ℕ) (i : ℕ) → i < length entries →
-      queuedNames c names (take (i + 1) entries) ≡ queuedNames c names (take i entries) ++ queued c names (effectAt (getD entries i 0))
-  queued-more entries i l =
-      rw (add-one i, take-suc entries i 0 l)
-      (queued-app (take i entries) (getD entries i 0 ∷ []) ∙ ap (λ (xs : List Name). queuedNames c names (take i entries) ++ xs) (queued-one (getD entries i 0)))
+  queued-more : (joins : List ℕ) (i : ℕ) → i < length joins →
+      queuedNames c names (take (i + 1) joins) ≡ queuedNames c names (take i joins) ++ queued c names (effectAt (getD joins i 0))
+  queued-more joins i l =
+      rw (add-one i, take-suc joins i 0 l)
+      (queued-app (take i joins) (getD joins i 0 ∷ []) ∙ ap (λ (xs : List Name). queuedNames c names (take i joins) ++ xs) (queued-one (getD joins i 0)))
 
--- the first i entries have queued their names
-pub record Queueing (c : Chart) (names : Names) (entries before now : List ℕ) (count n i : ℕ) : Type 0 where
-  pub most : i ≤ length entries
-  pub joined : Joins (queuedNames c names (take i entries)) before now count n
+-- the first i joins have queued their names
+pub record Queueing (c : Chart) (names : Names) (joins before now : List ℕ) (count n i : ℕ) : Type 0 where
+  pub most : i ≤ length joins
+  pub joined : Joins (queuedNames c names (take i joins)) before now count n
 
-module _ (c : Chart) (names : Names) (entries before : List ℕ) (count : ℕ) where
-  pub queueing-begin : Queueing c names entries before before count count 0
+module _ (c : Chart) (names : Names) (joins before : List ℕ) (count : ℕ) where
+  pub queueing-begin : Queueing c names joins before before count count 0
   unfolding queuedNames flat
   queueing-begin = record { most = omega arith; joined = joins-none [] before count refl }
 
-  module _ (now : List ℕ) (n i : ℕ) (h : Queueing c names entries before now count n i) where
-    pub queueing-turn : (after : List ℕ) (m : ℕ) → i < length entries → Joins (queued c names (effectAt (getD entries i 0))) now after n m → Queueing c names entries before after count m (i + 1)
+  module _ (now : List ℕ) (n i : ℕ) (h : Queueing c names joins before now count n i) where
+    pub queueing-turn : (after : List ℕ) (m : ℕ) → i < length joins → Joins (queued c names (effectAt (getD joins i 0))) now after n m → Queueing c names joins before after count m (i + 1)
     queueing-turn after m l k = record {
       most = omega arith;
-      joined = rw (queued-more c names entries i l) (joins-both _ _ before now after count n m (h .joined) k);
+      joined = rw (queued-more c names joins i l) (joins-both _ _ before now after count n m (h .joined) k);
     }
 
     -- there is room for the next
-    pub queueing-room : i < length entries → count + length (queuedNames c names entries) ≤ 32 → n + length (queued c names (effectAt (getD entries i 0))) ≤ 32
+    pub queueing-room : i < length joins → count + length (queuedNames c names joins) ≤ 32 → n + length (queued c names (effectAt (getD joins i 0))) ≤ 32
     queueing-room l r =
         let a = h .joined .number in
-        let b = ap {B = ℕ} length (queued-more c names entries i l) ∙ length-append (queuedNames c names (take i entries)) (queued c names (effectAt (getD entries i 0))) in
-        let d = ap {B = ℕ} (λ (xs : List ℕ). length (queuedNames c names xs)) (take-append-drop (i + 1) entries) in
-        let e = ap {B = ℕ} length (queued-app c names (take (i + 1) entries) (drop (i + 1) entries)) ∙ length-append (queuedNames c names (take (i + 1) entries)) (queuedNames c names (drop (i + 1) entries)) in
+        let b = ap {B = ℕ} length (queued-more c names joins i l) ∙ length-append (queuedNames c names (take i joins)) (queued c names (effectAt (getD joins i 0))) in
+        let d = ap {B = ℕ} (λ (xs : List ℕ). length (queuedNames c names xs)) (take-append-drop (i + 1) joins) in
+        let e = ap {B = ℕ} length (queued-app c names (take (i + 1) joins) (drop (i + 1) joins)) ∙ length-append (queuedNames c names (take (i + 1) joins)) (queuedNames c names (drop (i + 1) joins)) in
         omega arith
 
     module _ (holds : before ≡ queueBytes (queueOf before count)) where
       pub queueing-size : length now ≡ 2048
       queueing-size =
-          ap length (h .joined .bytes (queueOf before count) holds (sym (names-length before count))) ∙ queue-length (queueOf before count ++ queuedNames c names (take i entries))
+          ap length (h .joined .bytes (queueOf before count) holds (sym (names-length before count))) ∙ queue-length (queueOf before count ++ queuedNames c names (take i joins))
 
       pub queueing-same : length now ≡ length before
       queueing-same = queueing-size ∙ sym (ap length holds ∙ queue-length (queueOf before count))
 
-      pub queueing-end : length entries ≤ i → (now ≡ queueBytes (queueOf before count ++ queuedNames c names entries)) × (n ≡ count + length (queuedNames c names entries))
+      pub queueing-end : length joins ≤ i → (now ≡ queueBytes (queueOf before count ++ queuedNames c names joins)) × (n ≡ count + length (queuedNames c names joins))
       queueing-end l =
-          let k : Joins (queuedNames c names entries) before now count n = rw (take-all i entries l) at (h .joined) in
+          let k : Joins (queuedNames c names joins) before now count n = rw (take-all i joins l) at (h .joined) in
           (k .bytes (queueOf before count) holds (sym (names-length before count)), k .number)
 
-pub known-at : (chart entries : List ℕ) (i : ℕ) → EntriesIn chart entries → i < length entries → isKnown chart (effectAt (getD entries i 0)) ≡ true
-known-at chart entries i h l = go entries i (h .known) l
+pub known-at : (chart joins : List ℕ) (i : ℕ) → JoinsIn chart joins → i < length joins → isKnown chart (effectAt (getD joins i 0)) ≡ true
+known-at chart joins i h l = go joins i (h .known) l
   where
     go : (xs : List ℕ) (i : ℕ) → all (isKnown chart) (map effectAt xs) ≡ true → i < length xs → isKnown chart (effectAt (getD xs i 0)) ≡ true
     go [] i e l = absurd (omega arith)

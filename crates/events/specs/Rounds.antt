@@ -77,13 +77,13 @@ pub record Waits (source : Source) (internal external : List ℕ) (internalCount
   pub inner : source ≡ Internal → Waiting internal internalCount
   pub outer : source ≡ External → Waiting external externalCount
 
--- ---- the names that trace entries queue
+-- ---- the names that joins stand for
 
 unfoldable pub effectAt : ℕ → Effect
-effectAt entry = effectOf (entry / 65536) (entry % 65536)
+effectAt join = effectOf (join / 65536) (join % 65536)
 
 unfoldable pub queuedNames : Chart → Names → List ℕ → List Name
-queuedNames c names entries = flat (queued c names) (map effectAt entries)
+queuedNames c names joins = flat (queued c names) (map effectAt joins)
 
 -- what an effect queues stands in the tables: a raised name is one of theirs, a done event is of a row that has an id
 unfoldable pub isKnown : List ℕ → Effect → Bool
@@ -94,8 +94,8 @@ isKnown chart (acted n) = true
 isKnown chart (raised n) = ltb n (nameCount chart)
 isKnown chart (done i) = ltb i (rowCount chart) && ltb (idAt chart i) (nameCount chart)
 
-pub record EntriesIn (chart entries : List ℕ) : Type 0 where
-  pub known : all (isKnown chart) (map effectAt entries) ≡ true
+pub record JoinsIn (chart joins : List ℕ) : Type 0 where
+  pub known : all (isKnown chart) (map effectAt joins) ≡ true
 
 -- these names join whatever count names the bytes of a queue hold
 pub record Joins (more : List Name) (before after : List ℕ) (count n : ℕ) : Type 0 where

@@ -15,7 +15,7 @@ ghost use Rattle.definition.specs.Selection.{selected};
 ghost use mathlib.Core.Option.{none};
 ghost use Rattle.queue.specs.Queues.{queueBytes, queueOf};
 ghost use Rattle.state.specs.State.{stateOf, Holds};
-ghost use Rattle.events.specs.Rounds.{Lookup, Chooses, internalBytes, externalBytes, Waits, effectAt, queuedNames, isKnown, EntriesIn, Joins};
+ghost use Rattle.events.specs.Rounds.{Lookup, Chooses, internalBytes, externalBytes, Waits, effectAt, queuedNames, isKnown, JoinsIn, Joins};
 use numbers::NameNumber;
 use numbers::Row;
 use rowset::RowSet;
@@ -168,44 +168,46 @@ pub fn take_event(
 // "kind × 65,536 + index"
 const KIND: u32 = 65536;
 
-// The kind of a raised name; behind it comes that of a done event.
+// The kinds that join: a raised name, a done event.
 const RAISED: u32 = 5;
 
-// One entry of a round: a raised name, or the done name of a row, joins the count names of the internal queue.
-fn queue_entry(chart: &[u64], names: &[u8], entry: u32, internal: &mut [u8], count: u64) -> u64
-    requires { ⌜ CompiledWith (now chart) (now names) × (isKnown (now chart) (effectAt entry) ≡ true) × (length (now internal) ≡ 2048) × (count + length (queued (chartOf (now chart)) (nameAt (now names)) (effectAt entry)) ≤ 32) ⌝ }
-    ensures { λ n. ⌜ Joins (queued (chartOf (now (chart .entry))) (nameAt (now (names .entry))) (effectAt entry)) (now (internal .entry)) (now (internal .exit)) count n ⌝ }
+const DONE: u32 = 6;
+
+// One join of a round: a raised name, or the done name of a row, behind the count names of the internal queue.
+fn queue_join(chart: &[u64], names: &[u8], join: u32, internal: &mut [u8], count: u64) -> u64
+    requires { ⌜ CompiledWith (now chart) (now names) × (isKnown (now chart) (effectAt join) ≡ true) × (length (now internal) ≡ 2048) × (count + length (queued (chartOf (now chart)) (nameAt (now names)) (effectAt join)) ≤ 32) ⌝ }
+    ensures { λ n. ⌜ Joins (queued (chartOf (now (chart .entry))) (nameAt (now (names .entry))) (effectAt join)) (now (internal .entry)) (now (internal .exit)) count n ⌝ }
 {
-    let kind = entry / KIND;
-    let index = entry % KIND;
-    if kind < RAISED {
-        return count;
-    }
+    let kind = join / KIND;
+    let index = join % KIND;
     if kind == RAISED {
         let slot = tables::slot_of(names, NameNumber(index as u16));
         queue::put_last(internal, count, names::name_of(slot));
         return count + 1;
     }
-    let id = tables::slot_of(names, tables::id_of(chart, Row(index as u8)));
-    queue::put_done_last(internal, count, names::name_of(id));
-    count + 1
+    if kind == DONE {
+        let id = tables::slot_of(names, tables::id_of(chart, Row(index as u8)));
+        queue::put_done_last(internal, count, names::name_of(id));
+        return count + 1;
+    }
+    count
 }
 
-// The names of the raises and done events among a round's entries join the count names of the internal queue; how many they are then.
+// The names that a round's joins stand for join the count names of the internal queue; how many they are then.
 pub fn queue_names(
     chart: &[u64],
     names: &[u8],
-    entries: &[u32],
+    joins: &[u32],
     internal: &mut [u8],
     count: u64,
 ) -> u64
-    requires { ⌜ CompiledWith (now chart) (now names) × EntriesIn (now chart) (now entries) × (now internal ≡ queueBytes (queueOf (now internal) count)) × (count + length (queuedNames (chartOf (now chart)) (nameAt (now names)) (now entries)) ≤ 32) ⌝ }
-    ensures { λ n. ⌜ (now (internal .exit) ≡ queueBytes (queueOf (now (internal .entry)) count ++ queuedNames (chartOf (now (chart .entry))) (nameAt (now (names .entry))) (now (entries .entry)))) × (n ≡ count + length (queuedNames (chartOf (now (chart .entry))) (nameAt (now (names .entry))) (now (entries .entry)))) ⌝ }
+    requires { ⌜ CompiledWith (now chart) (now names) × JoinsIn (now chart) (now joins) × (now internal ≡ queueBytes (queueOf (now internal) count)) × (count + length (queuedNames (chartOf (now chart)) (nameAt (now names)) (now joins)) ≤ 32) ⌝ }
+    ensures { λ n. ⌜ (now (internal .exit) ≡ queueBytes (queueOf (now (internal .entry)) count ++ queuedNames (chartOf (now (chart .entry))) (nameAt (now (names .entry))) (now (joins .entry)))) × (n ≡ count + length (queuedNames (chartOf (now (chart .entry))) (nameAt (now (names .entry))) (now (joins .entry)))) ⌝ }
 {
     let mut n = count;
     let mut i = 0;
-    while i < entries.len() {
-        n = queue_entry(chart, names, entries[i], internal, n);
+    while i < joins.len() {
+        n = queue_join(chart, names, joins[i], internal, n);
         i += 1;
     }
     n

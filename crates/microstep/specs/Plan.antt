@@ -22,7 +22,7 @@ use Rattle.rowset.specs.Member.{rowsOf}
 use Rattle.chart.specs.Ready.{Ready}
 use Rattle.matching.specs.Chosen.{Within, Taken, within-none}
 use Rattle.effects.specs.declared.Tally.{Tally}
-use Rattle.effects.specs.Trace.{Wrote, Room, wrote-both, room-first, room-next}
+use Rattle.effects.specs.Trace.{Places, Wrote, Room, wrote-both, room-first, room-next}
 use Rattle.effects.specs.Entering.{entryIs, HistoryRows}
 use Rattle.effects.specs.Bounds.{round-room}
 use Rattle.microstep.specs.declared.Plan.{Plan}
@@ -33,6 +33,7 @@ use Rattle.microstep.specs.Entry.{enteredAs}
 
 -- the plan is the definition's for these transitions, taken together from a configuration with its stored history
 pub record Planned (c : Chart) (conf : List ℕ) (hist : History) (ts : List ℕ) (p : Plan) : Type 0 where
+  pub from : rowsOf (p .conf) ≡ conf
   pub stay : rowsOf (p .stay) ≡ staying c conf hist ts
   pub out : rowsOf (p .out) ≡ exits c conf hist ts
   pub entry : entryIs (p .set) (p .«by_default») ≡ entryOf c conf hist ts
@@ -116,43 +117,43 @@ fallen-histories chart g after ts fell w e = record {
 -- what is written for a plan
 unfoldable pub planEffects : Chart → Plan → List ℕ → List Effect
 planEffects c p ts =
-    exiting c (rowsOf (p .out)) ++ flat (transitionEffects c) ts ++ entering c (rowsOf (p .stay)) (entryIs (p .set) (p .«by_default»)) (rowsOf (p .fallen))
+    exiting c (rowsOf (p .conf)) (rowsOf (p .out)) ++ flat (transitionEffects c (rowsOf (p .stay))) ts ++ entering c (rowsOf (p .stay)) (entryIs (p .set) (p .«by_default»)) (rowsOf (p .fallen))
 
 pub plan-effects : (c : Chart) (conf : List ℕ) (hist : History) (ts : List ℕ) (p : Plan) → Planned c conf hist ts p → planEffects c p ts ≡ effects c conf hist ts
 unfolding planEffects effects
-plan-effects c conf hist ts p h = rw (h .out, h .stay, h .entry, h .fallen)
+plan-effects c conf hist ts p h = rw (h .from, h .out, h .stay, h .entry, h .fallen)
 
 pub plan-next : (c : Chart) (conf : List ℕ) (hist : History) (ts : List ℕ) (p : Plan) → Planned c conf hist ts p → union (rowsOf (p .stay)) (rowsOf (p .set)) ≡ configurationAfter c conf hist ts
 unfolding configurationAfter
 plan-next c conf hist ts p h = rw (h .stay) (ap (λ (e : Entry). union (staying c conf hist ts) (e .set)) (h .entry))
 
 -- the pieces have room, one after the other, and together are the plan's effects
-module _ (chart : List ℕ) (p : Plan) (chosen : List ℕ) (old : List ℕ) (t : Tally) (h : PlanReady chart p) (w : Taken (transitionCount chart) chosen) (s : Small t) where
-  whole : Room t (exiting (chartOf chart) (rowsOf (p .out)) ++ flat (transitionEffects (chartOf chart)) chosen ++ entering (chartOf chart) (rowsOf (p .stay)) (entryIs (p .set) (p .«by_default»)) (rowsOf (p .fallen)))
+module _ (chart : List ℕ) (p : Plan) (chosen : List ℕ) (old : Places) (t : Tally) (h : PlanReady chart p) (w : Taken (transitionCount chart) chosen) (s : Small t) where
+  whole : Room t (exiting (chartOf chart) (rowsOf (p .conf)) (rowsOf (p .out)) ++ flat (transitionEffects (chartOf chart) (rowsOf (p .stay))) chosen ++ entering (chartOf chart) (rowsOf (p .stay)) (entryIs (p .set) (p .«by_default»)) (rowsOf (p .fallen)))
   whole =
-      round-room chart (h .ready .tables) t (p .out) chosen (rowsOf (p .stay)) (p .set) (p .«by_default») (p .fallen) (s .entries) (s .names) (h .out) (w .most) (w .inside) (h .set) (h .fallen)
+      round-room chart (h .ready .tables) t (rowsOf (p .conf)) (p .out) chosen (rowsOf (p .stay)) (p .set) (p .«by_default») (p .fallen) (s .entries) (s .names) (h .out) (w .most) (w .inside) (h .set) (h .fallen)
 
-  before-entries : Room t (exiting (chartOf chart) (rowsOf (p .out)) ++ flat (transitionEffects (chartOf chart)) chosen)
-  before-entries = room-first t (exiting (chartOf chart) (rowsOf (p .out)) ++ flat (transitionEffects (chartOf chart)) chosen) _ whole
+  before-entries : Room t (exiting (chartOf chart) (rowsOf (p .conf)) (rowsOf (p .out)) ++ flat (transitionEffects (chartOf chart) (rowsOf (p .stay))) chosen)
+  before-entries = room-first t (exiting (chartOf chart) (rowsOf (p .conf)) (rowsOf (p .out)) ++ flat (transitionEffects (chartOf chart) (rowsOf (p .stay))) chosen) _ whole
 
-  pub exits-room : Room t (exiting (chartOf chart) (rowsOf (p .out)))
-  exits-room = room-first t (exiting (chartOf chart) (rowsOf (p .out))) (flat (transitionEffects (chartOf chart)) chosen) before-entries
+  pub exits-room : Room t (exiting (chartOf chart) (rowsOf (p .conf)) (rowsOf (p .out)))
+  exits-room = room-first t (exiting (chartOf chart) (rowsOf (p .conf)) (rowsOf (p .out))) (flat (transitionEffects (chartOf chart) (rowsOf (p .stay))) chosen) before-entries
 
-  module _ (old1 : List ℕ) (t1 : Tally) (w1 : Wrote old old1 t t1 (exiting (chartOf chart) (rowsOf (p .out)))) where
-    pub taken-room : Room t1 (flat (transitionEffects (chartOf chart)) chosen)
-    taken-room = room-next old old1 t t1 (exiting (chartOf chart) (rowsOf (p .out))) (flat (transitionEffects (chartOf chart)) chosen) before-entries w1
+  module _ (old1 : Places) (t1 : Tally) (w1 : Wrote old old1 t t1 (exiting (chartOf chart) (rowsOf (p .conf)) (rowsOf (p .out)))) where
+    pub taken-room : Room t1 (flat (transitionEffects (chartOf chart) (rowsOf (p .stay))) chosen)
+    taken-room = room-next old old1 t t1 (exiting (chartOf chart) (rowsOf (p .conf)) (rowsOf (p .out))) (flat (transitionEffects (chartOf chart) (rowsOf (p .stay))) chosen) before-entries w1
 
-    module _ (old2 : List ℕ) (t2 : Tally) (w2 : Wrote old1 old2 t1 t2 (flat (transitionEffects (chartOf chart)) chosen)) where
-      both : Wrote old old2 t t2 (exiting (chartOf chart) (rowsOf (p .out)) ++ flat (transitionEffects (chartOf chart)) chosen)
-      both = wrote-both old old1 old2 t t1 t2 (exiting (chartOf chart) (rowsOf (p .out))) (flat (transitionEffects (chartOf chart)) chosen) w1 w2
+    module _ (old2 : Places) (t2 : Tally) (w2 : Wrote old1 old2 t1 t2 (flat (transitionEffects (chartOf chart) (rowsOf (p .stay))) chosen)) where
+      both : Wrote old old2 t t2 (exiting (chartOf chart) (rowsOf (p .conf)) (rowsOf (p .out)) ++ flat (transitionEffects (chartOf chart) (rowsOf (p .stay))) chosen)
+      both = wrote-both old old1 old2 t t1 t2 (exiting (chartOf chart) (rowsOf (p .conf)) (rowsOf (p .out))) (flat (transitionEffects (chartOf chart) (rowsOf (p .stay))) chosen) w1 w2
 
       pub entries-room : Room t2 (entering (chartOf chart) (rowsOf (p .stay)) (entryIs (p .set) (p .«by_default»)) (rowsOf (p .fallen)))
-      entries-room = room-next old old2 t t2 (exiting (chartOf chart) (rowsOf (p .out)) ++ flat (transitionEffects (chartOf chart)) chosen) _ whole both
+      entries-room = room-next old old2 t t2 (exiting (chartOf chart) (rowsOf (p .conf)) (rowsOf (p .out)) ++ flat (transitionEffects (chartOf chart) (rowsOf (p .stay))) chosen) _ whole both
 
-      pub plan-wrote : (old3 : List ℕ) (t3 : Tally) → Wrote old2 old3 t2 t3 (entering (chartOf chart) (rowsOf (p .stay)) (entryIs (p .set) (p .«by_default»)) (rowsOf (p .fallen))) →
+      pub plan-wrote : (old3 : Places) (t3 : Tally) → Wrote old2 old3 t2 t3 (entering (chartOf chart) (rowsOf (p .stay)) (entryIs (p .set) (p .«by_default»)) (rowsOf (p .fallen))) →
           Wrote old old3 t t3 (planEffects (chartOf chart) p chosen)
       unfolding planEffects
-      plan-wrote old3 t3 w3 = wrote-both old old2 old3 t t2 t3 (exiting (chartOf chart) (rowsOf (p .out)) ++ flat (transitionEffects (chartOf chart)) chosen) _ both w3
+      plan-wrote old3 t3 w3 = wrote-both old old2 old3 t t2 t3 (exiting (chartOf chart) (rowsOf (p .conf)) (rowsOf (p .out)) ++ flat (transitionEffects (chartOf chart) (rowsOf (p .stay))) chosen) _ both w3
 
 -- ---- the first entry
 
@@ -171,7 +172,7 @@ pub no-histories : (chart xs : List ℕ) → Ready chart → xs ≡ [] → Histo
 unfolding mem
 no-histories chart xs g e = record { ready = g; at = λ h m. absurd (no (rw e at m)) }
 
-pub first-wrote : (c : Chart) (i : Entry) (stay fell old new : List ℕ) (t r : Tally) → stay ≡ [] → fell ≡ [] → Wrote old new t r (entering c stay i fell) → Wrote old new t r (entering c [] i [])
+pub first-wrote : (c : Chart) (i : Entry) (stay fell : List ℕ) (old new : Places) (t r : Tally) → stay ≡ [] → fell ≡ [] → Wrote old new t r (entering c stay i fell) → Wrote old new t r (entering c [] i [])
 first-wrote c i stay fell old new t r e f w = rw (e, f) at w
 
 -- ---- after the round

@@ -15,7 +15,7 @@ ghost use Rattle.chart.specs.Ready.{Ready, RowReady, TransitionReady};
 ghost use Rattle.matching.specs.Chosen.{Within, Taken};
 ghost use Rattle.selection.specs.History.{storedAt};
 ghost use Rattle.selection.specs.FixedDomains.{hasFixedTargets, DomainsFixed};
-ghost use Rattle.effects.specs.Trace.{Wrote};
+ghost use Rattle.effects.specs.Trace.{places, Wrote};
 ghost use Rattle.effects.specs.Entering.{HistoryRow};
 ghost use Rattle.microstep.specs.Stored.{StoreReady, RoundReady, TakenReady, StoredIs};
 ghost use Rattle.microstep.specs.Targets.{addFell};
@@ -396,9 +396,10 @@ fn entry_set(chart: &[u64], atoms: RowSet, aim: RowSet) -> Entered
 
 // ---- the plan of a round
 
-// The rows that stay, those that are left, the entry set with its rows whose child came by default, and the histories that fall to
-// their default lists.
+// The configuration before the round, the rows that stay, those that are left, the entry set with its rows whose child came by default,
+// and the histories that fall to their default lists.
 pub struct Plan {
+    pub conf: RowSet,
     pub stay: RowSet,
     pub out: RowSet,
     pub set: RowSet,
@@ -425,6 +426,7 @@ pub fn plan_round(
     let set = e.set;
     let by_default = e.by_default;
     Plan {
+        conf: conf,
         stay: stay,
         out: out,
         set: set,
@@ -448,19 +450,21 @@ pub fn plan_effects(
     plan: Plan,
     chosen: &[u16],
     trace: &mut [u32],
+    joins: &mut [u32],
     tally: Tally,
 ) -> Tally
     requires { ⌜ PlanReady (now chart) plan × Taken (transitionCount (now chart)) (now chosen) × Small tally ⌝ }
-    ensures { λ s. ⌜ Wrote (now (trace .entry)) (now (trace .exit)) tally s (planEffects (chartOf (now (chart .entry))) plan (now (chosen .entry))) ⌝ }
+    ensures { λ s. ⌜ Wrote (places (now (trace .entry)) (now (joins .entry))) (places (now (trace .exit)) (now (joins .exit))) tally s (planEffects (chartOf (now (chart .entry))) plan (now (chosen .entry))) ⌝ }
 {
+    let conf = plan.conf;
     let out = plan.out;
     let stay = plan.stay;
     let set = plan.set;
     let by_default = plan.by_default;
     let fallen = plan.fallen;
-    let left = exit_effects(chart, out, trace, tally);
-    let taken = transition_effects(chart, chosen, trace, left);
-    entry_effects(chart, stay, set, by_default, fallen, trace, taken)
+    let left = exit_effects(chart, conf, out, trace, joins, tally);
+    let taken = transition_effects(chart, stay, chosen, trace, joins, left);
+    entry_effects(chart, stay, set, by_default, fallen, trace, joins, taken)
 }
 
 // ---- the first entry and the last exit
@@ -473,9 +477,15 @@ pub fn first_entry(chart: &[u64]) -> Entered
     entry_set(chart, RowSet::empty(), default_paths(chart, Row(0)))
 }
 
-pub fn first_effects(chart: &[u64], e: Entered, trace: &mut [u32], tally: Tally) -> Tally
+pub fn first_effects(
+    chart: &[u64],
+    e: Entered,
+    trace: &mut [u32],
+    joins: &mut [u32],
+    tally: Tally,
+) -> Tally
     requires { ⌜ Ready (now chart) × Within (rowCount (now chart)) (rowsOf (e .set)) × Small tally ⌝ }
-    ensures { λ s. ⌜ Wrote (now (trace .entry)) (now (trace .exit)) tally s (entering (chartOf (now (chart .entry))) [] (enteredAs e) []) ⌝ }
+    ensures { λ s. ⌜ Wrote (places (now (trace .entry)) (now (joins .entry))) (places (now (trace .exit)) (now (joins .exit))) tally s (entering (chartOf (now (chart .entry))) [] (enteredAs e) []) ⌝ }
 {
     let set = e.set;
     let by_default = e.by_default;
@@ -486,16 +496,23 @@ pub fn first_effects(chart: &[u64], e: Entered, trace: &mut [u32], tally: Tally)
         by_default,
         RowSet::empty(),
         trace,
+        joins,
         tally,
     )
 }
 
 // "A closing session's next round exits all that is active in exit order".
-pub fn closing_effects(chart: &[u64], conf: RowSet, trace: &mut [u32], tally: Tally) -> Tally
+pub fn closing_effects(
+    chart: &[u64],
+    conf: RowSet,
+    trace: &mut [u32],
+    joins: &mut [u32],
+    tally: Tally,
+) -> Tally
     requires { ⌜ Ready (now chart) × Within (rowCount (now chart)) (rowsOf conf) × Small tally ⌝ }
-    ensures { λ s. ⌜ Wrote (now (trace .entry)) (now (trace .exit)) tally s (exiting (chartOf (now (chart .entry))) (rowsOf conf)) ⌝ }
+    ensures { λ s. ⌜ Wrote (places (now (trace .entry)) (now (joins .entry))) (places (now (trace .exit)) (now (joins .exit))) tally s (exiting (chartOf (now (chart .entry))) (rowsOf conf) (rowsOf conf)) ⌝ }
 {
-    exit_effects(chart, conf, trace, tally)
+    exit_effects(chart, conf, conf, trace, joins, tally)
 }
 
 // ---- storing

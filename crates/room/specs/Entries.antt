@@ -18,7 +18,7 @@ use Rattle.definition.specs.Chart.{Chart, Names, kind, parent, isRoot, isState,
 use Rattle.definition.specs.Tree.{descendants, isCompound, defaultTargets}
 use Rattle.definition.specs.Selection.{History, domain, effectiveTargets, exitSet, selected}
 use Rattle.definition.specs.Blocks.{Effect, done, performed}
-use Rattle.definition.specs.Microstep.{addExits, exits, exitEffects, exiting, transitionEffects, pathsBelow, addTargets, targeted, Entry, entrySet, fellToDefault, addFallen, fallen, initialBlock, defaultBlock, isDoneAbove, doneEffects, isUpTo, entryEffects, entering, storedIn, staying, historyAfter, entryOf, effects}
+use Rattle.definition.specs.Microstep.{addExits, exits, exitEffects, exiting, transitionEffects, pathsBelow, addTargets, targeted, Entry, entrySet, fellToDefault, addFallen, fallen, initialBlock, defaultBlock, isDoneAbove, doneEffects, activeLeaving, activeAt, defaultEffects, entryEffects, entering, storedIn, staying, historyAfter, entryOf, effects}
 use Rattle.definition.specs.Follower.{Follower, Round, idle, over, did, taking, selectedBy, closingRound, round, firstEntry, firstEffects}
 use Rattle.laws.specs.Bools.{no, or-elim, bool-case, and-left, and-right}
 use Rattle.laws.specs.Sets.{Ascends, NoTwice, no-twice, mem-one, mem-insert-one, mem-intersection}
@@ -33,9 +33,9 @@ use Rattle.theory.specs.Runs.{round-cases}
 use Rattle.room.specs.Sums.{total, fold-total, total-zero, total-more, total-add, total-app, length-flat, total-keep, total-below, no-twice-both, total-backwards, total-one}
 use Rattle.room.specs.Room.{rowRoom, transitionRoom, addRow, addTransition, rowsRoom, transitionsRoom, roomFor}
 
-performed-length : (block : List Action) → length (performed block) ≡ length block
+performed-length : (conf : List ℕ) (block : List Action) → length (performed conf block) ≡ length block
 unfolding performed
-performed-length block = length-map block _
+performed-length conf block = length-map block _
 
 -- ---- the parts of a row
 
@@ -62,20 +62,20 @@ transitions-parts c = let a = fold-total (addTransition c) (transitionRoom c) (�
 
 -- ---- exits and transitions
 
-exiting-few : (c : Chart) (out : List ℕ) → NoTwice out → ((i : ℕ) → mem i out ≡ true → i < c .rows) → length (exiting c out) ≤ total (exitPart c) (from (c .rows) 0)
+exiting-few : (c : Chart) (conf out : List ℕ) → NoTwice out → ((i : ℕ) → mem i out ≡ true → i < c .rows) → length (exiting c conf out) ≤ total (exitPart c) (from (c .rows) 0)
 unfolding exiting exitEffects
-exiting-few c out t h =
-    let a = length-flat (exitEffects c) (backwards out) in
-    let b = total-backwards (λ i. length (exitEffects c i)) out in
-    let d = total-more (λ i. length (exitEffects c i)) (exitPart c) out (λ i m. let p = performed-length ((c .row) i .exit) in omega arith) in
+exiting-few c conf out t h =
+    let a = length-flat (exitEffects c conf out) (backwards out) in
+    let b = total-backwards (λ i. length (exitEffects c conf out i)) out in
+    let d = total-more (λ i. length (exitEffects c conf out i)) (exitPart c) out (λ i m. let p = performed-length (activeLeaving conf out i) ((c .row) i .exit) in omega arith) in
     let e = total-below (exitPart c) (c .rows) out t h in
     omega arith
 
-taken-few : (c : Chart) (ts : List ℕ) → NoTwice ts → ((t : ℕ) → mem t ts ≡ true → t < c .transitions) → length (flat (transitionEffects c) ts) ≤ transitionsRoom c
+taken-few : (c : Chart) (stay ts : List ℕ) → NoTwice ts → ((t : ℕ) → mem t ts ≡ true → t < c .transitions) → length (flat (transitionEffects c stay) ts) ≤ transitionsRoom c
 unfolding transitionEffects transitionRoom
-taken-few c ts t h =
-    let a = length-flat (transitionEffects c) ts in
-    let d = total-more (λ u. length (transitionEffects c u)) (transitionRoom c) ts (λ u m. let p = performed-length ((c .transition) u .block) in omega arith) in
+taken-few c stay ts t h =
+    let a = length-flat (transitionEffects c stay) ts in
+    let d = total-more (λ u. length (transitionEffects c stay u)) (transitionRoom c) ts (λ u m. let p = performed-length stay ((c .transition) u .block) in omega arith) in
     let e = total-below (transitionRoom c) (c .transitions) ts t h in
     let f = transitions-parts c in
     omega arith
@@ -102,15 +102,26 @@ initialPart c byDefault i = cond (isIn byDefault i) (blockPart c i) 0
 abbrev defaultPart : Chart → List ℕ → ℕ → ℕ
 defaultPart c fell i = length (flat (defaultBlock c i) fell)
 
+-- the default blocks have an effect an action
+defaults-length : (c : Chart) (conf : List ℕ) (i : ℕ) (hs : List ℕ) → length (flat (defaultEffects c conf i) hs) ≡ length (flat (defaultBlock c i) hs)
+unfolding flat defaultEffects
+defaults-length c conf i [] = refl
+defaults-length c conf i (h ∷ hs) =
+    let a = length-append (performed conf (defaultBlock c i h)) (flat (defaultEffects c conf i) hs) in
+    let b = length-append (defaultBlock c i h) (flat (defaultBlock c i) hs) in
+    let p = performed-length conf (defaultBlock c i h) in
+    let d = defaults-length c conf i hs in
+    omega arith
+
 entry-few : (c : Chart) (stay : List ℕ) (e : Entry) (fell : List ℕ) (i : ℕ) →
     length (entryEffects c stay e fell i) ≤ entryPart c i + (initialPart c (e .byDefault) i + defaultPart c fell i)
 unfolding entryEffects initialBlock
 entry-few c stay e fell i =
-    let d = done-few c (union stay (keep (isUpTo i) (e .set))) i in
+    let d = done-few c (activeAt stay (e .set) i) i in
     let q = cond-length (mem i (e .byDefault)) ((c .row) i .block) in
-    let p = performed-length ((c .row) i .entry ++ initialBlock c (e .byDefault) i ++ flat (defaultBlock c i) fell) in
-    let x = length-append ((c .row) i .entry ++ initialBlock c (e .byDefault) i) (flat (defaultBlock c i) fell) in
-    let y = length-append ((c .row) i .entry) (initialBlock c (e .byDefault) i) in
+    let p = performed-length (activeAt stay (e .set) i) ((c .row) i .entry) in
+    let x = performed-length (activeAt stay (e .set) i) (initialBlock c (e .byDefault) i) in
+    let y = defaults-length c (activeAt stay (e .set) i) i fell in
     simp length-append (omega arith)
 
 -- a history is of one row
@@ -224,8 +235,8 @@ entry-enters c t targets aim after ts a h = record {
 effects-few : (c : Chart) → Tree c → (conf : List ℕ) (hist : History) (ts : List ℕ) → NoTwice ts → ((t : ℕ) → mem t ts ≡ true → t < c .transitions) → length (effects c conf hist ts) ≤ roomFor c
 unfolding effects entryOf roomFor
 effects-few c t conf hist ts n h =
-    let a = exiting-few c (exits c conf hist ts) (no-twice 0 (exits c conf hist ts) (exits-ascends c conf hist ts)) (exit-inside c conf hist ts) in
-    let b = taken-few c ts n h in
+    let a = exiting-few c conf (exits c conf hist ts) (no-twice 0 (exits c conf hist ts) (exits-ascends c conf hist ts)) (exit-inside c conf hist ts) in
+    let b = taken-few c (staying c conf hist ts) ts n h in
     let d = entering-few c (staying c conf hist ts) (entrySet c (defaultTargets c) (targeted c hist (storedIn (historyAfter c conf hist ts)) ts)) (fallen c (storedIn (historyAfter c conf hist ts)) ts)
     (entry-enters c t (defaultTargets c) (targeted c hist (storedIn (historyAfter c conf hist ts)) ts) (storedIn (historyAfter c conf hist ts)) ts
     (targeted-ascends c hist (storedIn (historyAfter c conf hist ts)) ts) (targeted-inside c hist (storedIn (historyAfter c conf hist ts)) ts)) in
@@ -240,10 +251,10 @@ first-few c t =
     let r = rows-parts c in
     omega arith
 
-closing-few : (c : Chart) (conf : List ℕ) → isSet (c .rows) conf ≡ true → length (exiting c conf) ≤ roomFor c
+closing-few : (c : Chart) (conf : List ℕ) → isSet (c .rows) conf ≡ true → length (exiting c conf conf) ≤ roomFor c
 unfolding roomFor
 closing-few c conf h =
-    let a = exiting-few c conf (no-twice 0 conf (set-ascends (c .rows) conf h)) (set-below (c .rows) conf h) in
+    let a = exiting-few c conf conf (no-twice 0 conf (set-ascends (c .rows) conf h)) (set-below (c .rows) conf h) in
     let r = rows-parts c in
     omega arith
 

@@ -53,10 +53,11 @@ uses c names (e ∷ es) =
     omega arith
 
 -- each row that is exited is an entry
-flat-long : (c : Chart) (xs : List ℕ) → length xs ≤ length (flat (exitEffects c) xs)
+flat-long : (c : Chart) (conf out xs : List ℕ) → length xs ≤ length (flat (exitEffects c conf out) xs)
 unfolding flat exitEffects
-flat-long c [] = omega arith
-flat-long c (x ∷ xs) = let h = flat-long c xs in let e = length-append (exitEffects c x) (flat (exitEffects c) xs) in omega arith
+flat-long c conf out [] = omega arith
+flat-long c conf out (x ∷ xs) =
+    let h = flat-long c conf out xs in let e = length-append (exitEffects c conf out x) (flat (exitEffects c conf out) xs) in omega arith
 
 full-length : (xs : List ℕ) → isEmpty xs ≡ false → 1 ≤ length xs
 unfolding isEmpty
@@ -99,7 +100,7 @@ module _ (c : Chart) (names : Names) (s : Follower) where
   closing-spent h =
       let a = full-length (s .configuration) h in
       let b = backwards-length (s .configuration) in
-      let l = flat-long c (backwards (s .configuration)) in
+      let l = flat-long c (s .configuration) (s .configuration) (backwards (s .configuration)) in
       omega arith
 
   -- a completed round writes more entries than it leaves names more

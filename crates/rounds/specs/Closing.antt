@@ -15,7 +15,6 @@ use Rattle.rowset.specs.Member.{rowsOf}
 use Rattle.chart.specs.Ready.{Ready, CompiledWith}
 use Rattle.matching.specs.Chosen.{Within}
 use Rattle.effects.specs.declared.Tally.{Tally}
-use Rattle.effects.specs.Trace.{Wrote}
 use Rattle.queue.specs.Queues.{queueBytes, queue-none}
 use Rattle.state.specs.declared.State.{State}
 use Rattle.state.specs.State.{Spells, Holds}
@@ -24,7 +23,7 @@ use Rattle.rounds.specs.declared.Outcome.{Outcome}
 use Rattle.rounds.specs.declared.Outcome.the-variants.{Over, Did}
 use Rattle.rounds.specs.declared.Turn.{Turn}
 use Rattle.rounds.specs.Turns.{judged, judged-none, untouched, Turned, turned-over, turned-refused, turned-did}
-use Rattle.rounds.specs.Traces.{nothing, wrote-entries, wrote-trace}
+use Rattle.rounds.specs.Traces.{Filled, wrote-entries, wrote-trace}
 use Rattle.rounds.specs.Judging.{Counted}
 use Rattle.rounds.specs.Taking.{spelled, HoldsAt}
 
@@ -45,19 +44,19 @@ closedBy f = record { configuration = []; history = f .history; internal = []; e
 pub no-names : (xs ys : List ℕ) → ys ≡ replicate (length xs) 0 → length xs ≡ 2048 → ys ≡ queueBytes []
 no-names xs ys e n = e ∙ ap (λ (k : ℕ). replicate k 0) n ∙ sym queue-none
 
-module _ (chart : List ℕ) (s : State) (internal external old : List ℕ) (t : Tally) (k : Counted t (exiting (chartOf chart) (rowsOf (s .configuration)))) (o : Outcome)
+module _ (chart : List ℕ) (s : State) (internal external old : List ℕ) (t : Tally) (k : Counted t (exiting (chartOf chart) (rowsOf (s .configuration)) (rowsOf (s .configuration)))) (o : Outcome)
     (j : o ≡ judged (refusalIf (ltb 32 (0 + 0)) (ltb (length old) (t .entries)))) where
-  closing-judged : (f : Follower) (history : List ℕ) → Spells f s history internal external → o ≡ judged (refusal (length old) (closedBy f) (exiting (chartOf chart) (f .configuration)))
+  closing-judged : (f : Follower) (history : List ℕ) → Spells f s history internal external → o ≡ judged (refusal (length old) (closedBy f) (exiting (chartOf chart) (f .configuration) (f .configuration)))
   unfolding refusal
   closing-judged f history w = j ∙ rw (k .entries, w .configuration)
 
   pub closed-refused : (u : Turn) → u ≡ untouched s o → (o ≡ Did → ⊥) → Closed chart s u internal external internal external old old
   closed-refused u y z = record {
-    turned = λ f history w. turned-refused (closingRound (chartOf chart) f) f s u history internal external old w o y (closedBy f) (exiting (chartOf chart) (f .configuration))
+    turned = λ f history w. turned-refused (closingRound (chartOf chart) f) f s u history internal external old w o y (closedBy f) (exiting (chartOf chart) (f .configuration) (f .configuration))
         (unfold closingRound in refl) (closing-judged f history w) z;
   }
 
-  pub closed-did : o ≡ Did → (e : State) → IsEnded e → (inner outer new : List ℕ) (r : Tally) → Wrote old new nothing r (exiting (chartOf chart) (rowsOf (s .configuration))) →
+  pub closed-did : o ≡ Did → (e : State) → IsEnded e → (inner outer new : List ℕ) (r : Tally) → Filled old new r (exiting (chartOf chart) (rowsOf (s .configuration)) (rowsOf (s .configuration))) →
       inner ≡ replicate (length internal) 0 → outer ≡ replicate (length external) 0 → length internal ≡ 2048 → length external ≡ 2048 →
       Closed chart s (record { state = e; outcome = Did; count = r .entries }) internal external inner outer old new
   closed-did q e i inner outer new r w x y m n = record { turned = turn }
@@ -65,10 +64,10 @@ module _ (chart : List ℕ) (s : State) (internal external old : List ℕ) (t : 
       turn : (f : Follower) (history : List ℕ) → Spells f s history internal external →
           Turned (closingRound (chartOf chart) f) f (record { state = e; outcome = Did; count = r .entries }) history inner outer old new
       turn f history p =
-          let goes : refusal (length old) (closedBy f) (exiting (chartOf chart) (f .configuration)) ≡ none = judged-none _ (sym (closing-judged f history p) ∙ q) in
-          let roomy : length (exiting (chartOf chart) (f .configuration)) ≤ length old = not-refused (length old) (closedBy f) (exiting (chartOf chart) (f .configuration)) goes .roomy in
-          let v : Wrote old new nothing r (exiting (chartOf chart) (f .configuration)) = rw (p .configuration) at w in
-          turned-did (closingRound (chartOf chart) f) f (record { state = e; outcome = Did; count = r .entries }) history inner outer old new (closedBy f) (exiting (chartOf chart) (f .configuration))
+          let goes : refusal (length old) (closedBy f) (exiting (chartOf chart) (f .configuration) (f .configuration)) ≡ none = judged-none _ (sym (closing-judged f history p) ∙ q) in
+          let roomy : length (exiting (chartOf chart) (f .configuration) (f .configuration)) ≤ length old = not-refused (length old) (closedBy f) (exiting (chartOf chart) (f .configuration) (f .configuration)) goes .roomy in
+          let v : Filled old new r (exiting (chartOf chart) (f .configuration) (f .configuration)) = rw (p .configuration) at w in
+          turned-did (closingRound (chartOf chart) f) f (record { state = e; outcome = Did; count = r .entries }) history inner outer old new (closedBy f) (exiting (chartOf chart) (f .configuration) (f .configuration))
           (unfold closingRound in refl) goes refl
           (record {
             configuration = i .configuration;
@@ -79,7 +78,7 @@ module _ (chart : List ℕ) (s : State) (internal external old : List ℕ) (t : 
             externalCount = i .external;
             modeIs = i .mode;
           })
-          (wrote-entries old new r (exiting (chartOf chart) (f .configuration)) roomy v) (wrote-trace old new r (exiting (chartOf chart) (f .configuration)) roomy v)
+          (wrote-entries old new r (exiting (chartOf chart) (f .configuration) (f .configuration)) roomy v) (wrote-trace old new r (exiting (chartOf chart) (f .configuration) (f .configuration)) roomy v)
 
 pub closing-ready : (chart names : List ℕ) (k : CompiledWith chart names) (f : Follower) (s : State) (history internal external : List ℕ) → Holds (chartOf chart) f s history internal external →
     Ready chart × Within (rowCount chart) (rowsOf (s .configuration)) × (length internal ≡ 2048) × (length external ≡ 2048)

@@ -28,7 +28,6 @@ use Rattle.rounds.specs.declared.Outcome.{Outcome}
 use Rattle.rounds.specs.declared.Outcome.the-variants.{Idle, Did}
 use Rattle.rounds.specs.declared.Turn.{Turn}
 use Rattle.rounds.specs.Turns.{judged, judged-none, untouched, Turned, turned-idle, turned-refused}
-use Rattle.rounds.specs.Traces.{Drafted, drafted-counted}
 use Rattle.rounds.specs.Judging.{Counted, refusal-judged, LeavesInternal}
 use Rattle.rounds.specs.Taking.{spelled, HoldsAt, Given, roundEffects, nextBy, round-did, HasChosen, picked-first, Decided, round-ready, leaves-internal, planned-from}
 
@@ -82,7 +81,7 @@ module _ (chart names : List ℕ) (atoms histories : RowSet) (s : State) (histor
     pub few-kept : kept ≤ 32
     few-kept = waiting .short
 
-    module _ (plan : Plan) (p : Planned (chartOf chart) (rowsOf (s .configuration)) (storedAt history) ts plan × PlanReady chart plan) (draft : List ℕ) (t : Tally) (q : Drafted draft t (planEffects (chartOf chart) plan ts))
+    module _ (plan : Plan) (p : Planned (chartOf chart) (rowsOf (s .configuration)) (storedAt history) ts plan × PlanReady chart plan) (t : Tally) (q : Counted t (planEffects (chartOf chart) plan ts))
         (room : ℕ) (o : Outcome) (j : o ≡ judged (refusalIf (ltb 32 (kept + t .names)) (ltb room (t .entries)))) where
       abbrev es : List Effect
       es = roundEffects (chartOf chart) f ts
@@ -92,10 +91,9 @@ module _ (chart names : List ℕ) (atoms histories : RowSet) (s : State) (histor
 
       counted : Counted t es
       counted =
-          let n = drafted-counted draft t (planEffects (chartOf chart) plan ts) q in
           subst (Counted t)
           (plan-effects (chartOf chart) (f .configuration) (storedIn (f .history)) ts plan
-          (planned-from chart names (g .compiled) f s history internal external (g .holds) ts plan (p .0))) (record { entries = n .0; names = n .1 })
+          (planned-from chart names (g .compiled) f s history internal external (g .holds) ts plan (p .0))) q
 
       is-judged : o ≡ judged (refusal room next es)
       unfolding nextBy

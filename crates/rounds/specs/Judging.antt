@@ -13,7 +13,7 @@ use Rattle.definition.specs.Chart.{Chart, Names}
 use Rattle.definition.specs.Blocks.{Effect, queued}
 use Rattle.definition.specs.Follower.{Follower, refusalIf, refusal}
 use Rattle.effects.specs.declared.Tally.{Tally}
-use Rattle.effects.specs.Trace.{allQueues, queues-all}
+use Rattle.effects.specs.Trace.{allQueues, queues-all, Places, Wrote}
 use Rattle.events.specs.declared.Source.{Source}
 use Rattle.events.specs.declared.Source.the-variants.{Internal, External}
 use Rattle.events.specs.Left.{internalLeft, externalLeft}
@@ -24,6 +24,9 @@ use Rattle.rounds.specs.Turns.{judged}
 pub record Counted (t : Tally) (es : List Effect) : Type 0 where
   pub entries : t .entries ≡ length es
   pub names : t .names ≡ allQueues es
+
+pub wrote-counted : (old new : Places) (t r : Tally) (es : List Effect) → r .entries ≡ 0 → r .names ≡ 0 → Wrote old new r t es → Counted t es
+wrote-counted old new t r es a b w = let e = w .entries in let n = w .names in record { entries = omega arith; names = omega arith }
 
 -- ---- each answer of the code
 

@@ -22,7 +22,7 @@ use Rattle.rowset.specs.Member.{rowsOf}
 use Rattle.chart.specs.Ready.{CompiledWith}
 use Rattle.matching.specs.Chosen.{Within}
 use Rattle.effects.specs.declared.Tally.{Tally}
-use Rattle.effects.specs.Trace.{Wrote}
+use Rattle.effects.specs.Trace.{joinsOf, queues-all, Places, Wrote}
 use Rattle.microstep.specs.declared.Entered.{Entered}
 use Rattle.microstep.specs.Entry.{enteredAs}
 use Rattle.microstep.specs.Plan.{first-effects}
@@ -31,13 +31,13 @@ use Rattle.queue.specs.Queues.{queueBytes, queueOf, queue-none}
 use Rattle.state.specs.declared.State.{State}
 use Rattle.state.specs.State.{historyWords, traceWith}
 use Rattle.state.specs.Words.{history-none}
-use Rattle.events.specs.Rounds.{queuedNames, EntriesIn}
-use Rattle.events.specs.Entries.{EntriesOf, start-entries}
+use Rattle.events.specs.Rounds.{queuedNames, JoinsIn}
+use Rattle.events.specs.Entries.{JoinsStand, start-joins}
 use Rattle.rounds.specs.declared.Outcome.{Outcome}
 use Rattle.rounds.specs.declared.Outcome.the-variants.{Refused}
 use Rattle.rounds.specs.Calls.{StartDone}
 use Rattle.rounds.specs.Turns.{judged, judged-some}
-use Rattle.rounds.specs.Traces.{nothing, wrote-entries, wrote-trace, wrote-fit, wrote-front, wrote-size}
+use Rattle.rounds.specs.Traces.{nothing, Filled, Joined, filled-again, joined-all, joined-in, joined-size, wrote-entries, wrote-trace}
 use Rattle.rounds.specs.Judging.{Counted, refusal-judged}
 use Rattle.rounds.specs.Closing.{IsEnded}
 
@@ -97,44 +97,56 @@ module _ (chart names : List ℕ) (k : CompiledWith chart names) (internal old :
     fits : Fits (length old) first es
     fits = not-refused (length old) first es goes
 
-    entered : EntriesOf chart names es
-    entered = start-entries chart names k
+    entered : JoinsStand chart names es
+    entered = start-joins chart names k
 
-    module _ (new : List ℕ) (r : Tally) (w : Wrote old new nothing r (entering (chartOf chart) [] (enteredAs e) [])) where
-      wrote : Wrote old new nothing r es
-      wrote = subst (Wrote old new nothing r) shown w
+    module _ (before after : Places) (r : Tally) (same : before .trace ≡ old) (w : Wrote before after nothing r (entering (chartOf chart) [] (enteredAs e) [])) (joins : List ℕ)
+        (v : Joined joins t (entering (chartOf chart) [] (enteredAs e) [])) where
+      wrote : Filled old (after .trace) t es
+      wrote = subst (Filled old (after .trace) t) shown (rw (← same) (filled-again before after t r (entering (chartOf chart) [] (enteredAs e) []) w (n .entries ∙ sym (zero-add _))))
 
-      front : take (r .entries) new ≡ map traceNo es
-      front = wrote-front old new r es (fits .roomy) wrote
+      joined-es : Joined joins t es
+      joined-es = subst (Joined joins t) shown v
 
-      pub first-fit : r .entries ≤ length new
-      first-fit = wrote-fit old new r es (fits .roomy) wrote
+      pub few-join : t .names ≤ 32
+      unfolding firstFollower
+      few-join =
+          let a = fits .short in
+          let b = joined-es .names in
+          let d = queues-all (chartOf chart) (nameAt names) es in
+          omega arith
 
-      pub first-size : r .entries ≡ length (take (r .entries) new)
-      first-size = wrote-size old new r es (fits .roomy) wrote
+      front : take (t .names) joins ≡ joinsOf es
+      front = joined-all joins t es joined-es few-join
 
-      names-now : queuedNames (chartOf chart) (nameAt names) (take (r .entries) new) ≡ flat (queued (chartOf chart) (nameAt names)) es
+      pub first-fit : t .names ≤ length joins
+      first-fit = joined-in joins t es joined-es few-join
+
+      pub first-size : t .names ≡ length (take (t .names) joins)
+      first-size = joined-size joins t es joined-es few-join
+
+      names-now : queuedNames (chartOf chart) (nameAt names) (take (t .names) joins) ≡ flat (queued (chartOf chart) (nameAt names)) es
       names-now = ap (queuedNames (chartOf chart) (nameAt names)) front ∙ entered .queues
 
       none-yet : queueOf internal 0 ≡ []
       unfolding queueOf from
       none-yet = refl
 
-      pub first-join : CompiledWith chart names × EntriesIn chart (take (r .entries) new) × (internal ≡ queueBytes (queueOf internal 0)) × (0 + length (queuedNames (chartOf chart) (nameAt names) (take (r .entries) new)) ≤ 32)
+      pub first-join : CompiledWith chart names × JoinsIn chart (take (t .names) joins) × (internal ≡ queueBytes (queueOf internal 0)) × (0 + length (queuedNames (chartOf chart) (nameAt names) (take (t .names) joins)) ≤ 32)
       unfolding firstFollower
       first-join = (k, rw front (entered .inside), z ∙ sym (ap queueBytes none-yet ∙ queue-none), let l = fits .short in let m = ap {B = ℕ} length names-now in omega arith)
 
       pub start-done : (inner : List ℕ) (waiting : ℕ) (mode : Mode) →
-          (inner ≡ queueBytes (queueOf internal 0 ++ queuedNames (chartOf chart) (nameAt names) (take (r .entries) new))) × (waiting ≡ 0 + length (queuedNames (chartOf chart) (nameAt names) (take (r .entries) new))) →
+          (inner ≡ queueBytes (queueOf internal 0 ++ queuedNames (chartOf chart) (nameAt names) (take (t .names) joins))) × (waiting ≡ 0 + length (queuedNames (chartOf chart) (nameAt names) (take (t .names) joins))) →
           mode ≡ modeOf (chartOf chart) (rowsOf (e .set)) →
-          StartDone (start (chartOf chart) (nameAt names) (length old)) (record { state = record { configuration = e .set; internal = waiting; external = 0; mode = mode }; answer = Done; count = r .entries })
-          (replicate 1024 0) inner (replicate 2048 0) old new
+          StartDone (start (chartOf chart) (nameAt names) (length old)) (record { state = record { configuration = e .set; internal = waiting; external = 0; mode = mode }; answer = Done; count = t .entries })
+          (replicate 1024 0) inner (replicate 2048 0) old (after .trace)
       unfolding start startOr firstFollower
       start-done inner waiting mode joined m =
           let conf : rowsOf (e .set) ≡ (firstEntry (chartOf chart)) .set = ap (λ (i : Entry). i .set) (q .0) in
           rw goes (record {
             answer = refl;
-            count = wrote-entries old new r es (fits .roomy) wrote;
+            count = wrote-entries old (after .trace) t es (fits .roomy) wrote;
             state = record {
               configuration = conf;
               historyIs = zeros-none (chartOf chart);
@@ -144,5 +156,5 @@ module _ (chart names : List ℕ) (k : CompiledWith chart names) (internal old :
               externalCount = refl;
               modeIs = m ∙ ap (modeOf (chartOf chart)) conf;
             };
-            written = wrote-trace old new r es (fits .roomy) wrote;
+            written = wrote-trace old (after .trace) t es (fits .roomy) wrote;
           })

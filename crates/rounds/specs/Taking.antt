@@ -30,7 +30,7 @@ use Rattle.chart.specs.Ready.{setAt, CompiledWith}
 use Rattle.matching.specs.Chosen.{listOf, Within, Taken, chosen-length, atomicRows}
 use Rattle.selection.specs.History.{storedAt}
 use Rattle.effects.specs.declared.Tally.{Tally}
-use Rattle.effects.specs.Trace.{Wrote}
+use Rattle.effects.specs.Trace.{joinsOf, queues-all}
 use Rattle.microstep.specs.declared.Plan.{Plan}
 use Rattle.microstep.specs.Stored.{StoreReady, RoundReady}
 use Rattle.microstep.specs.Plan.{Planned, PlanReady, planEffects, plan-effects, plan-next, next-within}
@@ -44,13 +44,13 @@ use Rattle.state.specs.Found.{stored-set, queue-again}
 use Rattle.events.specs.declared.Source.{Source}
 use Rattle.events.specs.declared.Source.the-variants.{Nothing, Eventless, Internal, External}
 use Rattle.events.specs.declared.Choice.{Choice}
-use Rattle.events.specs.Rounds.{Lookup, Chooses, Waits, internalAfter, externalAfter, internalBytes, externalBytes, roundBy, queuedNames, EntriesIn}
+use Rattle.events.specs.Rounds.{Lookup, Chooses, Waits, internalAfter, externalAfter, internalBytes, externalBytes, roundBy, queuedNames, JoinsIn}
 use Rattle.events.specs.Left.{internalLeft, externalLeft, QueueIs, EventLeft, event-left}
-use Rattle.events.specs.Entries.{EntriesOf, round-entries}
+use Rattle.events.specs.Entries.{JoinsStand, round-joins}
 use Rattle.events.specs.Choosing.{conf-within, history-size, history-read}
 use Rattle.rounds.specs.declared.Outcome.the-variants.{Did}
 use Rattle.rounds.specs.Turns.{Turned, turned-did}
-use Rattle.rounds.specs.Traces.{nothing, Drafted, wrote-entries, wrote-trace, wrote-fit, wrote-front, wrote-size}
+use Rattle.rounds.specs.Traces.{Filled, Drafted, Joined, joined-all, joined-in, joined-size, wrote-entries, wrote-trace}
 use Rattle.rounds.specs.Judging.{LeavesInternal, LeavesExternal}
 
 -- the state that the parts spell
@@ -234,9 +234,9 @@ module _ (chart names : List ℕ) (atoms histories : RowSet) (s : State) (histor
   within : Within (rowCount chart) (rowsOf (s .configuration))
   within = conf-within chart names (g .compiled) f s history internal external (g .holds)
 
-  entered : EntriesOf chart names es
+  entered : JoinsStand chart names es
   entered =
-      round-entries chart names (g .compiled) (f .configuration) (storedIn (f .history)) ts
+      round-joins chart names (g .compiled) (f .configuration) (storedIn (f .history)) ts
       (subst (Within (rowCount chart)) (g .holds .spells .configuration) within) (g .chooses .fits .inside)
 
   pub internal-leaves : LeavesInternal source (s .internal)
@@ -270,43 +270,56 @@ module _ (chart names : List ℕ) (atoms histories : RowSet) (s : State) (histor
   pub draft-fits : (draft : List ℕ) (t : Tally) → Drafted draft t (planEffects (chartOf chart) plan ts) → t .entries ≤ room
   draft-fits draft t w = let l = fits .roomy in let e = w .wrote .entries in let n = ap {B = ℕ} length shown in omega arith
 
-  module _ (old new : List ℕ) (t : Tally) (size : length old ≡ room) (w : Wrote old new nothing t (planEffects (chartOf chart) plan ts)) where
-    wrote : Wrote old new nothing t es
-    wrote = subst (Wrote old new nothing t) shown w
+  module _ (old new : List ℕ) (t : Tally) (size : length old ≡ room) (w : Filled old new t (planEffects (chartOf chart) plan ts)) (joins : List ℕ) (v : Joined joins t (planEffects (chartOf chart) plan ts)) where
+    wrote : Filled old new t es
+    wrote = subst (Filled old new t) shown w
+
+    joined-es : Joined joins t es
+    joined-es = subst (Joined joins t) shown v
 
     roomy : length es ≤ length old
     roomy = let l = fits .roomy in omega arith
 
-    pub entries-fit : t .entries ≤ length new
-    entries-fit = wrote-fit old new t es roomy wrote
+    -- no more join than are kept
+    few-join : t .names ≤ 32
+    unfolding nextBy
+    few-join =
+        let a = fits .short in
+        let b = joined-es .names in
+        let d = length-append (internalAfter source f) (flat (queued (chartOf chart) (nameAt names)) es) in
+        let e = queues-all (chartOf chart) (nameAt names) es in
+        omega arith
 
-    pub entries-size : t .entries ≡ length (take (t .entries) new)
-    entries-size = wrote-size old new t es roomy wrote
+    pub joins-fit : t .names ≤ length joins
+    joins-fit = joined-in joins t es joined-es few-join
 
-    front : take (t .entries) new ≡ map traceNo es
-    front = wrote-front old new t es roomy wrote
+    pub joins-size : t .names ≡ length (take (t .names) joins)
+    joins-size = joined-size joins t es joined-es few-join
+
+    front : take (t .names) joins ≡ joinsOf es
+    front = joined-all joins t es joined-es few-join
 
     module _ (inner : List ℕ) (kept : ℕ) (i : inner ≡ internalBytes source internal) (n : kept ≡ internalLeft source (s .internal)) where
       queue-now : QueueIs (internalAfter source f) inner kept
       queue-now = rw (i, n) (left .internal)
 
-      names-now : queuedNames (chartOf chart) (nameAt names) (take (t .entries) new) ≡ flat (queued (chartOf chart) (nameAt names)) es
+      names-now : queuedNames (chartOf chart) (nameAt names) (take (t .names) joins) ≡ flat (queued (chartOf chart) (nameAt names)) es
       names-now = ap (queuedNames (chartOf chart) (nameAt names)) front ∙ entered .queues
 
-      next-length : kept + length (queuedNames (chartOf chart) (nameAt names) (take (t .entries) new)) ≡ length (next .internal)
+      next-length : kept + length (queuedNames (chartOf chart) (nameAt names) (take (t .names) joins)) ≡ length (next .internal)
       unfolding nextBy
       next-length =
           let a = queue-now .count in
           let b = ap {B = ℕ} length names-now in
           omega (arith, length-append (internalAfter source f) (flat (queued (chartOf chart) (nameAt names)) es))
 
-      pub names-join : CompiledWith chart names × EntriesIn chart (take (t .entries) new) × (inner ≡ queueBytes (queueOf inner kept)) × (kept + length (queuedNames (chartOf chart) (nameAt names) (take (t .entries) new)) ≤ 32)
+      pub names-join : CompiledWith chart names × JoinsIn chart (take (t .names) joins) × (inner ≡ queueBytes (queueOf inner kept)) × (kept + length (queuedNames (chartOf chart) (nameAt names) (take (t .names) joins)) ≤ 32)
       names-join = (g .compiled, rw front (entered .inside), queue-now .again, let l = fits .short in let m = next-length in omega arith)
 
       -- all of it
       pub written-turn : (stored inner2 outer : List ℕ) (waiting others : ℕ) (conf : RowSet) (mode : Mode) →
-          (inner2 ≡ queueBytes (queueOf inner kept ++ queuedNames (chartOf chart) (nameAt names) (take (t .entries) new))) ×
-          (waiting ≡ kept + length (queuedNames (chartOf chart) (nameAt names) (take (t .entries) new))) →
+          (inner2 ≡ queueBytes (queueOf inner kept ++ queuedNames (chartOf chart) (nameAt names) (take (t .names) joins))) ×
+          (waiting ≡ kept + length (queuedNames (chartOf chart) (nameAt names) (take (t .names) joins))) →
           outer ≡ externalBytes source external → others ≡ externalLeft source (s .external) →
           HistoryStored chart (rowsOf (s .configuration)) (rowsOf (plan .out)) history stored → words.Fits stored →
           rowsOf conf ≡ union (rowsOf (plan .stay)) (rowsOf (plan .set)) → mode ≡ modeOf (chartOf chart) (rowsOf conf) →

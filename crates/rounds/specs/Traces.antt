@@ -9,7 +9,7 @@ use lib.ListN.{length, getD, take, drop, set, length-append, length-map, length-
 use lib.Seq.{take-at, take-all, take-suc, drop-cons, set-at, drop-at, drop-drop, drop-length, length-take-le}
 use Rattle.definition.specs.Blocks.{Effect, traceNo}
 use Rattle.effects.specs.declared.Tally.{Tally}
-use Rattle.effects.specs.Trace.{allQueues, overwrite-length, overwrite-inside, Wrote}
+use Rattle.effects.specs.Trace.{allQueues, joinsOf, joins-length, overwrite, overwrite-length, overwrite-inside, Places, Wrote}
 use Rattle.state.specs.State.{traceWith}
 
 -- nothing counted yet
@@ -22,7 +22,12 @@ pub trace-length : (old : List ℕ) (es : List Effect) → length es ≤ length 
 unfolding traceWith
 trace-length old es l = omega (arith, length-append (map traceNo es) (drop (length es) old), length-map es traceNo, length-drop (length es) old)
 
-module _ (old new : List ℕ) (t : Tally) (es : List Effect) (l : length es ≤ length old) (w : Wrote old new nothing t es) where
+-- what writing from the beginning on does to the trace
+pub record Filled (old new : List ℕ) (t : Tally) (es : List Effect) : Type 0 where
+  pub trace : new ≡ overwrite old 0 (map traceNo es)
+  pub entries : t .entries ≡ 0 + length es
+
+module _ (old new : List ℕ) (t : Tally) (es : List Effect) (l : length es ≤ length old) (w : Filled old new t es) where
   pub wrote-entries : t .entries ≡ length es
   wrote-entries = w .entries ∙ zero-add (length es)
 
@@ -48,7 +53,46 @@ module _ (old new : List ℕ) (t : Tally) (es : List Effect) (l : length es ≤ 
 
 pub record Drafted (draft : List ℕ) (t : Tally) (es : List Effect) : Type 0 where
   pub before : List ℕ
-  pub wrote : Wrote before draft nothing t es
+  pub wrote : Filled before draft t es
+
+-- what joins: of more than 32 the first
+pub record Joined (joins : List ℕ) (t : Tally) (es : List Effect) : Type 0 where
+  pub before : List ℕ
+  pub size : length before ≡ 32
+  pub are : joins ≡ overwrite before 0 (joinsOf es)
+  pub names : t .names ≡ 0 + allQueues es
+
+module _ (joins : List ℕ) (t : Tally) (es : List Effect) (h : Joined joins t es) (few : t .names ≤ 32) where
+  joined-fit : 0 + length (joinsOf es) ≤ length (h .before)
+  joined-fit = let a = h .size in let b = h .names in let d = joins-length es in omega arith
+
+  -- where they are no more, they are all there
+  pub joined-all : take (t .names) joins ≡ joinsOf es
+  joined-all =
+      let a = joins-length es in
+      let b = h .names in
+      ap (take (t .names)) (h .are ∙ overwrite-inside (h .before) 0 (joinsOf es) joined-fit) ∙ take-at (joinsOf es) (drop (0 + length (joinsOf es)) (h .before)) (t .names) (omega arith)
+
+  pub joined-in : t .names ≤ length joins
+  joined-in = let a = ap {B = ℕ} length (h .are) ∙ overwrite-length (h .before) 0 (joinsOf es) in let b = h .size in omega arith
+
+  pub joined-size : t .names ≡ length (take (t .names) joins)
+  joined-size = let a = ap {B = ℕ} length joined-all in let b = joins-length es in let d = h .names in omega arith
+
+-- all that a pass has written
+module _ (old new : Places) (t : Tally) (es : List Effect) (w : Wrote old new nothing t es) where
+  pub wrote-filled : Filled (old .trace) (new .trace) t es
+  wrote-filled = record { trace = w .trace; entries = w .entries }
+
+  pub wrote-drafted : Drafted (new .trace) t es
+  wrote-drafted = record { before = old .trace; wrote = wrote-filled }
+
+  pub wrote-joined : length (old .joins) ≡ 32 → Joined (new .joins) t es
+  wrote-joined e = record { before = old .joins; size = e; are = w .joins; names = w .names }
+
+-- written a second time, counted the first
+pub filled-again : (old new : Places) (t r : Tally) (es : List Effect) → Wrote old new nothing r es → t .entries ≡ 0 + length es → Filled (old .trace) (new .trace) t es
+filled-again old new t r es w e = record { trace = w .trace; entries = e }
 
 -- n entries are there, and find room
 pub record EntriesFit (draft : List ℕ) (n : ℕ) (trace : List ℕ) : Type 0 where
@@ -69,14 +113,11 @@ module _ (draft old new : List ℕ) (i : ℕ) (so-far : new ≡ take i draft ++ 
   pub copy-done : (n : ℕ) → i ≡ n → new ≡ take n draft ++ drop n old
   copy-done n e = so-far ∙ ap (λ (k : ℕ). take k draft ++ drop k old) e
 
-pub drafted-counted : (draft : List ℕ) (t : Tally) (es : List Effect) → Drafted draft t es → (t .entries ≡ length es) × (t .names ≡ allQueues es)
-drafted-counted draft t es h = (h .wrote .entries ∙ zero-add (length es), h .wrote .names ∙ zero-add (allQueues es))
-
 -- a draft that is whole is copied
 pub draft-copied : (draft old new : List ℕ) (t : Tally) (es : List Effect) → Drafted draft t es → t .entries ≤ length draft → t .entries ≤ length old →
-    new ≡ take (t .entries) draft ++ drop (t .entries) old → Wrote old new nothing t es
+    new ≡ take (t .entries) draft ++ drop (t .entries) old → Filled old new t es
 draft-copied draft old new t es h l m e =
-    let n = drafted-counted draft t es h .0 in
+    let n = h .wrote .entries in
     let size : length (h .before) ≡ length draft = sym (ap length (h .wrote .trace) ∙ overwrite-length (h .before) 0 (map traceNo es)) in
     let fits : length es ≤ length (h .before) = omega arith in
     let front : take (t .entries) draft ≡ map traceNo es = wrote-front (h .before) draft t es fits (h .wrote) in
@@ -84,7 +125,6 @@ draft-copied draft old new t es h l m e =
     let z : 0 + length (map traceNo es) ≡ t .entries = omega arith in
     record {
       entries = h .wrote .entries;
-      names = h .wrote .names;
       trace = e ∙ ap (λ (xs : List ℕ). xs ++ drop (t .entries) old) front ∙ sym (overwrite-inside old 0 (map traceNo es) (omega arith) ∙ ap (λ (j : ℕ). map traceNo es ++ drop j old) z);
     }
 

@@ -14,7 +14,6 @@ ghost use Rattle.definition.specs.Follower.{modeOf, roundIn, round, refusalIf, 
 ghost use Rattle.rowset.specs.Member.{rowsOf};
 ghost use Rattle.chart.specs.Ready.{Ready, CompiledWith};
 ghost use Rattle.matching.specs.Chosen.{Within, Taken};
-ghost use Rattle.effects.specs.Trace.{Wrote};
 ghost use Rattle.microstep.specs.Entry.{enteredAs};
 ghost use Rattle.microstep.specs.Plan.{PlanReady, planEffects};
 ghost use Rattle.legality.specs.Rows.{RowsReady};
@@ -29,7 +28,7 @@ ghost use Rattle.rounds.specs.Calls.{RunDone, StartDone};
 ghost use Rattle.rounds.specs.Turns.{judged, statusOf, untouched, Turned};
 ghost use Rattle.rounds.specs.Judging.{Counted, LeavesInternal, LeavesExternal};
 ghost use Rattle.rounds.specs.Taking.{spelled, HoldsAt, Given, HasChosen, Decided};
-ghost use Rattle.rounds.specs.Traces.{nothing, Drafted, EntriesFit};
+ghost use Rattle.rounds.specs.Traces.{nothing, Filled, Drafted, Joined, EntriesFit};
 ghost use Rattle.rounds.specs.Resting.{restBy};
 ghost use Rattle.rounds.specs.Closing.{IsEnded, Closed};
 use definition::Answer;
@@ -105,6 +104,9 @@ fn judge(kept: u64, tally: Tally, room: usize) -> Outcome
 // A round of a running session is drafted first; the effects of one with more entries than this are worked out twice.
 const DRAFT: usize = 512;
 
+// What joins the internal queue is kept beside the draft: more than this are refused.
+const JOINS: usize = 32;
+
 // Nothing is counted yet: effects are written from the beginning of what is lent.
 const NOTHING: Tally = Tally {
     entries: 0,
@@ -114,18 +116,20 @@ const NOTHING: Tally = Tally {
 // A closing round and a start are counted with no trace to write into.
 fn count_closing(chart: &[u64], conf: RowSet) -> Tally
     requires { ⌜ Ready (now chart) × Within (rowCount (now chart)) (rowsOf conf) ⌝ }
-    ensures { λ t. ⌜ Counted t (exiting (chartOf (now (chart .entry))) (rowsOf conf)) ⌝ }
+    ensures { λ t. ⌜ Counted t (exiting (chartOf (now (chart .entry))) (rowsOf conf) (rowsOf conf)) ⌝ }
 {
     let mut none = [0u32; 0];
-    microstep::closing_effects(chart, conf, &mut none, NOTHING)
+    let mut nobody = [0u32; 0];
+    microstep::closing_effects(chart, conf, &mut none, &mut nobody, NOTHING)
 }
 
-fn count_first(chart: &[u64], e: Entered) -> Tally
-    requires { ⌜ Ready (now chart) × Within (rowCount (now chart)) (rowsOf (e .set)) ⌝ }
-    ensures { λ t. ⌜ Counted t (entering (chartOf (now (chart .entry))) [] (enteredAs e) []) ⌝ }
+// What joins at a start is kept.
+fn count_first(chart: &[u64], e: Entered, joins: &mut [u32]) -> Tally
+    requires { ⌜ Ready (now chart) × Within (rowCount (now chart)) (rowsOf (e .set)) × (length (now joins) ≡ 32) ⌝ }
+    ensures { λ t. ⌜ Counted t (entering (chartOf (now (chart .entry))) [] (enteredAs e) []) × Joined (now (joins .exit)) t (entering (chartOf (now (chart .entry))) [] (enteredAs e) []) ⌝ }
 {
     let mut none = [0u32; 0];
-    microstep::first_effects(chart, e, &mut none, NOTHING)
+    microstep::first_effects(chart, e, &mut none, joins, NOTHING)
 }
 
 // ---- a round of a running session
@@ -182,16 +186,17 @@ fn show_plan(
     draft: &[u32],
     tally: Tally,
     trace: &mut [u32],
-) -> Tally
+)
     requires { ⌜ PlanReady (now chart) plan × Taken (transitionCount (now chart)) (now chosen) × Drafted (now draft) tally (planEffects (chartOf (now chart)) plan (now chosen)) × (tally .entries ≤ length (now trace)) ⌝ }
-    ensures { λ t. ⌜ Wrote (now (trace .entry)) (now (trace .exit)) nothing t (planEffects (chartOf (now (chart .entry))) plan (now (chosen .entry))) ⌝ }
+    ensures { λ _. ⌜ Filled (now (trace .entry)) (now (trace .exit)) tally (planEffects (chartOf (now (chart .entry))) plan (now (chosen .entry))) ⌝ }
 {
     let n = tally.entries;
     if (draft.len() as u64) < n {
-        return microstep::plan_effects(chart, plan, chosen, trace, NOTHING);
+        let mut none = [0u32; 0];
+        microstep::plan_effects(chart, plan, chosen, trace, &mut none, NOTHING);
+        return;
     }
     copy_entries(draft, n as usize, trace);
-    tally
 }
 
 // What was decided is written: trace, queues, stored history, and the next state.
@@ -205,23 +210,24 @@ fn write_round(
     chosen: &[u16],
     plan: Plan,
     draft: &[u32],
+    joins: &[u32],
     drafted: Tally,
     history: &mut [u64],
     internal: &mut [u8],
     external: &mut [u8],
     trace: &mut [u32],
 ) -> Turn
-    requires { ⌜ Decided (now chart) (now names) atoms histories state (now history) (now internal) (now external) choice (now chosen) plan (length (now trace)) × Drafted (now draft) drafted (planEffects (chartOf (now chart)) plan (now chosen)) ⌝ }
+    requires { ⌜ Decided (now chart) (now names) atoms histories state (now history) (now internal) (now external) choice (now chosen) plan (length (now trace)) × Drafted (now draft) drafted (planEffects (chartOf (now chart)) plan (now chosen)) × Joined (now joins) drafted (planEffects (chartOf (now chart)) plan (now chosen)) ⌝ }
     ensures { λ r. ⌜ Turned (roundBy (choice .source) (chartOf (now (chart .entry))) (nameAt (now (names .entry))) (spelled (now (chart .entry)) state (now (history .entry)) (now (internal .entry)) (now (external .entry))) (now (chosen .entry))) (spelled (now (chart .entry)) state (now (history .entry)) (now (internal .entry)) (now (external .entry))) r (now (history .exit)) (now (internal .exit)) (now (external .exit)) (now (trace .entry)) (now (trace .exit)) ⌝ }
 {
     let source = choice.source;
     let conf = state.configuration;
     let out = plan.out;
     let kept = internal_left(source, state.internal);
-    let tally = show_plan(chart, plan, chosen, draft, drafted, trace);
-    let count = tally.entries as usize;
+    show_plan(chart, plan, chosen, draft, drafted, trace);
     events::take_event(source, internal, external, state.internal, state.external);
-    let waiting = events::queue_names(chart, names, &trace[..count], internal, kept);
+    let n = drafted.names as usize;
+    let waiting = events::queue_names(chart, names, &joins[..n], internal, kept);
     microstep::store(chart, atoms, histories, conf, out, history);
     let next = microstep::next_configuration(plan);
     Turn {
@@ -232,7 +238,7 @@ fn write_round(
             mode: mode_of(chart, next),
         },
         outcome: Outcome::Did,
-        count: count,
+        count: drafted.entries as usize,
     }
 }
 
@@ -261,7 +267,8 @@ fn carry_out(
     let conf = state.configuration;
     let plan = microstep::plan_round(chart, domains, atoms, conf, history, chosen, out);
     let kept = internal_left(source, state.internal);
-    let tally = microstep::plan_effects(chart, plan, chosen, draft, NOTHING);
+    let mut joins = [0u32; JOINS];
+    let tally = microstep::plan_effects(chart, plan, chosen, draft, &mut joins, NOTHING);
     let outcome = judge(kept, tally, trace.len());
     let Outcome::Did = outcome else {
         return unchanged(state, outcome);
@@ -276,6 +283,7 @@ fn carry_out(
         chosen,
         plan,
         draft,
+        &joins,
         tally,
         history,
         internal,
@@ -372,7 +380,8 @@ fn close(
     let Outcome::Did = outcome else {
         return unchanged(state, outcome);
     };
-    let tally = microstep::closing_effects(chart, conf, trace, NOTHING);
+    let mut none = [0u32; 0];
+    let tally = microstep::closing_effects(chart, conf, trace, &mut none, NOTHING);
     queue::clear(internal);
     queue::clear(external);
     Turn {
@@ -433,16 +442,19 @@ pub fn start(chart: &[u64], names: &[u8], internal: &mut [u8], trace: &mut [u32]
 {
     let first = microstep::first_entry(chart);
     let conf = first.set;
-    if let Outcome::Refused(answer) = judge(0, count_first(chart, first), trace.len()) {
+    let mut joins = [0u32; JOINS];
+    let tally = count_first(chart, first, &mut joins);
+    if let Outcome::Refused(answer) = judge(0, tally, trace.len()) {
         return Begun {
             state: ended(),
             answer: answer,
             count: 0,
         };
     }
-    let tally = microstep::first_effects(chart, first, trace, NOTHING);
-    let count = tally.entries as usize;
-    let waiting = events::queue_names(chart, names, &trace[..count], internal, 0);
+    let mut none = [0u32; 0];
+    microstep::first_effects(chart, first, trace, &mut none, NOTHING);
+    let n = tally.names as usize;
+    let waiting = events::queue_names(chart, names, &joins[..n], internal, 0);
     Begun {
         state: State {
             configuration: conf,
@@ -451,7 +463,7 @@ pub fn start(chart: &[u64], names: &[u8], internal: &mut [u8], trace: &mut [u32]
             mode: mode_of(chart, conf),
         },
         answer: Answer::Done,
-        count: count,
+        count: tally.entries as usize,
     }
 }
 

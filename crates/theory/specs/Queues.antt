@@ -20,7 +20,7 @@ use Rattle.definition.specs.Chart.{Chart, Names, kind, parent, isRoot, isParall
 use Rattle.definition.specs.Tables.{rowCount, transitionCount, referenceCount, descriptorCount, actionCount, rowCell, transitionCell, actionAt, blockAt, entryAt, exitAt, idAt, listBlockAt, transitionBlockAt, nameAt, chartOf, noNumber, mostDescriptors, mostTargets, nameCount}
 use Rattle.definition.specs.Rules.{each, inside, optionalBelow, countsFit, sizesFit, blockFits, rowInRange, transitionInRange, referenceInRange, descriptorInRange, actionInRange, compiledSize, rule1, slotFits, idDiffers, idFits, raiseFits, actionNamed, rule2}
 use Rattle.definition.specs.Blocks.{Effect, done, queued, perform, performed}
-use Rattle.definition.specs.Microstep.{exitEffects, exiting, transitionEffects, Entry, initialBlock, defaultBlock, isDoneAbove, doneEffects, entryEffects, entering, exits, storedIn, effects}
+use Rattle.definition.specs.Microstep.{exitEffects, exiting, transitionEffects, Entry, initialBlock, defaultBlock, isDoneAbove, doneEffects, activeAt, defaultEffects, entryEffects, entering, exits, storedIn, effects, staying}
 use Rattle.definition.specs.Selection.{History}
 use Rattle.definition.specs.Answers.{answerNo}
 use Rattle.definition.specs.Follower.{Follower, mostQueued, Round, idle, over, did, taking, selectedBy, closingRound, round, refusal, firstEntry, firstEffects, firstFollower, startOr, start, endedFollower, isEnded, postAnswer, withExternal, post, run}
@@ -45,13 +45,13 @@ queued-names c names (e ∷ es) h =
     all-both isName (queued c names e) (flat (queued c names) es) (and-left (queuesNames c names e) _ h)
     (queued-names c names es (and-right (queuesNames c names e) _ h))
 
-performed-names : (c : Chart) (names : List ℕ) (block : List Action) → all (raiseFits names) block ≡ true → all (queuesNames c (nameAt names)) (performed block) ≡ true
+performed-names : (c : Chart) (names active : List ℕ) (block : List Action) → all (raiseFits names) block ≡ true → all (queuesNames c (nameAt names)) (performed active block) ≡ true
 unfolding all performed perform raiseFits queuesNames queued
-performed-names c names [] h = refl
-performed-names c names (Raise n ∷ block) h =
+performed-names c names active [] h = refl
+performed-names c names active (Raise n ∷ block) h =
     and-true (isName (nameAt names n) && true) _ (and-true (isName (nameAt names n)) true (and-left (isName (nameAt names n)) _ h) refl)
-    (performed-names c names block (and-right (isName (nameAt names n)) _ h))
-performed-names c names (Host n ∷ block) h = performed-names c names block h
+    (performed-names c names active block (and-right (isName (nameAt names n)) _ h))
+performed-names c names active (Host n ∷ block) h = performed-names c names active block h
 
 -- ---- queues
 
@@ -226,23 +226,28 @@ module _ (numbers names : List ℕ) (r1 : rule1 numbers names (compiledSize numb
 
   -- ---- what a row or a transition does
 
-  exit-named : (i : ℕ) → all (queuesNames (chartOf numbers) (nameAt names)) (exitEffects (chartOf numbers) i) ≡ true
+  exit-named : (conf out : List ℕ) (i : ℕ) → all (queuesNames (chartOf numbers) (nameAt names)) (exitEffects (chartOf numbers) conf out i) ≡ true
   unfolding exitEffects all queuesNames queued
-  exit-named i = performed-names (chartOf numbers) names (exitAt numbers i) (row-blocks i .1)
+  exit-named conf out i = performed-names (chartOf numbers) names _ (exitAt numbers i) (row-blocks i .1)
 
-  transition-named : (u : ℕ) → u < transitionCount numbers → all (queuesNames (chartOf numbers) (nameAt names)) (transitionEffects (chartOf numbers) u) ≡ true
+  transition-named : (stay : List ℕ) (u : ℕ) → u < transitionCount numbers → all (queuesNames (chartOf numbers) (nameAt names)) (transitionEffects (chartOf numbers) stay u) ≡ true
   unfolding transitionEffects all queuesNames queued
-  transition-named u l = performed-names (chartOf numbers) names (transitionBlockAt numbers u) (transition-block u l)
+  transition-named stay u l = performed-names (chartOf numbers) names stay (transitionBlockAt numbers u) (transition-block u l)
 
   entry-named : (stay : List ℕ) (e : Entry) (fell : List ℕ) (i : ℕ) → all (queuesNames (chartOf numbers) (nameAt names)) (entryEffects (chartOf numbers) stay e fell i) ≡ true
-  unfolding entryEffects initialBlock defaultBlock all queuesNames queued
+  unfolding entryEffects initialBlock defaultBlock defaultEffects all queuesNames queued
   entry-named stay e fell i =
-      all-both (queuesNames (chartOf numbers) (nameAt names)) (performed (entryAt numbers i ++ initialBlock (chartOf numbers) (e .byDefault) i ++ flat (defaultBlock (chartOf numbers) i) fell)) _
-      (performed-names (chartOf numbers) names (entryAt numbers i ++ initialBlock (chartOf numbers) (e .byDefault) i ++ flat (defaultBlock (chartOf numbers) i) fell)
-      (all-both (raiseFits names) (entryAt numbers i ++ initialBlock (chartOf numbers) (e .byDefault) i) _
-      (all-both (raiseFits names) (entryAt numbers i) _ (row-blocks i .0) (maybe (mem i (e .byDefault)) i))
-      (all-flat (raiseFits names) (defaultBlock (chartOf numbers) i) fell (λ h m. maybe (eqb i (parent (chartOf numbers) h)) h))))
-      (done-effects-named _ i)
+      all-both (queuesNames (chartOf numbers) (nameAt names))
+      (performed (activeAt stay (e .set) i) (entryAt numbers i) ++ performed (activeAt stay (e .set) i) (initialBlock (chartOf numbers) (e .byDefault) i) ++
+      flat (defaultEffects (chartOf numbers) (activeAt stay (e .set) i) i) fell) _
+      (all-both (queuesNames (chartOf numbers) (nameAt names))
+      (performed (activeAt stay (e .set) i) (entryAt numbers i) ++ performed (activeAt stay (e .set) i) (initialBlock (chartOf numbers) (e .byDefault) i)) _
+      (all-both (queuesNames (chartOf numbers) (nameAt names)) (performed (activeAt stay (e .set) i) (entryAt numbers i)) _
+      (performed-names (chartOf numbers) names (activeAt stay (e .set) i) (entryAt numbers i) (row-blocks i .0))
+      (performed-names (chartOf numbers) names (activeAt stay (e .set) i) (initialBlock (chartOf numbers) (e .byDefault) i) (maybe (mem i (e .byDefault)) i)))
+      (all-flat (queuesNames (chartOf numbers) (nameAt names)) (defaultEffects (chartOf numbers) (activeAt stay (e .set) i) i) fell
+      (λ h m. performed-names (chartOf numbers) names (activeAt stay (e .set) i) (defaultBlock (chartOf numbers) i h) (maybe (eqb i (parent (chartOf numbers) h)) h))))
+      (done-effects-named (activeAt stay (e .set) i) i)
     where
       maybe : (b : Bool) (h : ℕ) → all (raiseFits names) (cond b (listBlockAt numbers h) []) ≡ true
       maybe true h = row-blocks h .2
@@ -252,9 +257,9 @@ module _ (numbers names : List ℕ) (r1 : rule1 numbers names (compiledSize numb
   unfolding entering
   entering-named stay e fell = all-flat (queuesNames (chartOf numbers) (nameAt names)) (entryEffects (chartOf numbers) stay e fell) (e .set) (λ i m. entry-named stay e fell i)
 
-  exiting-named : (out : List ℕ) → all (queuesNames (chartOf numbers) (nameAt names)) (exiting (chartOf numbers) out) ≡ true
+  exiting-named : (conf out : List ℕ) → all (queuesNames (chartOf numbers) (nameAt names)) (exiting (chartOf numbers) conf out) ≡ true
   unfolding exiting
-  exiting-named out = all-flat (queuesNames (chartOf numbers) (nameAt names)) (exitEffects (chartOf numbers)) (backwards out) (λ i m. exit-named i)
+  exiting-named conf out = all-flat (queuesNames (chartOf numbers) (nameAt names)) (exitEffects (chartOf numbers) conf out) (backwards out) (λ i m. exit-named conf out i)
 
   -- the effects of transitions of the table queue names
   pub effects-named : (conf : List ℕ) (hist : History) (ts : List ℕ) → ((u : ℕ) → mem u ts ≡ true → u < transitionCount numbers) →
@@ -262,9 +267,9 @@ module _ (numbers names : List ℕ) (r1 : rule1 numbers names (compiledSize numb
   unfolding effects
   effects-named conf hist ts f =
       queued-names (chartOf numbers) (nameAt names) (effects (chartOf numbers) conf hist ts)
-      (all-both (queuesNames (chartOf numbers) (nameAt names)) (exiting (chartOf numbers) (exits (chartOf numbers) conf hist ts) ++ flat (transitionEffects (chartOf numbers)) ts) _
-      (all-both (queuesNames (chartOf numbers) (nameAt names)) (exiting (chartOf numbers) (exits (chartOf numbers) conf hist ts)) _ (exiting-named (exits (chartOf numbers) conf hist ts))
-      (all-flat (queuesNames (chartOf numbers) (nameAt names)) (transitionEffects (chartOf numbers)) ts (λ u m. transition-named u (f u m))))
+      (all-both (queuesNames (chartOf numbers) (nameAt names)) (exiting (chartOf numbers) conf (exits (chartOf numbers) conf hist ts) ++ flat (transitionEffects (chartOf numbers) (staying (chartOf numbers) conf hist ts)) ts) _
+      (all-both (queuesNames (chartOf numbers) (nameAt names)) (exiting (chartOf numbers) conf (exits (chartOf numbers) conf hist ts)) _ (exiting-named conf (exits (chartOf numbers) conf hist ts))
+      (all-flat (queuesNames (chartOf numbers) (nameAt names)) (transitionEffects (chartOf numbers) (staying (chartOf numbers) conf hist ts)) ts (λ u m. transition-named _ u (f u m))))
       (entering-named _ _ _))
 
   -- those of a start too

@@ -11,7 +11,7 @@ use Rattle.definition.specs.Names.{Name}
 use Rattle.definition.specs.Chart.{Chart, Names, kind, parent, isRoot, isFinal}
 use Rattle.definition.specs.Selection.{History, exitSet}
 use Rattle.definition.specs.Blocks.{Effect, exited, taken, entered, acted, raised, done, perform, performed}
-use Rattle.definition.specs.Microstep.{exits, exitEffects, exiting, transitionEffects, Entry, isDoneAbove, doneEffects, entryEffects, entering, storedIn, effects}
+use Rattle.definition.specs.Microstep.{exits, exitEffects, exiting, transitionEffects, Entry, initialBlock, defaultBlock, isDoneAbove, doneEffects, activeAt, defaultEffects, entryEffects, entering, storedIn, effects, staying}
 use Rattle.definition.specs.Follower.{Follower, Round, idle, over, did, taking, selectedBy, closingRound, round}
 use Rattle.laws.specs.Bools.{no}
 use Rattle.laws.specs.Sets.{NoTwice}
@@ -35,20 +35,20 @@ taken-app : (xs ys : List Effect) → takenIn (xs ++ ys) ≡ takenIn xs ++ taken
 unfolding takenIn
 taken-app xs ys = flat-app ifTaken xs ys
 
-taken-performed : (block : List Action) → takenIn (performed block) ≡ []
+taken-performed : (active : List ℕ) (block : List Action) → takenIn (performed active block) ≡ []
 unfolding takenIn performed perform flat ifTaken
-taken-performed [] = refl
-taken-performed (Raise n ∷ block) = taken-performed block
-taken-performed (Host n ∷ block) = taken-performed block
+taken-performed active [] = refl
+taken-performed active (Raise n ∷ block) = taken-performed active block
+taken-performed active (Host n ∷ block) = taken-performed active block
 
 taken-flat : (f : ℕ → List Effect) (xs : List ℕ) → ((x : ℕ) → takenIn (f x) ≡ []) → takenIn (flat f xs) ≡ []
 unfolding takenIn flat
 taken-flat f [] h = refl
 taken-flat f (x ∷ xs) h = taken-app (f x) (flat f xs) ∙ rw (h x) (taken-flat f xs h)
 
-taken-exiting : (c : Chart) (out : List ℕ) → takenIn (exiting c out) ≡ []
+taken-exiting : (c : Chart) (conf out : List ℕ) → takenIn (exiting c conf out) ≡ []
 unfolding exiting exitEffects takenIn flat ifTaken
-taken-exiting c out = taken-flat (exitEffects c) (backwards out) (λ i. taken-performed ((c .row) i .exit))
+taken-exiting c conf out = taken-flat (exitEffects c conf out) (backwards out) (λ i. taken-performed _ ((c .row) i .exit))
 
 taken-done : (c : Chart) (conf : List ℕ) (i : ℕ) → takenIn (doneEffects c conf i) ≡ []
 unfolding doneEffects takenIn flat ifTaken
@@ -59,24 +59,35 @@ taken-done c conf i = go (isFinal (kind c i) && not (isRoot (kind c (parent c i)
     go true false = refl
     go false b = refl
 
+taken-default : (c : Chart) (conf : List ℕ) (i h : ℕ) → takenIn (defaultEffects c conf i h) ≡ []
+unfolding defaultEffects
+taken-default c conf i h = taken-performed conf (defaultBlock c i h)
+
 taken-entering : (c : Chart) (stay : List ℕ) (e : Entry) (fell : List ℕ) → takenIn (entering c stay e fell) ≡ []
 unfolding entering entryEffects takenIn flat ifTaken
 taken-entering c stay e fell =
     taken-flat (entryEffects c stay e fell) (e .set)
-    (λ i. taken-app (performed _) _ ∙ rw (taken-performed _) (taken-done c _ i))
+    (λ i. taken-app (performed (activeAt stay (e .set) i) ((c .row) i .entry) ++ performed (activeAt stay (e .set) i) (initialBlock c (e .byDefault) i) ++ flat (defaultEffects c (activeAt stay (e .set) i) i) fell) _ ∙
+    rw (
+      taken-app (performed (activeAt stay (e .set) i) ((c .row) i .entry) ++ performed (activeAt stay (e .set) i) (initialBlock c (e .byDefault) i)) (flat (defaultEffects c (activeAt stay (e .set) i) i) fell),
+      taken-app (performed (activeAt stay (e .set) i) ((c .row) i .entry)) (performed (activeAt stay (e .set) i) (initialBlock c (e .byDefault) i)),
+      taken-performed (activeAt stay (e .set) i) ((c .row) i .entry),
+      taken-performed (activeAt stay (e .set) i) (initialBlock c (e .byDefault) i),
+      taken-flat (defaultEffects c (activeAt stay (e .set) i) i) fell (λ h. taken-default c (activeAt stay (e .set) i) i h),
+    ) (taken-done c (activeAt stay (e .set) i) i))
 
-taken-blocks : (c : Chart) (ts : List ℕ) → takenIn (flat (transitionEffects c) ts) ≡ ts
+taken-blocks : (c : Chart) (stay ts : List ℕ) → takenIn (flat (transitionEffects c stay) ts) ≡ ts
 unfolding transitionEffects takenIn flat ifTaken
-taken-blocks c [] = refl
-taken-blocks c (t ∷ ts) =
+taken-blocks c stay [] = refl
+taken-blocks c stay (t ∷ ts) =
     ap {B = List ℕ} (λ l. t ∷ l)
-    (taken-app (performed ((c .transition) t .block)) (flat (transitionEffects c) ts) ∙ rw (taken-performed ((c .transition) t .block)) (taken-blocks c ts))
+    (taken-app (performed stay ((c .transition) t .block)) (flat (transitionEffects c stay) ts) ∙ rw (taken-performed stay ((c .transition) t .block)) (taken-blocks c stay ts))
 
 pub taken-effects : (c : Chart) (conf : List ℕ) (hist : History) (ts : List ℕ) → takenIn (effects c conf hist ts) ≡ ts
 unfolding effects
 taken-effects c conf hist ts =
-    taken-app (exiting c (exits c conf hist ts) ++ flat (transitionEffects c) ts) _ ∙
-    rw (taken-app (exiting c (exits c conf hist ts)) (flat (transitionEffects c) ts), taken-exiting c (exits c conf hist ts), taken-entering) (append-nil _ ∙ taken-blocks c ts)
+    taken-app (exiting c conf (exits c conf hist ts) ++ flat (transitionEffects c (staying c conf hist ts)) ts) _ ∙
+    rw (taken-app (exiting c conf (exits c conf hist ts)) (flat (transitionEffects c (staying c conf hist ts)) ts), taken-exiting c conf (exits c conf hist ts), taken-entering) (append-nil _ ∙ taken-blocks c (staying c conf hist ts) ts)
 
 -- ---- the exit sets of what a round takes, by the configuration and the history before the round
 
@@ -108,5 +119,5 @@ module _ (c : Chart) (names : Names) (s : Follower) where
   unfolding closingRound mem
   round-disjoint next es e =
       subst Exits e (round-cases c names s Exits (λ m. tt) (λ m. tt)
-      (λ m. rw (taken-exiting c (s .configuration)) (record { once = tt; disjoint = λ t u m n d. absurd (no m) }))
+      (λ m. rw (taken-exiting c (s .configuration) (s .configuration)) (record { once = tt; disjoint = λ t u m n d. absurd (no m) }))
       (λ m internal external event h. taking-exits internal external (selectedBy c names s event) (selected-exits event)))

@@ -7,22 +7,22 @@ use Rattle.events.proofs.queue_names.Statement.{statement}
 use Rattle.events.proofs.queue_names.Tie as tie
 
 abbrev Inv-loop : tie.InvT-loop
-Inv-loop chart names entries internal₀ count n₀ i₀ internal n i = Queueing (chartOf chart) (nameAt names) entries internal₀ internal count n i
+Inv-loop chart names joins internal₀ count n₀ i₀ internal n i = Queueing (chartOf chart) (nameAt names) joins internal₀ internal count n i
 
 abbrev μ-loop : tie.MeasureT-loop
-μ-loop chart names entries internal₀ count n₀ i₀ internal n i = length entries - i
+μ-loop chart names joins internal₀ count n₀ i₀ internal n i = length joins - i
 
 loop-holds : tie.Need-loop-holds Inv-loop μ-loop
 loop-holds c = queueing-begin _ _ _ _ _
 
-mul-queue-entry : tie.Need-mul-queue-entry Inv-loop μ-loop
-mul-queue-entry c = search needs
+mul-queue-join : tie.Need-mul-queue-join Inv-loop μ-loop
+mul-queue-join c = search needs
 
-shared-slice-read-queue-entry : tie.Need-shared-slice-read-queue-entry Inv-loop μ-loop
-shared-slice-read-queue-entry c = search needs
+shared-slice-read-queue-join : tie.Need-shared-slice-read-queue-join Inv-loop μ-loop
+shared-slice-read-queue-join c = search needs
 
-queue-entry-requires : tie.Need-queue-entry-requires Inv-loop μ-loop
-queue-entry-requires c κs =
+queue-join-requires : tie.Need-queue-join-requires Inv-loop μ-loop
+queue-join-requires c κs =
     let s = c .before .before .before .before .before .before .before .before in
     let t = c .before .before .loop-test .taken in
     let i = c .before .before .before .loop .inv in
@@ -37,7 +37,7 @@ loop-less c = search needs
 loop-again : tie.Need-loop-again Inv-loop μ-loop
 loop-again c =
     let l = c .before .before .before .before .before in
-    queueing-turn _ _ _ _ _ _ _ _ (l .before .loop .inv) _ _ (l .loop-test .taken) (c .before .before .queue-entry .ensures)
+    queueing-turn _ _ _ _ _ _ _ _ (l .before .loop .inv) _ _ (l .loop-test .taken) (c .before .before .queue-join .ensures)
 
 same-length : tie.Need-same-length Inv-loop μ-loop
 same-length c = queueing-same _ _ _ _ _ _ _ _ (c .before .loop .inv) (c .before .before .before .before .before .before .pre .2)
@@ -52,9 +52,9 @@ queue-names-spec =
     Inv-loop
     μ-loop
     loop-holds
-    mul-queue-entry
-    shared-slice-read-queue-entry
-    queue-entry-requires
+    mul-queue-join
+    shared-slice-read-queue-join
+    queue-join-requires
     add-i
     loop-less
     loop-again

@@ -1,3 +1,4 @@
+use mathlib.Core.Path.{refl}
 use borrow.Author.Needs.{needs}
 use Rattle.microstep.specs.Entry.{all-atomic}
 use Rattle.microstep.specs.Plan.{plan-stay, plan-entry, plan-fallen, exits-within, targeted-within, entry-within, fallen-histories}
@@ -21,6 +22,7 @@ returns c = let g = c .before .before .before .before .before .before .before .b
     let w = c .before .before .before .before .before .before .before .before .before .before .pre .2 .inside in
     let out = c .before .before .before .before .before .before .before .before .before .before .pre .3 in (
       record {
+        from = refl;
         stay = plan-stay _ (g .sound) _ _ _ w _ out _ (c .before .before .before .before .before .minus .ensures);
         out = out;
         entry = plan-entry _ (g .sound) _ _ _ w _ out _ _ (c .before .before .before .entry-set .ensures) (c .before .before .before .before .targeted .ensures);

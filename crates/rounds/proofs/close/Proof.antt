@@ -1,3 +1,4 @@
+use Rattle.rounds.specs.Traces.{wrote-filled}
 use borrow.Author.Needs.{needs}
 use Rattle.rounds.specs.Closing.{closed-refused, closed-did}
 use Rattle.rounds.proofs.Tags.{not-did}
@@ -20,7 +21,7 @@ returns : tie.Need-returns
 returns c = closed-refused _ _ (c .before .before .before .before .before .before .before .before .before .args .internal .now) (c .before .before .before .before .before .before .before .before .before .args .external .now) (c .before .before .before .before .before .before .before .before .before .args .trace .now) (c .before .before .before .count-closing .result) (c .before .before .before .count-closing .ensures) _ (c .before .before .judge .ensures) _ (c .unchanged .ensures) (not-did _ (c .before .match .keys2))
 
 closing-effects-requires : tie.Need-closing-effects-requires
-closing-effects-requires c κs = (c .before .before .before .before .before .before .before .before .before .before .pre .0, c .before .before .before .before .before .before .before .before .before .before .pre .1, search needs)
+closing-effects-requires c κs = (c .before .before .before .before .before .before .before .before .before .before .before .pre .0, c .before .before .before .before .before .before .before .before .before .before .before .pre .1, search needs)
 
 clear-requires : tie.Need-clear-requires
 clear-requires c κs = search needs
@@ -38,12 +39,15 @@ same-length-2 : tie.Need-same-length-2
 same-length-2 c = c .before .before .before .clear2 .kept .0
 
 same-length-3 : tie.Need-same-length-3
-same-length-3 c = c .before .before .before .before .before .before .before .before .before .before .before .closing-effects .kept .1 .1 .0
+same-length-3 c = c .before .before .before .before .before .before .before .before .before .before .before .before .closing-effects .kept .1 .1 .0
 
 returns-2 : tie.Need-returns-2
 returns-2 c =
-    closed-did _ _ (c .before .before .before .before .before .before .before .before .before .before .before .before .before .before .before .before .before .before .before .before .before .before .args .internal .now) (c .before .before .before .before .before .before .before .before .before .before .before .before .before .before .before .before .before .before .before .before .before .before .args .external .now) (c .before .before .before .before .before .before .before .before .before .before .before .before .before .before .before .before .before .before .before .before .before .before .args .trace .now) (c .before .before .before .before .before .before .before .before .before .before .before .before .before .before .before .before .count-closing .result) (c .before .before .before .before .before .before .before .before .before .before .before .before .before .before .before .before .count-closing .ensures) _ (c .before .before .before .before .before .before .before .before .before .before .before .before .before .before .before .judge .ensures) (c .before .before .before .before .before .before .before .before .before .before .before .before .before .enum-told .given .1) _ (c .ended .ensures) _ _ _ (c .before .before .before .before .before .before .before .before .before .before .before .closing-effects .result)
-    (c .before .before .before .before .before .before .before .before .before .before .before .closing-effects .ensures) (c .before .before .before .before .before .before .before .clear .ensures) (c .before .before .before .clear2 .ensures) (c .before .before .before .before .before .before .before .before .before .before .before .before .before .before .before .before .before .before .before .before .before .before .pre .2) (c .before .before .before .before .before .before .before .before .before .before .before .before .before .before .before .before .before .before .before .before .before .before .pre .3)
+    closed-did _ _ (c .before .before .before .before .before .before .before .before .before .before .before .before .before .before .before .before .before .before .before .before .before .before .before .before .args .internal .now) (c .before .before .before .before .before .before .before .before .before .before .before .before .before .before .before .before .before .before .before .before .before .before .before .before .args .external .now) (c .before .before .before .before .before .before .before .before .before .before .before .before .before .before .before .before .before .before .before .before .before .before .before .before .args .trace .now) (c .before .before .before .before .before .before .before .before .before .before .before .before .before .before .before .before .before .before .count-closing .result) (c .before .before .before .before .before .before .before .before .before .before .before .before .before .before .before .before .before .before .count-closing .ensures) _ (c .before .before .before .before .before .before .before .before .before .before .before .before .before .before .before .before .before .judge .ensures) (c .before .before .before .before .before .before .before .before .before .before .before .before .before .before .before .enum-told .given .1) _ (c .ended .ensures) _ _ _ (c .before .before .before .before .before .before .before .before .before .before .before .before .closing-effects .result)
+    (wrote-filled _ _ _ _ (c .before .before .before .before .before .before .before .before .before .before .before .before .closing-effects .ensures)) (c .before .before .before .before .before .before .before .clear .ensures) (c .before .before .before .clear2 .ensures) (c .before .before .before .before .before .before .before .before .before .before .before .before .before .before .before .before .before .before .before .before .before .before .before .before .pre .2) (c .before .before .before .before .before .before .before .before .before .before .before .before .before .before .before .before .before .before .before .before .before .before .before .before .pre .3)
+
+slice-aggregate-closing-effects : tie.Need-slice-aggregate-closing-effects
+slice-aggregate-closing-effects c = search needs
 
 pub close-spec : {M : Type 1} → statement M
 close-spec =
@@ -54,6 +58,7 @@ close-spec =
     enum-told
     unchanged-requires
     returns
+    slice-aggregate-closing-effects
     closing-effects-requires
     clear-requires
     clear-requires-2
