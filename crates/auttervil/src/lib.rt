@@ -9,6 +9,7 @@ ghost use Rattle.definition.specs.Tables.{nameCount, slotSize};
 ghost use Rattle.definition.specs.Rules.{countsFit, compiledSize};
 ghost use Rattle.definition.specs.Answers.{answerNo};
 ghost use Rattle.fingerprint.specs.Fingerprint.{fingerprint};
+ghost use Rattle.room.specs.Room.{roomOf};
 ghost use Rattle.session.specs.Sessions.{postOf, runOf, runEffects};
 ghost use Rattle.lent.specs.Places.{sessionIn, lengthsFit, startIn, startInEffects};
 ghost use Rattle.calls.specs.Performing.{Performs, callsIn};
@@ -72,6 +73,14 @@ pub extern "C" fn auttervil_raw2_fingerprint(chart: &[u64], names: &[u8]) -> u64
     ensures { λ n. ⌜ n ≡ fingerprint (now (chart .entry)) (now (names .entry)) ⌝ }
 {
     fingerprint::fingerprint(chart, names)
+}
+
+// How many entries suffice for any one start or round of a compiled chart; 0 where the places hold none.
+#[no_mangle]
+pub extern "C" fn auttervil_raw2_room(chart: &[u64], names: &[u8]) -> usize
+    ensures { λ n. ⌜ n ≡ roomOf (now (chart .entry)) (now (names .entry)) ⌝ }
+{
+    room::room(chart, names)
 }
 
 // ---- a session, lent in three places that are changed where they lie: its numbers (configuration 4, stored history 1,024, the names that wait in the internal and in the
