@@ -59,7 +59,7 @@ union-requires : tie.Need-union-requires Inv-loop μ-loop
 union-requires c κs = search needs
 
 add-k : tie.Need-add-k Inv-loop μ-loop
-add-k c = search needs
+add-k c = let good = c .before .before .before .before .before .before .before .before .before .before .before .before .before .before .good in let more = c .before .before .before .before .before .before .before .loop-test .taken in omega (arith, good, more)
 
 loop-less : tie.Need-loop-less Inv-loop μ-loop
 loop-less c = search needs
