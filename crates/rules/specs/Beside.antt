@@ -214,8 +214,10 @@ module _ (f : ℕ → List ℕ) (xs : List ℕ) where
       ((z : ℕ) → mem z (rowsOf t) ≡ (mem z (rowsOf s) || mem z (f (getD xs k 0)))) → Gathered f (take (k + 1) xs) t
   unfolding flat
   gathered-turn s t k l g e =
-      record { is = λ z. e z ∙ rw (g .is z) (sym (ap (λ (ys : List ℕ). mem z (flat f ys)) (take-more xs k l) ∙ ap (mem z) (flat-app f (take k xs) (getD xs k 0 ∷ [])) ∙
-      mem-app z (flat f (take k xs)) (f (getD xs k 0) ++ []) ∙ rw append-nil)) }
+      record {
+        is = λ z. e z ∙ rw (g .is z) (sym (ap (λ (ys : List ℕ). mem z (flat f ys)) (take-more xs k l) ∙ ap (mem z) (flat-app f (take k xs) (getD xs k 0 ∷ [])) ∙
+            mem-app z (flat f (take k xs)) (f (getD xs k 0) ++ []) ∙ rw append-nil));
+      }
 
 -- row a of the tables, and the set of its ancestors
 pub record UnderSet (numbers : List ℕ) (a : ℕ) (s : RowSet) : Type 0 where

@@ -70,8 +70,7 @@ loop-again c =
     let row = c .before .before .before .before .before .before .row-at .ensures in
     let anchor = c .before .before .before .before .before .anchor-of .ensures in
     let own = under-set _ _ _ _ (c .before .before .before .before .before .before .before .before .before .before .before .before .before .before .pre .0) (anchor .row) (c .before .before .before .before .set-of .ensures) in
-    let beside = beside-rows _ _ (l .k) _ _ (omega arith) (row .is) (anchor .is) _ own (l .anchors) (l .above) (l .inv .1) (l .inv .2) (l .inv .3) in
-    (
+    let beside = beside-rows _ _ (l .k) _ _ (omega arith) (row .is) (anchor .is) _ own (l .anchors) (l .above) (l .inv .1) (l .inv .2) (l .inv .3) in (
       omega arith,
       apart-turn (chartOf _) _ (l .k) _ (omega arith) (row .is) (l .inv .1) (sym beside ∙ sym (c .before .before .before .is-beside .ensures) ∙ not-false _ (c .before .before .if1 .left)),
       anchors-turn _ _ (l .k) _ _ (omega arith) (row .is) (anchor .is) _ _ (l .inv .2) (c .before .with .ensures),
