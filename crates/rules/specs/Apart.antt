@@ -1,21 +1,19 @@
 -- Lists whose rows stand apart, held against the rows before them one by one.
 use mathlib.Core.Path.{_≡_, refl, sym, _∙_}
-use mathlib.Core.Bool.{Bool, true, false, not, _&&_}
+use mathlib.Core.Bool.{Bool, true, false, _&&_}
 use mathlib.Core.List.{List, [], _∷_, _++_}
 use Prim.Native.Nat.{ℕ, _+_, _<_, _≤_}
-use native.Mathlib.Omega.{arith}
 use native.Mathlib.Numerals.{add-one}
-use lib.Dec.{eqb}
-use lib.ListN.{length, getD, take, drop, length-take, take-append-drop}
-use lib.Seq.{take-suc, take-all, getD-take}
-use Rattle.definition.specs.Rows.{all, mem}
-use Rattle.definition.specs.Chart.{Chart, kind, isParallel, isHistory}
+use lib.ListN.{length, getD, take, drop, take-append-drop}
+use lib.Seq.{take-suc, take-all}
+use Rattle.definition.specs.Rows.{all}
+use Rattle.definition.specs.Chart.{Chart, isHistory}
 use Rattle.definition.specs.Tables.{kindAt, parentAt, chartOf}
-use Rattle.definition.specs.Tree.{ancestors, anchor}
-use Rattle.definition.specs.Rules.{nearestCommon, isApart, areApart}
+use Rattle.definition.specs.Tree.{anchor}
+use Rattle.definition.specs.Rules.{isApart, areApart}
 use Rattle.laws.specs.Bools.{clash, and-left, and-right, and-true, bool-case}
 use Rattle.laws.specs.Loops.{all-append}
-use Rattle.tables.specs.Ranges.{RowIn, RowsIn}
+use Rattle.tables.specs.Ranges.{RowIn}
 use Rattle.tables.specs.Parts.{RowOf}
 
 -- ---- one pair
@@ -23,10 +21,6 @@ use Rattle.tables.specs.Parts.{RowOf}
 -- the later row first
 unfoldable pub isApartFrom : Chart → ℕ → ℕ → Bool
 isApartFrom c y x = isApart c x y
-
-pub apart-from : (c : Chart) (x y z : ℕ) (b : Bool) → z ≡ x → b ≡ isApart c z y → b ≡ isApartFrom c y x
-unfolding isApartFrom
-apart-from c x y z b e h = h ∙ rw e
 
 module _ (numbers : List ℕ) (i : ℕ) (r : RowIn numbers i) where
   pub anchor-self : isHistory (kindAt numbers i) ≡ false → RowOf numbers (anchor (chartOf numbers) i) i
@@ -37,27 +31,10 @@ module _ (numbers : List ℕ) (i : ℕ) (r : RowIn numbers i) where
   unfolding anchor
   anchor-parent p h q = record { is = q .is ∙ sym (rw h); row = q .row }
 
--- the anchors a and b of x and y
-module _ (c : Chart) (x y a b : ℕ) (ea : a ≡ anchor c x) (eb : b ≡ anchor c y) where
-  apart-is : isApart c x y ≡ (not (eqb a b) && not (mem a (ancestors c b)) && not (mem b (ancestors c a)) && isParallel (kind c (nearestCommon c a b)))
-  unfolding isApart
-  apart-is = rw (← ea, ← eb)
-
-  pub apart-same : eqb a b ≡ true → false ≡ isApart c x y
-  apart-same h = sym (apart-is ∙ rw h)
-
-  module _ (n : eqb a b ≡ false) where
-    pub apart-under : mem a (ancestors c b) ≡ true → false ≡ isApart c x y
-    apart-under h = sym (apart-is ∙ rw (n, h))
-
-    module _ (u : mem a (ancestors c b) ≡ false) where
-      pub apart-over : mem b (ancestors c a) ≡ true → false ≡ isApart c x y
-      apart-over h = sym (apart-is ∙ rw (n, u, h))
-
-      pub apart-nearest : (r : ℕ) → mem b (ancestors c a) ≡ false → r ≡ nearestCommon c a b → isParallel (kind c r) ≡ isApart c x y
-      apart-nearest r h e = rw e (sym (apart-is ∙ rw (n, u, h)))
-
 -- ---- a list, from its start
+
+pub take-more : (xs : List ℕ) (k : ℕ) → k < length xs → take (k + 1) xs ≡ take k xs ++ (getD xs k 0 ∷ [])
+take-more xs k l = rw (add-one k) (take-suc xs k 0 l)
 
 module _ (c : Chart) where
   apart-last : (xs : List ℕ) (y : ℕ) → areApart c (xs ++ (y ∷ [])) ≡ (areApart c xs && all (isApartFrom c y) xs)
@@ -81,9 +58,6 @@ module _ (c : Chart) where
       (and-left (all (isApart c x) xs) (all (isApart c x) ys) (sym (all-append (isApart c x) xs ys) ∙ and-left (all (isApart c x) (xs ++ ys)) _ h))
       (apart-start xs ys (and-right (all (isApart c x) (xs ++ ys)) _ h))
 
-  take-more : (xs : List ℕ) (k : ℕ) → k < length xs → take (k + 1) xs ≡ take k xs ++ (getD xs k 0 ∷ [])
-  take-more xs k l = rw (add-one k) (take-suc xs k 0 l)
-
   module _ (xs : List ℕ) where
     pub apart-begin : areApart c (take 0 xs) ≡ true
     unfolding areApart
@@ -103,10 +77,3 @@ module _ (c : Chart) where
 
     pub apart-done : (k : ℕ) → length xs ≤ k → areApart c (take k xs) ≡ true → true ≡ areApart c xs
     apart-done k l h = sym (rw (take-all k xs l) at h)
-
-pub rows-take : (numbers xs : List ℕ) (k : ℕ) → RowsIn numbers xs → RowsIn numbers (take k xs)
-rows-take numbers xs k h =
-    record {
-      tables = h .tables;
-      low = λ j l. let m : j < k = omega (arith, length-take k xs) in rw (getD-take k xs j 0 m) (h .low j (omega (arith, length-take k xs)));
-    }

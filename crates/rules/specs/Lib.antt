@@ -1,4 +1,6 @@
 pub mod Apart
+pub mod Beside
 pub mod Lists
+pub mod Nearest
 pub mod Transitions
 pub mod Verdict

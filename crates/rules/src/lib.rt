@@ -5,13 +5,14 @@ ghost use Rattle.definition.specs.Rows.{all, from, mem};
 ghost use Rattle.definition.specs.Chart.{isHistory};
 ghost use Rattle.definition.specs.Tables.{rowCount, transitionCount, kindAt, sourceAt, conditionAt, transitionAt, chartOf};
 ghost use Rattle.definition.specs.Tree.{isDescendant, isChild, isDomainKind, anchor};
-ghost use Rattle.definition.specs.Rules.{isApart, areApart, initialFits, defaultFits, listFits, blocksFit, rowListsFit, isNoRoot, targetsFit, rule4, isInOrder, isSourceKind, hasUse, conditionFits, spins, transitionFits, rule5, verdict, keepsRules};
+ghost use Rattle.definition.specs.Rules.{areApart, initialFits, defaultFits, listFits, blocksFit, rowListsFit, isNoRoot, targetsFit, rule4, isInOrder, isSourceKind, hasUse, conditionFits, spins, transitionFits, rule5, verdict, keepsRules};
 ghost use Rattle.rowset.specs.Member.{rowsOf};
 ghost use Rattle.tables.specs.Ranges.{InTables, RowIn, TransitionIn, RowsIn};
 ghost use Rattle.tables.specs.Parts.{RowOf};
 ghost use Rattle.rules3.specs.Parents.{TreeIn, Marks};
-ghost use Rattle.rules3.specs.Ancestry.{Climbed, highest};
-ghost use Rattle.rules.specs.Apart.{isApartFrom};
+ghost use Rattle.rules3.specs.Ancestry.{Climbed};
+ghost use Rattle.rules.specs.Beside.{isBeside, UnderSet};
+ghost use Rattle.rules.specs.Nearest.{highest};
 ghost use Rattle.rules.specs.Verdict.{firstThree};
 use definition::Answer;
 use numbers::Row;
@@ -42,53 +43,44 @@ fn highest_common(a: RowSet, b: RowSet) -> Row
     }
 }
 
-fn is_apart(numbers: &[u64], sets: &[u64], x: Row, y: Row) -> bool
-    requires { ⌜ Climbed (now numbers) (now sets) × RowIn (now numbers) (x .0) × RowIn (now numbers) (y .0) ⌝ }
-    ensures { λ b. ⌜ b ≡ isApart (chartOf (now (numbers .entry))) (x .0) (y .0) ⌝ }
+// Whether the row a, under the rows over, stands apart from each of the anchors, which are under the rows above and stand apart themselves.
+fn is_beside(numbers: &[u64], anchors: RowSet, above: RowSet, over: RowSet, a: Row) -> bool
+    requires { ⌜ UnderSet (now numbers) (a .0) over ⌝ }
+    ensures { λ b. ⌜ b ≡ isBeside (chartOf (now (numbers .entry))) (rowsOf anchors) (rowsOf above) (rowsOf over) (a .0) ⌝ }
 {
-    let a = anchor_of(numbers, x);
-    let b = anchor_of(numbers, y);
-    if numbers::same_row(a, b) {
+    if anchors.is_empty() {
+        return true;
+    }
+    if anchors.has(a) {
         return false;
     }
-    let over_a = rules3::set_of(sets, a);
-    let over_b = rules3::set_of(sets, b);
-    if over_b.has(a) {
+    if above.has(a) {
         return false;
     }
-    if over_a.has(b) {
+    if anchors.meets(over) {
         return false;
     }
-    let nearest = highest_common(over_a, over_b);
+    let nearest = highest_common(over, above);
     tables::is_parallel(tables::kind_of(numbers, nearest))
 }
 
-// Whether each row of the list stands apart from y.
-fn all_apart_from(numbers: &[u64], sets: &[u64], y: Row, list: &[u64]) -> bool
-    requires { ⌜ Climbed (now numbers) (now sets) × RowsIn (now numbers) (now list) × RowIn (now numbers) (y .0) ⌝ }
-    ensures { λ b. ⌜ b ≡ all (isApartFrom (chartOf (now (numbers .entry))) (y .0)) (now (list .entry)) ⌝ }
-{
-    let mut k = 0;
-    while k < list.len() {
-        if !is_apart(numbers, sets, tables::row_at(numbers, list, k), y) {
-            return false;
-        }
-        k += 1;
-    }
-    true
-}
-
-// Each row is held against those before it, so that a list longer than the chart ends at a row that it has twice.
+// Each row is held against all before it at once, so that the time grows with the list alone; a list longer than the chart ends at a row
+// that it has twice.
 fn are_apart(numbers: &[u64], sets: &[u64], list: &[u64]) -> bool
     requires { ⌜ Climbed (now numbers) (now sets) × RowsIn (now numbers) (now list) ⌝ }
     ensures { λ b. ⌜ b ≡ areApart (chartOf (now (numbers .entry))) (now (list .entry)) ⌝ }
 {
+    let mut anchors = RowSet::empty();
+    let mut above = RowSet::empty();
     let mut k = 0;
     while k < list.len() {
-        let y = tables::row_at(numbers, list, k);
-        if !all_apart_from(numbers, sets, y, &list[..k]) {
+        let a = anchor_of(numbers, tables::row_at(numbers, list, k));
+        let over = rules3::set_of(sets, a);
+        if !is_beside(numbers, anchors, above, over, a) {
             return false;
         }
+        anchors = anchors.with(a);
+        above = above.union(over);
         k += 1;
     }
     true

@@ -1,30 +1,19 @@
--- The ancestors of every row, as sets of four words each, one after the other; and the nearest common ancestor as the last row of two sets.
-use mathlib.Core.Path.{_≡_, refl, sym, ap, _∙_}
-use mathlib.Core.Bool.{true, _&&_}
+-- The ancestors of every row, as sets of four words each, one after the other.
+use mathlib.Core.Path.{_≡_, ap, _∙_}
 use mathlib.Core.List.{List, []}
-use mathlib.Core.Option.{Option, none, some}
-use Prim.Native.Nat.{ℕ, zero, suc, _+_, _*_, _<_, _≤_}
+use Prim.Native.Nat.{ℕ, _+_, _*_, _<_, _≤_}
 use native.Mathlib.Omega.{arith}
 use lib.ListN.{length, getD, set, length-set}
 use lib.Seq.{getD-set-same, getD-set-other}
-use Rattle.definition.specs.Rows.{mem, isIn, first, orElse, insert, intersection}
-use Rattle.definition.specs.Chart.{Chart, parent}
+use Rattle.definition.specs.Rows.{mem, insert}
+use Rattle.definition.specs.Chart.{parent}
 use Rattle.definition.specs.Tables.{rowCount, chartOf}
 use Rattle.definition.specs.Tree.{ancestors}
-use Rattle.definition.specs.Rules.{nearestCommon}
-use Rattle.laws.specs.Bools.{no, not-so, eq-case, and-left, and-right, and-true}
-use Rattle.laws.specs.Sets.{Ascends, ascends-intersection, mem-intersection, mem-insert}
-use Rattle.laws.specs.Lists.{Pairs, first-some}
-use Rattle.laws.specs.Orders.{lt-case, first-missing, leads-first}
-use Rattle.theory.specs.Tree.{ancestors-on, ancestors-top, ancestor-low}
-use Rattle.numbers.specs.declared.Row.{Row}
+use Rattle.laws.specs.Bools.{eq-case}
+use Rattle.laws.specs.Sets.{mem-insert}
+use Rattle.theory.specs.Tree.{ancestors-on}
 use Rattle.rowset.specs.declared.RowSet.{RowSet}
-use Rattle.rowset.specs.declared.Found.{Found}
-use Rattle.rowset.specs.declared.Found.the-variants.{At, Nothing}
-use Rattle.rowset.specs.Member.{rowsOf, prevIn}
-use Rattle.rowset.specs.Rows.{ascends-rows, rows-low}
-use Rattle.rowset.specs.Search.{PrevAt, prev-at, none-prev}
-use Rattle.tables.specs.Ranges.{RowIn}
+use Rattle.rowset.specs.Member.{rowsOf}
 use Rattle.tables.specs.Parts.{setAt}
 use Rattle.rules3.specs.Parents.{TreeIn}
 
@@ -138,80 +127,3 @@ module _ (numbers sets : List ℕ) (s : RowSet) (after : List ℕ) where
 
 pub ancestry-end : (numbers sets : List ℕ) (i m n : ℕ) → m ≤ i → m ≡ n → Ancestry numbers i sets → Ancestry numbers n sets
 ancestry-end numbers sets i m n l e h = record { size = h .size; at = λ k b. h .at k (omega arith) }
-
--- ---- the nearest common ancestor
-
--- the ancestors of a row go down
-module _ (c : Chart) where
-  ancestors-down : (i : ℕ) → Pairs (λ x y. y < x) (ancestors c i)
-  ancestors-down i = go i i (omega arith)
-    where
-      go : (n i : ℕ) → i ≤ n → Pairs (λ x y. y < x) (ancestors c i)
-      go zero i l = rw (ancestors-top c i (omega arith)) tt
-      go (suc n) i l =
-          lt-case (parent c i) i (λ h. rw (ancestors-on c i h) ((λ y m. ancestor-low c (parent c i) y m), go n (parent c i) (omega arith)))
-          (λ h. rw (ancestors-top c i h) tt)
-
-abbrev rowIn : Found → ℕ
-rowIn (At r) = r .0
-rowIn Nothing = 0
-
--- the last row of both, and 0 where there is none
-unfoldable pub highest : List ℕ → List ℕ → ℕ
-highest xs ys = rowIn (prevIn (intersection xs ys) 256)
-
-module _ (xs ys zs : List ℕ) (o : Found) (e : zs ≡ intersection xs ys) (f : o ≡ prevIn zs 256) where
-  pub highest-at : (r : Row) → o ≡ At r → r .0 ≡ highest xs ys
-  unfolding highest
-  highest-at r h = sym (rw (← e, ← f, h))
-
-  pub highest-none : o ≡ Nothing → 0 ≡ highest xs ys
-  unfolding highest
-  highest-none h = sym (rw (← e, ← f, h))
-
-module _ (c : Chart) (a b : ℕ) (s t : RowSet) (hs : (x : ℕ) → mem x (rowsOf s) ≡ mem x (ancestors c a)) (ht : (x : ℕ) → mem x (rowsOf t) ≡ mem x (ancestors c b)) where
-  abbrev both : List ℕ
-  both = intersection (rowsOf s) (rowsOf t)
-
-  in-both : (x : ℕ) → mem x both ≡ (mem x (ancestors c a) && mem x (ancestors c b))
-  in-both x = mem-intersection x (rowsOf s) (rowsOf t) ∙ rw (hs x, ht x)
-
-  up-both : Ascends 0 both
-  up-both = ascends-intersection (rowsOf s) (rowsOf t) (ascends-rows s)
-
-  ancestor-small : (x : ℕ) → mem x (ancestors c a) ≡ true → x < 256
-  ancestor-small x m = rows-low s x (hs x ∙ m)
-
-  pub nearest-highest : highest (rowsOf s) (rowsOf t) ≡ nearestCommon c a b
-  unfolding highest nearestCommon orElse
-  nearest-highest = go (prevIn both 256) refl
-    where
-      go : (o : Found) → prevIn both 256 ≡ o → rowIn o ≡ orElse (first (isIn (ancestors c b)) (ancestors c a)) 0
-      go (At r) e =
-          let p : PrevAt both 256 (r .0) = prev-at both up-both 256 r e in
-          let m : (mem (r .0) (ancestors c a) && mem (r .0) (ancestors c b)) ≡ true = sym (in-both (r .0)) ∙ p .here in
-          let q : first (isIn (ancestors c b)) (ancestors c a) ≡ some (r .0) =
-          leads-first (λ x y. y < x) (isIn (ancestors c b)) (ancestors c a) (r .0) (ancestors-down c a) (record {
-            isin = and-left (mem (r .0) (ancestors c a)) _ m;
-            passes = and-right (mem (r .0) (ancestors c a)) _ m;
-            before = λ x n l. not-so _ (λ k. no (sym (p .none x l (ancestor-small x n)) ∙ in-both x ∙ and-true _ _ n k));
-          }) in
-          rw q
-      go Nothing e =
-          let q : first (isIn (ancestors c b)) (ancestors c a) ≡ none =
-          first-missing (isIn (ancestors c b)) (ancestors c a) (λ x n. not-so _ (λ k. no (sym (none-prev both 256 e x (ancestor-small x n)) ∙ in-both x ∙ and-true _ _ n k))) in
-          rw q
-
-pub nearest-low : (c : Chart) (a b : ℕ) → nearestCommon c a b ≤ a
-unfolding nearestCommon orElse
-nearest-low c a b = go (first (isIn (ancestors c b)) (ancestors c a)) refl
-  where
-    go : (o : Option ℕ) → first (isIn (ancestors c b)) (ancestors c a) ≡ o → orElse o 0 ≤ a
-    go none e = omega arith
-    go (some x) e = let l = ancestor-low c a x (first-some (isIn (ancestors c b)) (ancestors c a) x e .0) in omega arith
-
-pub nearest-row : (numbers : List ℕ) (a b r : ℕ) → RowIn numbers a → r ≡ nearestCommon (chartOf numbers) a b → RowIn numbers r
-nearest-row numbers a b r h e =
-    let l = nearest-low (chartOf numbers) a b in
-    let m = h .below in
-    record { tables = h .tables; below = rw e (omega arith) }

@@ -67,7 +67,7 @@ module _ (c : Chart) (t : Tree c) (few : c .rows ≤ 256) (ws : List ℕ) (size 
       ap (λ (x : List ℕ). isEmpty x || (isHistory (kind c h) && isStorable c h x)) (map-at (storedAt ws) (c .rows) 0 h [] l ∙ ap (storedAt ws) (zero-add h))
 
   -- a row past the count is no history
-  place-blank : (h : ℕ) → c .rows ≤ h → holdsPlace c ws h ≡ true → storedAt ws h ≡ []
+  pub place-blank : (h : ℕ) → c .rows ≤ h → holdsPlace c ws h ≡ true → storedAt ws h ≡ []
   unfolding holdsPlace
   place-blank h g p =
       or-elim (isEmpty (storedAt ws h)) (isHistory (kind c h) && isStorable c h (storedAt ws h)) (λ e. empty-list (storedAt ws h) e)

@@ -2,18 +2,22 @@
 use mathlib.Core.Path.{_≡_, refl, sym, ap, _∙_}
 use mathlib.Core.Bool.{Bool, true, false, not, _&&_}
 use mathlib.Core.List.{List, [], _∷_}
-use Prim.Native.Nat.{ℕ, zero, suc, _+_, _*_, _≤_, _<_}
+use Prim.Native.Nat.{ℕ, zero, suc, _+_, _-_, _*_, _/_, _%_, _≤_, _<_}
+use native.Mathlib.Nat.{mod-lt, div-add-mod', zero-lt-suc}
 use native.Mathlib.Omega.{arith}
 use lib.Dec.{eqb}
-use lib.ListN.{getD}
-use borrow.Author.Tests.{eqb-true}
+use lib.ListN.{length, getD, take, drop, take-append-drop, getD-replicate, List·getD-eq-default}
+use lib.Seq.{getD-take, getD-drop}
+use borrow.Author.Tests.{eqb-true, eq-eqb}
 use Rattle.definition.specs.Rows.{any, all, from, isEmpty}
 use Rattle.definition.specs.Chart.{Chart, kind, isHistory}
 use Rattle.definition.specs.Tables.{chartOf}
 use Rattle.definition.specs.Follower.{isFinalUnderRoot}
 use Rattle.definition.specs.Legal.{isLegal, isStorable}
-use Rattle.laws.specs.Bools.{and-left, and-right}
-use Rattle.laws.specs.Loops.{below-each}
+use Rattle.definition.specs.Compiled.{words}
+use Rattle.laws.specs.Bools.{clash, bool-case, and-left, and-right, and-true}
+use Rattle.laws.specs.Loops.{all-append, each-below, below-each}
+use Rattle.laws.specs.Orders.{lt-case}
 use Rattle.theory.specs.Tree.{Tree}
 use Rattle.rowset.specs.declared.RowSet.{RowSet}
 use Rattle.rowset.specs.Member.{rowsOf}
@@ -25,10 +29,10 @@ use Rattle.queue.specs.Queues.{isQueue}
 use Rattle.state.specs.State.{rowsAt}
 use Rattle.session.specs.Sessions.{session, isSession}
 use Rattle.state.specs.Found.{legal-set}
-use Rattle.state.specs.Words.{Fits}
-use Rattle.session.specs.Judged.{Lengths, holdsPlace, modeHolds, sessionHolds, session-holds}
+use Rattle.state.specs.Words.{Fits, cell-again, words-none}
+use Rattle.session.specs.Judged.{Lengths, holdsPlace, place-blank, modeHolds, sessionHolds, session-holds}
 
--- ---- nothing is stored
+-- ---- the words of the history: those of the rows, and those behind them, which are zero
 
 zero-at : (ws : List ℕ) → all (eqb 0) ws ≡ true → (k : ℕ) → getD ws k 0 ≡ 0
 unfolding all
@@ -36,14 +40,57 @@ zero-at [] h k = refl
 zero-at (x ∷ ws) h zero = sym (eqb-true 0 x (and-left (eqb 0 x) _ h))
 zero-at (x ∷ ws) h (suc k) = zero-at ws (and-right (eqb 0 x) _ h) k
 
-none-stored : (ws : List ℕ) → all (eqb 0) ws ≡ true → (h : ℕ) → storedAt ws h ≡ []
-unfolding storedAt setAt
-none-stored ws e h =
-    ap rowsOf (λ i. record { w0 = zero-at ws e (h * 4) i; w1 = zero-at ws e (h * 4 + 1) i; w2 = zero-at ws e (h * 4 + 2) i; w3 = zero-at ws e (h * 4 + 3) i }) ∙ rows-empty
+all-zero : (ws : List ℕ) → ((k : ℕ) → getD ws k 0 ≡ 0) → all (eqb 0) ws ≡ true
+unfolding all
+all-zero [] h = refl
+all-zero (x ∷ ws) h = and-true (eqb 0 x) _ (eq-eqb 0 x (sym (h 0))) (all-zero ws (λ k. h (suc k)))
 
-pub blank-holds : (c : Chart) (ws : List ℕ) (b : Bool) → b ≡ all (eqb 0) ws → b ≡ true → true ≡ all (holdsPlace c ws) (from 256 0)
-unfolding holdsPlace isEmpty
-blank-holds c ws b e t = sym (below-each (holdsPlace c ws) 256 (λ h l. rw (none-stored ws (sym e ∙ t) h)))
+-- four words of zero hold no row
+none-stored : (ws : List ℕ) (h : ℕ) → ((k : ℕ) → h * 4 ≤ k → getD ws k 0 ≡ 0) → storedAt ws h ≡ []
+unfolding storedAt setAt
+none-stored ws h z =
+    ap rowsOf (λ i. record { w0 = z (h * 4) (omega arith) i; w1 = z (h * 4 + 1) (omega arith) i; w2 = z (h * 4 + 2) (omega arith) i; w3 = z (h * 4 + 3) (omega arith) i }) ∙ rows-empty
+
+-- words that hold no row are zero
+zero-stored : (ws : List ℕ) (h j : ℕ) → Fits ws → h * 4 + 4 ≤ length ws → j < 4 → storedAt ws h ≡ [] → getD ws (h * 4 + j) 0 ≡ 0
+unfolding storedAt
+zero-stored ws h j f l m e =
+    sym (getD-take 4 (drop (h * 4) ws) j 0 m ∙ getD-drop (h * 4) ws j 0) ∙ ap (λ (xs : List ℕ). getD xs j 0) (sym (cell-again ws h f l) ∙ ap words e ∙ words-none) ∙
+    getD-replicate 4 j 0 0 m
+
+module _ (c : Chart) (ws : List ℕ) (n : ℕ) where
+  zero-behind : all (eqb 0) (drop (n * 4) ws) ≡ true → (k : ℕ) → n * 4 ≤ k → getD ws k 0 ≡ 0
+  zero-behind z k l =
+      let e : n * 4 + (k - n * 4) ≡ k = omega arith in
+      ap (λ (j : ℕ). getD ws j 0) (sym e) ∙ sym (getD-drop (n * 4) ws (k - n * 4) 0) ∙ zero-at (drop (n * 4) ws) z (k - n * 4)
+
+  pub rows-hold : all (eqb 0) (drop (n * 4) ws) ≡ true → all (holdsPlace c ws) (from n 0) ≡ true → true ≡ all (holdsPlace c ws) (from 256 0)
+  unfolding holdsPlace isEmpty
+  rows-hold z e =
+      sym (below-each (holdsPlace c ws) 256
+      (λ h l. lt-case h n (λ g. each-below (holdsPlace c ws) n e h g) (λ g. rw (none-stored ws h (λ k m. zero-behind z k (omega arith))))))
+
+  pub blank-holds : all (eqb 0) (drop (n * 4) ws) ≡ true → all (eqb 0) (take (n * 4) ws) ≡ true → true ≡ all (holdsPlace c ws) (from 256 0)
+  unfolding holdsPlace isEmpty
+  blank-holds z e =
+      let w : all (eqb 0) ws ≡ true =
+      sym (ap (all (eqb 0)) (take-append-drop (n * 4) ws)) ∙ all-append (eqb 0) (take (n * 4) ws) (drop (n * 4) ws) ∙ and-true _ _ e z in
+      sym (below-each (holdsPlace c ws) 256 (λ h l. rw (none-stored ws h (λ k m. zero-at ws w k))))
+
+  -- a row past the count is no history, and stores nothing
+  pub behind-holds : Tree c → c .rows ≡ n → n ≤ 256 → length ws ≡ 1024 → Fits ws → all (eqb 0) (drop (n * 4) ws) ≡ false → false ≡ all (holdsPlace c ws) (from 256 0)
+  behind-holds t e few size f z =
+      bool-case (all (holdsPlace c ws) (from 256 0)) (λ w. absurd (clash _ (all-zero (drop (n * 4) ws) (λ k. getD-drop (n * 4) ws k 0 ∙ word w (n * 4 + k) (omega arith))) z)) (λ w. sym w)
+    where
+      word : all (holdsPlace c ws) (from 256 0) ≡ true → (k : ℕ) → n * 4 ≤ k → getD ws k 0 ≡ 0
+      word w k l =
+          lt-case k 1024
+          (λ g. let d = div-add-mod' k 4 in
+          let m = mod-lt k (zero-lt-suc 3) in
+          let p : c .rows ≤ k / 4 = omega arith in
+          ap (λ (j : ℕ). getD ws j 0) (sym d) ∙
+          zero-stored ws (k / 4) (k % 4) f (omega arith) m (place-blank c t (omega arith) ws size f (k / 4) p (each-below (holdsPlace c ws) 256 w (k / 4) (omega arith))))
+          (λ g. List·getD-eq-default ws 0 (omega arith))
 
 -- ---- the mode
 

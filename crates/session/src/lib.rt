@@ -63,9 +63,6 @@ const CLOSING: u64 = 2;
 
 const SET_WIDTH: usize = 4;
 
-// There is room for the stored sets of so many rows.
-const PLACES: usize = 256;
-
 // "is closing exactly if a final under root is active; is ended exactly if nothing is active, its queues then empty"; legal unless ended.
 pub fn mode_holds(chart: &[u64], conf: RowSet, internal: u64, external: u64, mode: u64) -> bool
     requires { ⌜ Ready (now chart) ⌝ }
@@ -119,16 +116,21 @@ fn are_zero(words: &[u64]) -> bool
     any == 0
 }
 
-// Most sessions store nothing: that is told first.
+// Nothing may be stored behind the rows of the chart. Most sessions store nothing at all: that is told before any place is looked at.
 pub fn history_holds(chart: &[u64], history: &[u64]) -> bool
     requires { ⌜ Ready (now chart) × (length (now history) ≡ 1024) ⌝ }
     ensures { λ b. ⌜ b ≡ all (holdsPlace (chartOf (now (chart .entry))) (now (history .entry))) (from 256 0) ⌝ }
 {
-    if are_zero(history) {
+    let rows = tables::row_count(chart) as usize;
+    let end = rows * SET_WIDTH;
+    if !are_zero(&history[end..]) {
+        return false;
+    }
+    if are_zero(&history[..end]) {
         return true;
     }
     let mut h = 0;
-    while h < PLACES {
+    while h < rows {
         if !place_holds(chart, history, h) {
             return false;
         }

@@ -1,5 +1,5 @@
 use borrow.Author.Needs.{needs}
-use Rattle.rules3.specs.Ancestry.{highest-at, highest-none}
+use Rattle.rules.specs.Nearest.{highest-at, highest-none}
 use Rattle.rules.proofs.highest_common.Statement.{statement}
 use Rattle.rules.proofs.highest_common.Tie as tie
 
