@@ -4,7 +4,7 @@
 texts.py           writes specs/Faults.antt, Refusals.antt and Charts.antt
 texts.py --check   tells whether they hold what would be written
 
-What is expected here was worked out from document 02 by another reader than the definitions."""
+What is expected here was not computed by the definitions: it was worked out from document 02 by hand or by another reader."""
 import os
 import sys
 import textwrap
