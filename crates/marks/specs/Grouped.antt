@@ -19,5 +19,5 @@ bytesFrom text a b = take (b - a) (drop a text)
 unfoldable pub grouped : List ℕ → List Part → List Mark → List Markup
 grouped text ps [] = []
 grouped text ps (Nothing ∷ ms) = grouped text ps ms
-grouped text ps (Valued e w a b ∷ ms) = grouped text (ps ++ (record { word = w; from = a; bytes = bytesFrom text a b }) ∷ []) ms
+grouped text ps (Valued e w a b ∷ ms) = grouped text (ps ++ (record { element = e; word = w; from = a; bytes = bytesFrom text a b }) ∷ []) ms
 grouped text ps (Tagged a s e ∷ ms) = (record { at = a; shape = shapeOf s; element = e; parts = ps }) ∷ grouped text [] ms

@@ -118,9 +118,9 @@ module _ (text : List ℕ) (i b : ℕ) (bs : List ℕ) (here : drop i text ≡ b
 -- ---- one byte
 
 -- the parts with a value as it is marked and as it is noted
-valued : (text : List ℕ) (ps : List Part) (w from i : ℕ) (bytes : List ℕ) (ms : List Mark) → bytes ≡ bytesFrom text from i →
-    grouped text (ps ++ (record { word = w; from = from; bytes = bytesFrom text from i }) ∷ []) ms ≡ grouped text (ps ++ (record { word = w; from = from; bytes = bytes }) ∷ []) ms
-valued text ps w from i bytes ms e = ap (λ (l : List ℕ). grouped text (ps ++ (record { word = w; from = from; bytes = l }) ∷ []) ms) (sym e)
+valued : (text : List ℕ) (ps : List Part) (e w from i : ℕ) (bytes : List ℕ) (ms : List Mark) → bytes ≡ bytesFrom text from i →
+    grouped text (ps ++ (record { element = e; word = w; from = from; bytes = bytesFrom text from i }) ∷ []) ms ≡ grouped text (ps ++ (record { element = e; word = w; from = from; bytes = bytes }) ∷ []) ms
+valued text ps e w from i bytes ms eq = ap (λ (l : List ℕ). grouped text (ps ++ (record { element = e; word = w; from = from; bytes = l }) ∷ []) ms) (sym eq)
 
 module _ (text : List ℕ) (t i b : ℕ) (d : Draft) (ms : List Mark) where
   -- the tag that a byte ends and what it leaves, by its zone and its step
@@ -132,7 +132,7 @@ module _ (text : List ℕ) (t i b : ℕ) (d : Draft) (ms : List Mark) where
   leaves : (e j : ℕ) (p : Place) (u : ℕ) (y : Bool) → isValue (zone p) ≡ y → Held text true (d .from) i (d .bytes) → Same (zones.InValue e j) (Go p u)
   unfolding grouped noted emitted
   leaves e j p u true q h = rw q refl
-  leaves e j p u false q h = rw q (valued text (d .parts) (attribute e j) (d .from) i (d .bytes) ms (h .so-far refl))
+  leaves e j p u false q h = rw q (valued text (d .parts) e (attribute e j) (d .from) i (d .bytes) ms (h .so-far refl))
 
   same : (z : Zone) (s : Step) → (isValue z ≡ true → endsNone s ≡ true) → Held text (isValue z) (d .from) i (d .bytes) → Same z s
   unfolding grouped noted emitted
@@ -148,7 +148,7 @@ module _ (text : List ℕ) (t i b : ℕ) (d : Draft) (ms : List Mark) where
   same (zones.InTag e) (Go p u) g h = refl
   same (zones.InTag e) (Open u v) g h = refl
   same (zones.InTag e) Shut g h = refl
-  same (zones.InValue e j) Fault g h = valued text (d .parts) (attribute e j) (d .from) i (d .bytes) ms (h .so-far refl)
+  same (zones.InValue e j) Fault g h = valued text (d .parts) e (attribute e j) (d .from) i (d .bytes) ms (h .so-far refl)
   same (zones.InValue e j) (Go p u) g h = leaves e j p u (isValue (zone p)) refl h
   same (zones.InValue e j) (Open u v) g h = absurd (no (g refl))
   same (zones.InValue e j) Shut g h = absurd (no (g refl))

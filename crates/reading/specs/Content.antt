@@ -8,7 +8,7 @@ use lib.ListN.{length}
 use Rattle.definition.specs.Rows.{same, flat, isEmpty, from}
 use Rattle.definition.specs.Tables.{noNumber}
 use Rattle.reading.specs.Tags.{Part, Shape, opening, empty, closing, Markup}
-use Rattle.reading.specs.Faults.{namesIn, plain, inner, decimal, states, valueOf, isRowTag, idsOf}
+use Rattle.reading.specs.Faults.{namesIn, plain, inner, decimal, idWord, initialWord, typeWord, eventWord, condWord, targetWord, labelWord, delayWord, sendidWord, states, valueOf, isRowTag, idsOf, isAmong, internal as internalText, deep as deepText}
 
 -- actions: raise and log (1.1); if, elseif, else (R-5) and the end of an if are actions of the block that they stand in; send and cancel (R-9)
 pub data Act : Type 0 where
@@ -60,7 +60,7 @@ abbrev pub rowIn : List (List ℕ) → List ℕ → ℕ
 rowIn ids v = rowNamed ids (inner (plain v))
 
 abbrev pub conditionIn : List (List ℕ) → List Part → Option ℕ
-conditionIn ids ps = cond (states 30 ps) (some (rowIn ids (valueOf 30 ps))) none
+conditionIn ids ps = cond (states condWord ps) (some (rowIn ids (valueOf condWord ps))) none
 
 -- ---- what each tag says
 
@@ -100,18 +100,18 @@ blockOf (inRow i d) = record { part = 0; owner = i }
 blockOf (inBlock k) = k
 
 abbrev pub kindIn : ℕ → List Part → ℕ
-kindIn e ps = cond (eqb e 4 && same (plain (valueOf 28 ps)) (100 ∷ 101 ∷ 101 ∷ 112 ∷ [])) 5 e
+kindIn e ps = cond (eqb e 4 && same (plain (valueOf typeWord ps)) deepText) 5 e
 
 -- raise, log, if, else, elseif, send, cancel
 unfoldable pub actIn : List (List ℕ) → ℕ → List Part → Act
 actIn ids e ps =
-    cond (eqb e 9) (raises (valueOf 29 ps))
-    (cond (eqb e 10) (hosts (decimal (plain (valueOf 32 ps))))
-    (cond (eqb e 12) (ifIn (rowIn ids (valueOf 30 ps)))
-    (cond (eqb e 14) (elseifIn (rowIn ids (valueOf 30 ps)))
+    cond (eqb e 9) (raises (valueOf eventWord ps))
+    (cond (eqb e 10) (hosts (decimal (plain (valueOf labelWord ps))))
+    (cond (eqb e 12) (ifIn (rowIn ids (valueOf condWord ps)))
+    (cond (eqb e 14) (elseifIn (rowIn ids (valueOf condWord ps)))
     (cond (eqb e 13) otherwise
-    (cond (eqb e 15) (sends (valueOf 29 ps) (decimal (plain (valueOf 33 ps))) (cond (states 26 ps) (some (valueOf 26 ps)) none))
-    (cancels (valueOf 34 ps)))))))
+    (cond (eqb e 15) (sends (valueOf eventWord ps) (decimal (plain (valueOf delayWord ps))) (cond (states idWord ps) (some (valueOf idWord ps)) none))
+    (cancels (valueOf sendidWord ps)))))))
 
 -- what a tag says, where its content stands, its parent's place from then on, and how many rows and transitions there are then
 pub record Turn : Type 0 where
@@ -123,21 +123,21 @@ pub record Turn : Type 0 where
 
 -- a transition of an initial element, or the first of a history without event and cond
 abbrev pub isDefault : Spot → ℕ → List Part → Bool
-isDefault s e ps = eqb e 11 || (wants s && not (states 29 ps) && not (states 30 ps))
+isDefault s e ps = eqb e 11 || (wants s && not (states eventWord ps) && not (states condWord ps))
 
 -- a start tag of element e in the spot s, with n rows and m transitions before it
 unfoldable pub turn : List (List ℕ) → Spot → ℕ → ℕ → ℕ → List Part → Turn
 turn ids s n m e ps =
     cond (leb e 4)
-    (record { facts = rowFact (kindIn e ps) (rowOf s) (valueOf 26 ps) (rowsIn ids (valueOf 27 ps)) ∷ []; inside = inRow n (eqb e 4); around = s; rows = suc n; transitions = m })
+    (record { facts = rowFact (kindIn e ps) (rowOf s) (valueOf idWord ps) (rowsIn ids (valueOf initialWord ps)) ∷ []; inside = inRow n (eqb e 4); around = s; rows = suc n; transitions = m })
     (cond (eqb e 5) (record { facts = []; inside = inRow (rowOf s) true; around = s; rows = n; transitions = m })
     (cond (eqb e 7) (record { facts = []; inside = inBlock (record { part = 1; owner = rowOf s }); around = s; rows = n; transitions = m })
     (cond (eqb e 8) (record { facts = []; inside = inBlock (record { part = 2; owner = rowOf s }); around = s; rows = n; transitions = m })
     (cond (eqb e 6 || eqb e 11)
     (cond (isDefault s e ps)
-    (record { facts = listFact (rowOf s) (rowsIn ids (valueOf 31 ps)) ∷ []; inside = inBlock (record { part = 3; owner = rowOf s }); around = settled s; rows = n; transitions = m })
+    (record { facts = listFact (rowOf s) (rowsIn ids (valueOf targetWord ps)) ∷ []; inside = inBlock (record { part = 3; owner = rowOf s }); around = settled s; rows = n; transitions = m })
     (record {
-      facts = transitionFact (rowOf s) (namesIn (valueOf 29 ps)) (conditionIn ids ps) (same (plain (valueOf 28 ps)) (105 ∷ 110 ∷ 116 ∷ 101 ∷ 114 ∷ 110 ∷ 97 ∷ 108 ∷ [])) (rowsIn ids (valueOf 31 ps)) ∷ [];
+      facts = transitionFact (rowOf s) (namesIn (valueOf eventWord ps)) (conditionIn ids ps) (same (plain (valueOf typeWord ps)) internalText) (rowsIn ids (valueOf targetWord ps)) ∷ [];
       inside = inBlock (record { part = 4; owner = m });
       around = s;
       rows = n;
@@ -222,7 +222,7 @@ contentOf ts = contentFrom (factsFrom (idsOf ts) [] 0 0 ts)
 -- ---- names: "equal names share a slot, by first use in the text as id, descriptor or action's name" (1.19)
 
 abbrev pub usesIn : Part → List (List ℕ)
-usesIn p = cond (eqb (p .word) 26 || eqb (p .word) 29 || eqb (p .word) 34) (namesIn (p .bytes)) []
+usesIn p = cond (eqb (p .word) idWord || eqb (p .word) eventWord || eqb (p .word) sendidWord) (namesIn (p .bytes)) []
 
 abbrev pub usesOf : Markup → List (List ℕ)
 usesOf t = flat usesIn (t .parts)
@@ -230,11 +230,7 @@ usesOf t = flat usesIn (t .parts)
 -- those that are not among the first, each once
 unfoldable pub fresh : List (List ℕ) → List (List ℕ) → List (List ℕ)
 fresh seen [] = seen
-fresh seen (n ∷ ns) = cond (among n seen) (fresh seen ns) (fresh (seen ++ n ∷ []) ns)
-  where
-    among : List ℕ → List (List ℕ) → Bool
-    among n [] = false
-    among n (m ∷ ms) = same n m || among n ms
+fresh seen (n ∷ ns) = cond (isAmong n seen) (fresh seen ns) (fresh (seen ++ n ∷ []) ns)
 
 unfoldable pub slotsOf : List Markup → List (List ℕ)
 slotsOf ts = fresh [] (flat usesOf ts)

@@ -44,7 +44,8 @@ entityByte w = cond (same w (97 ∷ 109 ∷ 112 ∷ [])) 38 (cond (same w (108 �
 
 -- a value with its entities read; what is read of an entity's name
 unfoldable pub decoded : Option (List ℕ) → List ℕ → List ℕ
-decoded w [] = []
+decoded none [] = []
+decoded (some w) [] = entityByte w ∷ []
 decoded none (b ∷ bs) = cond (eqb b 38) (decoded (some []) bs) (b ∷ decoded none bs)
 decoded (some w) (b ∷ bs) = cond (eqb b 59) (entityByte w ∷ decoded none bs) (decoded (some (w ++ b ∷ [])) bs)
 
@@ -80,8 +81,42 @@ decimal v = decimalFrom 0 v
 abbrev pub isDecimal : ℕ → List ℕ → Bool
 isDecimal most v = not (isEmpty v) && all isDigit v && leb (decimal v) most
 
--- ---- attributes of a tag, by their words: 24 xmlns, 25 version, 26 id, 27 initial, 28 type, 29 event, 30 cond, 31 target, 32 label, 33 delay, 34 sendid
+-- ---- attributes of a tag, by the words of their names (crate grammar, Tables)
 
+abbrev pub xmlnsWord : ℕ
+xmlnsWord = 24
+
+abbrev pub versionWord : ℕ
+versionWord = 25
+
+abbrev pub idWord : ℕ
+idWord = 26
+
+abbrev pub initialWord : ℕ
+initialWord = 27
+
+abbrev pub typeWord : ℕ
+typeWord = 28
+
+abbrev pub eventWord : ℕ
+eventWord = 29
+
+abbrev pub condWord : ℕ
+condWord = 30
+
+abbrev pub targetWord : ℕ
+targetWord = 31
+
+abbrev pub labelWord : ℕ
+labelWord = 32
+
+abbrev pub delayWord : ℕ
+delayWord = 33
+
+abbrev pub sendidWord : ℕ
+sendidWord = 34
+
+-- is the attribute there
 unfoldable pub states : ℕ → List Part → Bool
 states w [] = false
 states w (p ∷ ps) = eqb (p .word) w || states w ps
@@ -103,7 +138,7 @@ isClosing closing = true
 -- the ids of the rows, in order: row i + 1 has the i-th
 unfoldable pub idsOf : List Markup → List (List ℕ)
 idsOf [] = []
-idsOf (t ∷ ts) = cond (not (isClosing (t .shape)) && isRowTag (t .element)) (valueOf 26 (t .parts) ∷ idsOf ts) (idsOf ts)
+idsOf (t ∷ ts) = cond (not (isClosing (t .shape)) && isRowTag (t .element)) (valueOf idWord (t .parts) ∷ idsOf ts) (idsOf ts)
 
 unfoldable pub isAmong : List ℕ → List (List ℕ) → Bool
 isAmong n [] = false
@@ -126,44 +161,64 @@ abbrev pub conditionFault : List (List ℕ) → ℕ → List ℕ → List ℕ
 conditionFault ids at raw =
     cond (isCondition (plain raw)) (referenceFault ids (record { from = at + conditionAt raw; bytes = inner (plain raw) })) (at ∷ [])
 
-abbrev pub isOneOf : List ℕ → List (List ℕ) → Bool
-isOneOf v vs = isAmong v vs
+-- "attribute value that does not exist" (1.10)
 
--- "attribute value that does not exist" (1.10): the values of type
+-- http://www.w3.org/2005/07/scxml
+abbrev pub namespace : List ℕ
+namespace =
+    104 ∷ 116 ∷ 116 ∷ 112 ∷ 58 ∷ 47 ∷ 47 ∷ 119 ∷ 119 ∷ 119 ∷ 46 ∷ 119 ∷ 51 ∷ 46 ∷ 111 ∷ 114 ∷ 103 ∷ 47 ∷ 50 ∷ 48 ∷ 48 ∷ 53 ∷ 47 ∷ 48 ∷ 55 ∷ 47 ∷ 115 ∷ 99 ∷ 120 ∷ 109 ∷ 108 ∷ []
+
+-- 1.0
+abbrev pub versionText : List ℕ
+versionText = 49 ∷ 46 ∷ 48 ∷ []
+
+-- "external", "internal", "shallow", "deep"
+abbrev pub external : List ℕ
+external = 101 ∷ 120 ∷ 116 ∷ 101 ∷ 114 ∷ 110 ∷ 97 ∷ 108 ∷ []
+
+abbrev pub internal : List ℕ
+internal = 105 ∷ 110 ∷ 116 ∷ 101 ∷ 114 ∷ 110 ∷ 97 ∷ 108 ∷ []
+
+abbrev pub shallow : List ℕ
+shallow = 115 ∷ 104 ∷ 97 ∷ 108 ∷ 108 ∷ 111 ∷ 119 ∷ []
+
+abbrev pub deep : List ℕ
+deep = 100 ∷ 101 ∷ 101 ∷ 112 ∷ []
+
+-- of a history, or of a transition
 abbrev pub typesOf : ℕ → List (List ℕ)
-typesOf e = cond (eqb e 4) ((115 ∷ 104 ∷ 97 ∷ 108 ∷ 108 ∷ 111 ∷ 119 ∷ []) ∷ (100 ∷ 101 ∷ 101 ∷ 112 ∷ []) ∷ []) ((101 ∷ 120 ∷ 116 ∷ 101 ∷ 114 ∷ 110 ∷ 97 ∷ 108 ∷ []) ∷ (105 ∷ 110 ∷ 116 ∷ 101 ∷ 114 ∷ 110 ∷ 97 ∷ 108 ∷ []) ∷ [])
+typesOf e = cond (eqb e 4) (shallow ∷ deep ∷ []) (external ∷ internal ∷ [])
 
 -- xmlns and version have one value, a type two, "A log's label is a decimal host action from 0 to 65,535" (1.5), a delay has at most 4,294,967,295
 -- milliseconds (R-9), a cond is In and a reference, initial and target are references, all others names or descriptors
-unfoldable pub partFaults : List (List ℕ) → ℕ → Part → List ℕ
-partFaults ids e p =
+unfoldable pub partFaults : List (List ℕ) → Part → List ℕ
+partFaults ids p =
     let w = p .word in
-    cond (eqb w 24) (faultIf (not (same (plain (p .bytes)) (104 ∷ 116 ∷ 116 ∷ 112 ∷ 58 ∷ 47 ∷ 47 ∷ 119 ∷ 119 ∷ 119 ∷ 46 ∷ 119 ∷ 51 ∷ 46 ∷ 111 ∷ 114 ∷ 103 ∷ 47 ∷ 50 ∷ 48 ∷ 48 ∷ 53 ∷ 47 ∷ 48 ∷ 55 ∷ 47 ∷ 115 ∷ 99 ∷ 120 ∷ 109 ∷ 108 ∷ []))) (p .from))
-    (cond (eqb w 25) (faultIf (not (same (plain (p .bytes)) (49 ∷ 46 ∷ 48 ∷ []))) (p .from))
-    (cond (eqb w 28) (faultIf (not (isOneOf (plain (p .bytes)) (typesOf e))) (p .from))
-    (cond (eqb w 32) (faultIf (not (isDecimal 65535 (plain (p .bytes)))) (p .from))
-    (cond (eqb w 33) (faultIf (not (isDecimal 4294967295 (plain (p .bytes)))) (p .from))
-    (cond (eqb w 30) (conditionFault ids (p .from) (p .bytes))
-    (cond (eqb w 27 || eqb w 31) (flat (referenceFault ids) (itemsAt (p .from) (p .bytes)))
+    cond (eqb w xmlnsWord) (faultIf (not (same (plain (p .bytes)) namespace)) (p .from))
+    (cond (eqb w versionWord) (faultIf (not (same (plain (p .bytes)) versionText)) (p .from))
+    (cond (eqb w typeWord) (faultIf (not (isAmong (plain (p .bytes)) (typesOf (p .element)))) (p .from))
+    (cond (eqb w labelWord) (faultIf (not (isDecimal 65535 (plain (p .bytes)))) (p .from))
+    (cond (eqb w delayWord) (faultIf (not (isDecimal 4294967295 (plain (p .bytes)))) (p .from))
+    (cond (eqb w condWord) (conditionFault ids (p .from) (p .bytes))
+    (cond (eqb w initialWord || eqb w targetWord) (flat (referenceFault ids) (itemsAt (p .from) (p .bytes)))
     (flat longFault (itemsAt (p .from) (p .bytes)))))))))
 
 -- "Every row but scxml must state an id, else 12 at its "<"." (1.9)
 unfoldable pub tagFaults : List (List ℕ) → Markup → List ℕ
 tagFaults ids t =
-    cond (isClosing (t .shape)) []
-    (faultIf (isRowTag (t .element) && not (states 26 (t .parts))) (t .at) ++ flat (partFaults ids (t .element)) (t .parts))
+    faultIf (not (isClosing (t .shape)) && isRowTag (t .element) && not (states idWord (t .parts))) (t .at) ++ flat (partFaults ids) (t .parts)
 
 -- all of them, by references to all rows of the text
 unfoldable pub faults : List Markup → List ℕ
 faults ts = flat (tagFaults (idsOf ts)) ts
 
+abbrev pub smaller : ℕ → Option ℕ → ℕ
+smaller a none = a
+smaller a (some b) = cond (leb a b) a b
+
 unfoldable pub least : List ℕ → Option ℕ
 least [] = none
 least (x ∷ xs) = some (smaller x (least xs))
-  where
-    smaller : ℕ → Option ℕ → ℕ
-    smaller a none = a
-    smaller a (some b) = cond (leb a b) a b
 
 -- "12 with the byte offset of the first fault" (1.7)
 unfoldable pub firstFault : List Markup → Option ℕ

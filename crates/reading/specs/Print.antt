@@ -8,6 +8,7 @@ use lib.Dec.{eqb, leb}
 use lib.ListN.{length, getD}
 use Rattle.definition.specs.Rows.{flat, isEmpty, from}
 use Rattle.definition.specs.Tables.{noNumber}
+use Rattle.reading.specs.Faults.{internal, deep}
 use Rattle.reading.specs.Content.{Act, raises, hosts, ifIn, elseifIn, otherwise, endIf, sends, cancels, Row, Transition, Content, ofSource}
 
 -- a number in decimal, of at most ten digits
@@ -107,7 +108,7 @@ conditionText rs (some i) = condition rs i
 unfoldable pub transitionText : List Row → Transition → List ℕ
 transitionText rs t =
     element (116 ∷ 114 ∷ 97 ∷ 110 ∷ 115 ∷ 105 ∷ 116 ∷ 105 ∷ 111 ∷ 110 ∷ [])
-    (cond (t .internal) ((32 ∷ 116 ∷ 121 ∷ 112 ∷ 101 ∷ 61 ∷ []) ++ quoted (105 ∷ 110 ∷ 116 ∷ 101 ∷ 114 ∷ 110 ∷ 97 ∷ 108 ∷ [])) [] ++ given (32 ∷ 101 ∷ 118 ∷ 101 ∷ 110 ∷ 116 ∷ 61 ∷ []) (spaced (t .descriptors)) ++ conditionText rs (t .condition) ++ given (32 ∷ 116 ∷ 97 ∷ 114 ∷ 103 ∷ 101 ∷ 116 ∷ 61 ∷ []) (idsText rs (t .targets)))
+    (cond (t .internal) ((32 ∷ 116 ∷ 121 ∷ 112 ∷ 101 ∷ 61 ∷ []) ++ quoted internal) [] ++ given (32 ∷ 101 ∷ 118 ∷ 101 ∷ 110 ∷ 116 ∷ 61 ∷ []) (spaced (t .descriptors)) ++ conditionText rs (t .condition) ++ given (32 ∷ 116 ∷ 97 ∷ 114 ∷ 103 ∷ 101 ∷ 116 ∷ 61 ∷ []) (idsText rs (t .targets)))
     (blockText rs (t .block))
 
 -- onentry, onexit: if there is something in them
@@ -149,7 +150,7 @@ initialText rs r = cond (isHistoryKind (r .kind) || isElementList r) [] (given (
 abbrev pub attributesOf : List Row → Row → List ℕ
 attributesOf rs r =
     cond (eqb (r .kind) 0) (32 ∷ 120 ∷ 109 ∷ 108 ∷ 110 ∷ 115 ∷ 61 ∷ 34 ∷ 104 ∷ 116 ∷ 116 ∷ 112 ∷ 58 ∷ 47 ∷ 47 ∷ 119 ∷ 119 ∷ 119 ∷ 46 ∷ 119 ∷ 51 ∷ 46 ∷ 111 ∷ 114 ∷ 103 ∷ 47 ∷ 50 ∷ 48 ∷ 48 ∷ 53 ∷ 47 ∷ 48 ∷ 55 ∷ 47 ∷ 115 ∷ 99 ∷ 120 ∷ 109 ∷ 108 ∷ 34 ∷ 32 ∷ 118 ∷ 101 ∷ 114 ∷ 115 ∷ 105 ∷ 111 ∷ 110 ∷ 61 ∷ 34 ∷ 49 ∷ 46 ∷ 48 ∷ 34 ∷ []) [] ++
-    given (32 ∷ 105 ∷ 100 ∷ 61 ∷ []) (r .id) ++ initialText rs r ++ cond (eqb (r .kind) 5) ((32 ∷ 116 ∷ 121 ∷ 112 ∷ 101 ∷ 61 ∷ []) ++ quoted (100 ∷ 101 ∷ 101 ∷ 112 ∷ [])) []
+    given (32 ∷ 105 ∷ 100 ∷ 61 ∷ []) (r .id) ++ initialText rs r ++ cond (eqb (r .kind) 5) ((32 ∷ 116 ∷ 121 ∷ 112 ∷ 101 ∷ 61 ∷ []) ++ quoted deep) []
 
 -- an open row: its number and its end tag's name
 pub record Around : Type 0 where

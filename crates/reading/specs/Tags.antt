@@ -9,8 +9,9 @@ use Rattle.reading.specs.declared.Zone.{Zone}
 use Rattle.reading.specs.declared.Zone.the-variants as zones
 use Rattle.reading.specs.Zones.{zone, landing, isBegun, isValue, elementIn}
 
--- an attribute as it stands: the word of its name, the offset of its value's first byte, the bytes between the quotes
+-- an attribute as it stands: its element, the word of its name, the offset of its value's first byte, the bytes between the quotes
 pub record Part : Type 0 where
+  pub element : ℕ
   pub word : ℕ
   pub from : ℕ
   pub bytes : List ℕ
@@ -53,7 +54,7 @@ pub record Draft : Type 0 where
 
 -- a value that has ended is a part of its tag
 abbrev pub partsOf : Zone → Zone → Draft → List Part
-partsOf z y d = cond (isValue z && not (isValue y)) (d .parts ++ (record { word = wordIn z; from = d .from; bytes = d .bytes }) ∷ []) (d .parts)
+partsOf z y d = cond (isValue z && not (isValue y)) (d .parts ++ (record { element = elementIn z 48; word = wordIn z; from = d .from; bytes = d .bytes }) ∷ []) (d .parts)
 
 -- the byte b at offset i led from z to y
 unfoldable pub noted : Zone → Zone → ℕ → ℕ → Draft → Draft
