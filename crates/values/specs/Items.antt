@@ -8,11 +8,11 @@ use native.Mathlib.Omega.{arith}
 use native.Mathlib.Numerals.{add-one}
 use lib.Dec.{eqb, leb, ltb}
 use lib.ListN.{length, getD, take, drop, drop-of-length-le, length-drop}
-use lib.Seq.{drop-cons, drop-drop, length-take-le}
+use lib.Seq.{drop-cons, drop-drop}
 use borrow.Author.Tests.{le-leb, leb-true, lt-ltb, le-ltb}
 use Rattle.grammar.specs.Grammar.{isSpace}
 use Rattle.definition.specs.Rows.{flat}
-use Rattle.reading.specs.Faults.{Item, goesOn, grown, itemsAt, faultIf, longFault, smaller, least}
+use Rattle.reading.specs.Faults.{Item, goesOn, grown, itemsAt, faultIf, isAmong, longFault, referenceFault, smaller, least}
 use Rattle.values.specs.declared.Fault.{Fault}
 use Rattle.values.specs.declared.Fault.the-variants.{Nothing, At}
 
@@ -140,12 +140,16 @@ unfoldable allAbove : ℕ → List ℕ → Bool
 allAbove x [] = true
 allAbove x (y ∷ ys) = leb x y && allAbove x ys
 
-faults-above : (x : ℕ) (l : List Item) → allFrom x l ≡ true → allAbove x (flat longFault l) ≡ true
+-- the names that fail a test, by their offsets
+abbrev faultBy : (Item → Bool) → Item → List ℕ
+faultBy bad x = faultIf (bad x) (x .from)
+
+faults-above : (bad : Item → Bool) (x : ℕ) (l : List Item) → allFrom x l ≡ true → allAbove x (flat (faultBy bad) l) ≡ true
 unfolding allFrom allAbove flat
-faults-above x [] a = refl
-faults-above x (y ∷ ys) a = by (ltb 63 (length (y .bytes))) (faults-above x ys (and-right (leb x (y .from)) (allFrom x ys) a)) (and-left (leb x (y .from)) (allFrom x ys) a)
+faults-above bad x [] a = refl
+faults-above bad x (y ∷ ys) a = by (bad y) (faults-above bad x ys (and-right (leb x (y .from)) (allFrom x ys) a)) (and-left (leb x (y .from)) (allFrom x ys) a)
   where
-    by : (z : Bool) → allAbove x (flat longFault ys) ≡ true → leb x (y .from) ≡ true → allAbove x (faultIf z (y .from) ++ flat longFault ys) ≡ true
+    by : (z : Bool) → allAbove x (flat (faultBy bad) ys) ≡ true → leb x (y .from) ≡ true → allAbove x (faultIf z (y .from) ++ flat (faultBy bad) ys) ≡ true
     by true h l = rw l h
     by false h l = h
 
@@ -168,79 +172,132 @@ least-first x (y ∷ ys) a =
 
 -- ---- the search
 
--- the least fault of the value is that of what is left
-pub record Searching (v : List ℕ) (from i : ℕ) : Type 0 where
-  pub inside : i ≤ length v
-  pub left : least (flat longFault (itemsAt from v)) ≡ least (flat longFault (itemsAt (from + i) (drop i v)))
+-- a name is too long, or it should refer to a row and does not
+abbrev pub isBad : Bool → List (List ℕ) → List ℕ → Bool
+isBad refers ids name = ltb 63 (length name) || (refers && not (isAmong name ids))
 
-pub search-start : (v : List ℕ) (from : ℕ) → Searching v from 0
-search-start v from = record { inside = omega arith; left = ap (λ (n : ℕ). least (flat longFault (itemsAt n v))) (zero-right from) }
-  where
-    zero-right : (n : ℕ) → n ≡ n + 0
-    zero-right n = omega arith
+pub bad-long : (refers : Bool) (ids : List (List ℕ)) (name : List ℕ) → 63 < length name → true ≡ isBad refers ids name
+bad-long refers ids name l = rw (lt-ltb 63 (length name) l) refl
 
-module _ (v : List ℕ) (from i : ℕ) (k : Searching v from i) where
-  pub search-space : (space : Bool) → i < length v → space ≡ isSpace (getD v i 0) → space ≡ true → Searching v from (i + 1)
-  unfolding itemsAt
-  search-space space h e q =
-      let on : suc (from + i) ≡ from + (i + 1) = omega arith in
-      record {
-        inside = omega arith;
-        left =
-            k .left ∙ ap (λ (l : List ℕ). least (flat longFault (itemsAt (from + i) l))) (at-i v i h) ∙
-            rw (sym e ∙ q) (ap (λ (n : ℕ). least (flat longFault (itemsAt n (drop (i + 1) v)))) on);
-      }
+pub bad-unknown : (refers known : Bool) (ids : List (List ℕ)) (name : List ℕ) → length name ≤ 63 → refers ≡ true → known ≡ isAmong name ids → not known ≡ isBad refers ids name
+bad-unknown refers known ids name l r k = rw (le-ltb 63 (length name) l, r, ← k) refl
 
-  module _ (space : Bool) (j : ℕ) (h : i < length v) (e : space ≡ isSpace (getD v i 0)) (q : space ≡ false) (to : j ≡ i + spread (drop i v)) where
-    -- the name at i and those behind it
-    split : least (flat longFault (itemsAt from v)) ≡ least (longFault (firstItem (from + i) (drop i v)) ++ flat longFault (otherItems (from + i) (drop i v)))
-    unfolding flat
-    split =
-        let b = getD v i 0 in
-        let bs = drop (i + 1) v in
-        k .left ∙
-        subst
-        (λ (l : List ℕ). least (flat longFault (itemsAt (from + i) l)) ≡ least (longFault (firstItem (from + i) l) ++ flat longFault (otherItems (from + i) l)))
-        (sym (at-i v i h)) (ap (λ (l : List Item). least (flat longFault l)) (first-item bs (from + i) b (sym e ∙ q)))
+pub bad-none : (refers : Bool) (ids : List (List ℕ)) (name : List ℕ) → length name ≤ 63 → refers ≡ false → false ≡ isBad refers ids name
+bad-none refers ids name l r = rw (le-ltb 63 (length name) l, r) refl
 
-    long-is : length (take (spread (drop i v)) (drop i v)) ≡ j - i
-    long-is =
-        let s = spread (drop i v) in
-        length-take-le s (drop i v) (spread-inside (drop i v)) ∙ omega arith
+abbrev isBadItem : Bool → List (List ℕ) → Item → Bool
+isBadItem refers ids x = isBad refers ids (x .bytes)
 
-    pub search-found : 63 < j - i → At (from + i) ≡ foundOf (least (flat longFault (itemsAt from v)))
-    search-found l =
-        let xs = otherItems (from + i) (drop i v) in
-        let bad : ltb 63 (length (take (spread (drop i v)) (drop i v))) ≡ true = ap (λ (n : ℕ). ltb 63 n) long-is ∙ lt-ltb 63 (j - i) l in
-        let later : allAbove (from + i) (flat longFault xs) ≡ true =
-        faults-above (from + i) xs (items-from (drop (spread (drop i v)) (drop i v)) (from + i) (from + i + spread (drop i v)) (omega arith)) in
-        let is : least (flat longFault (itemsAt from v)) ≡ some (from + i) = split ∙ rw bad (least-first (from + i) (flat longFault xs) later) in
-        sym (ap foundOf is)
+-- "a name or descriptor over 63 bytes", "A reference to an id .. that does not exist" (1.10)
+abbrev pub itemFault : Bool → List (List ℕ) → Item → List ℕ
+itemFault true ids x = referenceFault ids x
+itemFault false ids x = longFault x
 
-    pub search-on : j - i ≤ 63 → Searching v from j
-    search-on l =
-        let s = spread (drop i v) in
-        let good : ltb 63 (length (take s (drop i v))) ≡ false = ap (λ (n : ℕ). ltb 63 n) long-is ∙ le-ltb 63 (j - i) l in
-        let on : from + i + s ≡ from + j = omega arith in
-        let in-rest : s ≤ length (drop i v) = spread-inside (drop i v) in
-        let rest : length (drop i v) ≡ length v - i = length-drop i v in
+abbrev pub itemFaults : Bool → List (List ℕ) → ℕ → List ℕ → Option ℕ
+itemFaults refers ids from v = least (flat (itemFault refers ids) (itemsAt from v))
+
+or-false : (a : Bool) → a ≡ (a || false)
+or-false true = refl
+or-false false = refl
+
+same-fault : (refers : Bool) (ids : List (List ℕ)) (x : Item) → itemFault refers ids x ≡ faultBy (isBadItem refers ids) x
+same-fault true ids x = refl
+same-fault false ids x = ap (λ (z : Bool). faultIf z (x .from)) (or-false (ltb 63 (length (x .bytes))))
+
+same-faults : (refers : Bool) (ids : List (List ℕ)) (l : List Item) → flat (itemFault refers ids) l ≡ flat (faultBy (isBadItem refers ids)) l
+unfolding flat
+same-faults refers ids [] = refl
+same-faults refers ids (x ∷ xs) =
+    ap (λ (l : List ℕ). l ++ flat (itemFault refers ids) xs) (same-fault refers ids x) ∙ ap (λ (l : List ℕ). faultBy (isBadItem refers ids) x ++ l) (same-faults refers ids xs)
+
+module _ (refers : Bool) (ids : List (List ℕ)) where
+  abbrev bad : Item → Bool
+  bad = isBadItem refers ids
+
+  -- the least fault of the value is that of what is left
+  pub record Searching (v : List ℕ) (from i : ℕ) : Type 0 where
+    pub inside : i ≤ length v
+    pub left : itemFaults refers ids from v ≡ least (flat (faultBy (isBadItem refers ids)) (itemsAt (from + i) (drop i v)))
+
+  pub search-start : (v : List ℕ) (from : ℕ) → Searching v from 0
+  search-start v from =
+      record { inside = omega arith; left = ap least (same-faults refers ids (itemsAt from v)) ∙ ap (λ (n : ℕ). least (flat (faultBy bad) (itemsAt n v))) (zero-right from) }
+    where
+      zero-right : (n : ℕ) → n ≡ n + 0
+      zero-right n = omega arith
+
+  module _ (v : List ℕ) (from i : ℕ) (k : Searching v from i) where
+    pub search-space : (space : Bool) → i < length v → space ≡ isSpace (getD v i 0) → space ≡ true → Searching v from (i + 1)
+    unfolding itemsAt
+    search-space space h e q =
+        let on : suc (from + i) ≡ from + (i + 1) = omega arith in
         record {
           inside = omega arith;
           left =
-              split ∙ rw good
-              (ap (λ (l : List ℕ). least (flat longFault (itemsAt (from + i + s) l))) (drop-drop s i v ∙ ap (λ (n : ℕ). drop n v) (sym to)) ∙
-              ap (λ (n : ℕ). least (flat longFault (itemsAt n (drop j v)))) on);
+              k .left ∙ ap (λ (l : List ℕ). least (flat (faultBy bad) (itemsAt (from + i) l))) (at-i v i h) ∙
+              rw (sym e ∙ q) (ap (λ (n : ℕ). least (flat (faultBy bad) (itemsAt n (drop (i + 1) v)))) on);
         }
 
-    pub search-further : i < j
-    unfolding spread
-    search-further =
-        let some-byte : spread (drop i v) ≡ suc (spread (drop (i + 1) v)) = ap spread (at-i v i h) ∙ rw (sym e ∙ q) refl in
-        omega arith
+    module _ (space : Bool) (j : ℕ) (h : i < length v) (e : space ≡ isSpace (getD v i 0)) (q : space ≡ false) (to : j ≡ i + spread (drop i v)) where
+      -- the name at i and those behind it
+      split : itemFaults refers ids from v ≡ least (faultBy bad (firstItem (from + i) (drop i v)) ++ flat (faultBy bad) (otherItems (from + i) (drop i v)))
+      unfolding flat
+      split =
+          let b = getD v i 0 in
+          let bs = drop (i + 1) v in
+          k .left ∙
+          subst
+          (λ (l : List ℕ). least (flat (faultBy bad) (itemsAt (from + i) l)) ≡ least (faultBy bad (firstItem (from + i) l) ++ flat (faultBy bad) (otherItems (from + i) l)))
+          (sym (at-i v i h)) (ap (λ (l : List Item). least (flat (faultBy bad) l)) (first-item bs (from + i) b (sym e ∙ q)))
 
-    pub search-less : length v - j < length v - i
-    search-less = let l = search-further in omega arith
+      -- the test of the name at i
+      test : (b : Bool) → b ≡ isBad refers ids (take (j - i) (drop i v)) → bad (firstItem (from + i) (drop i v)) ≡ b
+      test b e = let one : spread (drop i v) ≡ j - i = omega arith in ap (λ (n : ℕ). isBad refers ids (take n (drop i v))) one ∙ sym e
 
-  pub search-end : length v ≤ i → Nothing ≡ foundOf (least (flat longFault (itemsAt from v)))
-  unfolding itemsAt flat least
-  search-end h = sym (ap foundOf (k .left ∙ ap (λ (l : List ℕ). least (flat longFault (itemsAt (from + i) l))) (drop-of-length-le v h)))
+      found : bad (firstItem (from + i) (drop i v)) ≡ true → At (from + i) ≡ foundOf (itemFaults refers ids from v)
+      found is-bad =
+          let xs = otherItems (from + i) (drop i v) in
+          let later : allAbove (from + i) (flat (faultBy bad) xs) ≡ true =
+          faults-above bad (from + i) xs (items-from (drop (spread (drop i v)) (drop i v)) (from + i) (from + i + spread (drop i v)) (omega arith)) in
+          let is : itemFaults refers ids from v ≡ some (from + i) =
+          split ∙ ap (λ (z : Bool). least (faultIf z (from + i) ++ flat (faultBy bad) xs)) is-bad ∙ least-first (from + i) (flat (faultBy bad) xs) later in
+          sym (ap foundOf is)
+
+      pub search-found : (b : Bool) → b ≡ isBad refers ids (take (j - i) (drop i v)) → b ≡ true → At (from + i) ≡ foundOf (itemFaults refers ids from v)
+      search-found b e t = found (test b e ∙ t)
+
+      on-from : bad (firstItem (from + i) (drop i v)) ≡ false → Searching v from j
+      on-from good =
+          let s = spread (drop i v) in
+          let on : from + i + s ≡ from + j = omega arith in
+          let in-rest : s ≤ length (drop i v) = spread-inside (drop i v) in
+          let rest : length (drop i v) ≡ length v - i = length-drop i v in
+          record {
+            inside = omega arith;
+            left =
+                split ∙ ap (λ (z : Bool). least (faultIf z (from + i) ++ flat (faultBy bad) (otherItems (from + i) (drop i v)))) good ∙
+                ap (λ (l : List ℕ). least (flat (faultBy bad) (itemsAt (from + i + s) l))) (drop-drop s i v ∙ ap (λ (n : ℕ). drop n v) (sym to)) ∙
+                ap (λ (n : ℕ). least (flat (faultBy bad) (itemsAt n (drop j v)))) on;
+          }
+
+      pub search-on : (b : Bool) → b ≡ isBad refers ids (take (j - i) (drop i v)) → b ≡ false → Searching v from j
+      search-on b e t = on-from (test b e ∙ t)
+
+      pub search-further : i < j
+      unfolding spread
+      search-further =
+          let some-byte : spread (drop i v) ≡ suc (spread (drop (i + 1) v)) = ap spread (at-i v i h) ∙ rw (sym e ∙ q) refl in
+          omega arith
+
+      pub search-within : j ≤ length v
+      search-within =
+          let in-rest : spread (drop i v) ≤ length (drop i v) = spread-inside (drop i v) in
+          let rest : length (drop i v) ≡ length v - i = length-drop i v in
+          omega arith
+
+      pub search-less : length v - j < length v - i
+      search-less = let l = search-further in omega arith
+
+    pub search-end : length v ≤ i → Nothing ≡ foundOf (itemFaults refers ids from v)
+    unfolding itemsAt flat least
+    search-end h = sym (ap foundOf (k .left ∙ ap (λ (l : List ℕ). least (flat (faultBy bad) (itemsAt (from + i) l))) (drop-of-length-le v h)))

@@ -1,3 +1,4 @@
 pub mod Plain
 pub mod Decimals
 pub mod Items
+pub mod Ids

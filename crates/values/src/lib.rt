@@ -3,10 +3,11 @@
 ghost use mathlib.Core.Path.{_≡_};
 ghost use mathlib.Core.Bool.{true};
 ghost use Prim.Native.Nat.{_+_, _*_, _-_, _≤_, _<_};
-ghost use lib.ListN.{length, drop};
-ghost use Rattle.definition.specs.Rows.{same, flat};
-ghost use Rattle.reading.specs.Faults.{plain, namespace, versionText, typesOf, isAmong, isDigit, isDecimal, itemsAt, longFault, least};
-ghost use Rattle.values.specs.Items.{spread, foundOf};
+ghost use lib.ListN.{length, getD, drop};
+ghost use Rattle.definition.specs.Rows.{same};
+ghost use Rattle.reading.specs.Faults.{plain, namespace, versionText, typesOf, isAmong, isDigit, isDecimal};
+ghost use Rattle.values.specs.Items.{spread, foundOf, isBad, itemFaults};
+ghost use Rattle.values.specs.Ids.{Noted, idsFrom};
 use names::equal;
 use scan::is_space;
 
@@ -97,10 +98,64 @@ pub enum Fault {
     At(usize),
 }
 
-// "a name or descriptor over 63 bytes": the first one of a value whose first byte has the offset from.
-pub fn long_item(value: &[u8], from: usize) -> Fault
-    requires { ⌜ from + length (now value) ≤ 32768 ⌝ }
-    ensures { λ r. ⌜ r ≡ foundOf (least (flat longFault (itemsAt from (now (value .entry))))) ⌝ }
+fn wide(x: u16) -> usize
+    ensures { λ r. ⌜ r ≡ x ⌝ }
+{
+    x as usize
+}
+
+fn number_at(numbers: &[u16], i: usize) -> usize
+    requires { ⌜ i < length (now numbers) ⌝ }
+    ensures { λ r. ⌜ r ≡ getD (now (numbers .entry)) i 0 ⌝ }
+{
+    wide(numbers[i])
+}
+
+// Is the name the id of a row: the first n ids of the text are noted by place and length.
+pub fn is_id(text: &[u8], ids: &[u16], n: usize, name: &[u8]) -> bool
+    requires { ⌜ Noted (now text) (now ids) n ⌝ }
+    ensures { λ r. ⌜ r ≡ isAmong (now (name .entry)) (idsFrom (now (text .entry)) (now (ids .entry)) n 0) ⌝ }
+{
+    let mut k = 0;
+    while k < n {
+        let at = number_at(ids, k * 2);
+        let long = number_at(ids, k * 2 + 1);
+        let to = at + long;
+        let here = equal(name, &text[at..to]);
+        if here {
+            return true;
+        }
+        k += 1;
+    }
+    false
+}
+
+// "a name or descriptor over 63 bytes", or, if the name refers to a row, "A reference to an id .. that does not exist".
+fn is_bad(text: &[u8], ids: &[u16], n: usize, refers: bool, name: &[u8]) -> bool
+    requires { ⌜ Noted (now text) (now ids) n ⌝ }
+    ensures { λ r. ⌜ r ≡ isBad refers (idsFrom (now (text .entry)) (now (ids .entry)) n 0) (now (name .entry)) ⌝ }
+{
+    if 63 < name.len() {
+        return true;
+    }
+    if refers {
+        let known = is_id(text, ids, n, name);
+        return !known;
+    }
+    false
+}
+
+// The first such name of a value whose first byte has the offset from.
+pub fn item_fault(
+    text: &[u8],
+    ids: &[u16],
+    n: usize,
+    refers: bool,
+    value: &[u8],
+    from: usize,
+) -> Fault
+    requires { ⌜ (from + length (now value) ≤ 32768) × Noted (now text) (now ids) n ⌝ }
+    ensures { λ r. ⌜ r ≡ foundOf (itemFaults refers (idsFrom (now (text .entry)) (now (ids .entry)) n 0) from (now (value .entry))) ⌝ }
 {
     let mut i = 0;
     while i < value.len() {
@@ -110,7 +165,8 @@ pub fn long_item(value: &[u8], from: usize) -> Fault
             continue;
         }
         let j = item_end(value, i);
-        if 63 < j - i {
+        let bad = is_bad(text, ids, n, refers, &value[i..j]);
+        if bad {
             return Fault::At(from + i);
         }
         i = j;
