@@ -3,7 +3,6 @@
 -- Words, elements, attributes, entities and levels are numbers; Tables has them. 48 is no word, 4 no attribute.
 use mathlib.Core.Bool.{Bool, true, false, not, _&&_, _||_, cond}
 use mathlib.Core.List.{List, [], _∷_}
-use mathlib.Core.Option.{Option, none, some}
 use Prim.Native.Nat.{ℕ, zero, suc, _+_, _*_}
 use lib.Dec.{eqb, leb}
 use lib.ListN.{getD, take, length}

@@ -1,8 +1,8 @@
 -- The marks of a text, grouped, are its tags: what the code walks over is what the definition speaks of, for every text.
 use mathlib.Core.Path.{_≡_, refl, sym, ap, subst, _∙_}
-use mathlib.Core.Bool.{Bool, true, false, not, _&&_, cond}
+use mathlib.Core.Bool.{Bool, true, false, _&&_, cond}
 use mathlib.Core.List.{List, [], _∷_, _++_}
-use Prim.Native.Nat.{ℕ, zero, suc, _+_, _-_, _≤_, _<_}
+use Prim.Native.Nat.{ℕ, zero, suc, _+_, _-_, _≤_}
 use native.Mathlib.Omega.{arith}
 use native.Mathlib.Numerals.{add-one}
 use lib.ListN.{take, drop}
@@ -12,13 +12,12 @@ use Rattle.grammar.specs.declared.Place.the-variants as places
 use Rattle.grammar.specs.declared.Step.{Step}
 use Rattle.grammar.specs.declared.Step.the-variants.{Fault, Go, Open, Shut}
 use lib.Dec.{eqb}
-use Rattle.grammar.specs.Grammar.{isChar, attribute, added, owner, kindOf, valueEnds, valueStep, valueStepAt, valueAt, entityAt, entityStep, wordByte, pick, stepOf, State, dead, live, left, moved, next, start}
+use Rattle.grammar.specs.Grammar.{isChar, attribute, added, kindOf, valueEnds, valueStep, valueStepAt, valueAt, entityAt, entityStep, wordByte, pick, stepOf, State, dead, live, moved, next, start}
 use Rattle.reading.specs.declared.Zone.{Zone}
 use Rattle.reading.specs.declared.Zone.the-variants as zones
-use Rattle.reading.specs.Zones.{zone, landing, isBegun, isValue, elementIn}
-use Rattle.reading.specs.Tags.{Part, Markup, Draft, isSlash, noted, emitted, behind, tagsFrom, noDraft, tagsOf}
+use Rattle.reading.specs.Zones.{zone, landing, isValue}
+use Rattle.reading.specs.Tags.{Part, Markup, Draft, noted, emitted, behind, tagsFrom, noDraft, tagsOf}
 use Rattle.marks.specs.declared.Mark.{Mark}
-use Rattle.marks.specs.declared.Mark.the-variants.{Nothing, Valued, Tagged}
 use Rattle.marks.specs.Marks.{markOf, marked, marksFrom, marksOf}
 use Rattle.marks.specs.Grouped.{bytesFrom, grouped}
 

@@ -1,8 +1,8 @@
 -- The walk over the marks, as the code's loop asks.
-use mathlib.Core.Path.{_≡_, refl, sym, ap, subst, _∙_}
-use mathlib.Core.Bool.{Bool, true, false, not, _&&_, cond}
+use mathlib.Core.Path.{_≡_, refl, sym, ap, _∙_}
+use mathlib.Core.Bool.{Bool, true, false, not, cond}
 use mathlib.Core.List.{List, [], _∷_}
-use Prim.Native.Nat.{ℕ, suc, _+_, _-_, _≤_, _<_}
+use Prim.Native.Nat.{ℕ, _+_, _≤_, _<_}
 use native.Mathlib.Omega.{arith}
 use native.Mathlib.Numerals.{add-one}
 use lib.ListN.{length, getD, drop, drop-of-length-le}
@@ -13,16 +13,15 @@ use Rattle.grammar.specs.declared.Place.the-variants as places
 use Rattle.grammar.specs.declared.Step.{Step}
 use Rattle.grammar.specs.declared.Step.the-variants as steps
 use Rattle.markup.specs.declared.Cursor.{Cursor}
-use Rattle.grammar.specs.Grammar.{isChar, attribute, owner, stepOf, State, dead, live, next}
+use Rattle.grammar.specs.Grammar.{isChar, stepOf, dead, live}
 use Rattle.markup.specs.Growth.{wordAt}
-use Rattle.markup.specs.Stack.{levels, stateAt, stateOf, Landed, Stepped, by-advance}
+use Rattle.markup.specs.Stack.{levels, stateAt, stateOf, Landed, by-advance}
 use Rattle.reading.specs.declared.Zone.{Zone}
-use Rattle.reading.specs.declared.Zone.the-variants as zones
 use Rattle.marks.specs.declared.Mark.{Mark}
 use Rattle.marks.specs.declared.Mark.the-variants.{Nothing, Valued, Tagged}
 use Rattle.marks.specs.declared.Walk.{Walk}
 use Rattle.reading.specs.Zones.{zone, landing, isBegun, isValue, elementIn}
-use Rattle.marks.specs.Marks.{slashMark, endMark, valueMark, markOf, marked, isMark, beganAt, marksFrom}
+use Rattle.marks.specs.Marks.{markOf, marked, isMark, marksFrom}
 
 -- what is left of the marks
 abbrev pub restOf : List ℕ → List ℕ → Walk → List Mark

@@ -1,20 +1,20 @@
 -- A pass over the text: what is left of the definition equals the whole.
 use mathlib.Core.Path.{_≡_, refl, sym, ap, _∙_}
-use mathlib.Core.Bool.{Bool, true, false, not, _&&_, cond}
+use mathlib.Core.Bool.{Bool, true, false, not, _&&_}
 use mathlib.Core.List.{List, [], _∷_}
-use Prim.Native.Nat.{ℕ, zero, suc, _+_, _-_, _≤_, _<_}
+use Prim.Native.Nat.{ℕ, suc, _+_, _≤_, _<_}
 use native.Mathlib.Omega.{arith}
 use native.Mathlib.Numerals.{add-one}
 use lib.Dec.{eqb, leb}
 use lib.ListN.{length, getD, take, drop, length-take, drop-of-length-le}
-use lib.Seq.{drop-cons, getD-take, length-take-le}
+use lib.Seq.{drop-cons, getD-take}
 use borrow.Author.Tests.{le-leb, lt-leb, not-false}
 use Rattle.grammar.specs.declared.Place.{Place}
 use Rattle.grammar.specs.declared.Place.the-variants.{Content}
 use Rattle.markup.specs.declared.Cursor.{Cursor}
 use Rattle.markup.specs.Growth.{wordAt}
 use Rattle.markup.specs.Stack.{levels, stateAt, stateOf, Stepped}
-use Rattle.grammar.specs.Grammar.{State, dead, live, next, run, start, isContent, accepts, isText, isDead, liveBytes, mostBytes, grammarFault, inGrammar}
+use Rattle.grammar.specs.Grammar.{State, dead, live, next, run, start, isContent, accepts, isText, isDead, liveBytes, grammarFault, inGrammar}
 
 pub record Reached (text : List ℕ) (i : ℕ) (s : State) : Type 0 where
   pub counted : liveBytes start (take 32768 text) ≡ i + liveBytes s (drop i (take 32768 text))

@@ -2,13 +2,13 @@
 use mathlib.Core.Bool.{Bool, true, false, not, _&&_, _||_, cond}
 use mathlib.Core.List.{List, [], _∷_, _++_, map}
 use mathlib.Core.Option.{Option, none, some}
-use Prim.Native.Nat.{ℕ, zero, suc, _+_}
+use Prim.Native.Nat.{ℕ, suc}
 use lib.Dec.{eqb, leb}
 use lib.ListN.{length}
-use Rattle.definition.specs.Rows.{same, flat, isEmpty, from}
+use Rattle.definition.specs.Rows.{same, flat, from}
 use Rattle.definition.specs.Tables.{noNumber}
-use Rattle.reading.specs.Tags.{Part, Shape, opening, empty, closing, Markup}
-use Rattle.reading.specs.Faults.{namesIn, plain, inner, decimal, idWord, initialWord, typeWord, eventWord, condWord, targetWord, labelWord, delayWord, sendidWord, states, valueOf, isRowTag, idsOf, isAmong, internal as internalText, deep as deepText}
+use Rattle.reading.specs.Tags.{Part, opening, empty, closing, Markup}
+use Rattle.reading.specs.Faults.{namesIn, plain, inner, decimal, idWord, initialWord, typeWord, eventWord, condWord, targetWord, labelWord, delayWord, sendidWord, states, valueOf, idsOf, isAmong, internal as internalText, deep as deepText}
 
 -- actions: raise and log (1.1); if, elseif, else (R-5) and the end of an if are actions of the block that they stand in; send and cancel (R-9)
 pub data Act : Type 0 where

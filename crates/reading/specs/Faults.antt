@@ -3,10 +3,10 @@
 use mathlib.Core.Bool.{Bool, true, false, not, _&&_, _||_, cond}
 use mathlib.Core.List.{List, [], _∷_, _++_, map}
 use mathlib.Core.Option.{Option, none, some}
-use Prim.Native.Nat.{ℕ, zero, suc, _+_, _*_, _-_}
+use Prim.Native.Nat.{ℕ, suc, _+_, _*_, _-_}
 use lib.Dec.{eqb, leb, ltb}
 use lib.ListN.{length, getD, take, drop}
-use Rattle.definition.specs.Rows.{same, all, any, flat, isEmpty}
+use Rattle.definition.specs.Rows.{same, all, flat, isEmpty}
 use Rattle.grammar.specs.Grammar.{isSpace, isToken}
 use Rattle.reading.specs.Tags.{Part, Shape, opening, empty, closing, Markup}
 

@@ -1,15 +1,14 @@
 -- The tables of a content in one layout (docs/tables.md), and the answer to a text.
-use mathlib.Core.Bool.{Bool, true, false, not, _&&_, _||_, cond}
+use mathlib.Core.Bool.{cond}
 use mathlib.Core.List.{List, [], _∷_, _++_, map}
 use mathlib.Core.Option.{Option, none, some}
-use Prim.Native.Nat.{ℕ, zero, suc, _+_, _*_}
-use lib.Dec.{eqb, leb}
-use lib.ListN.{length, getD}
+use Prim.Native.Nat.{ℕ, zero, suc, _+_}
+use lib.Dec.{eqb}
+use lib.ListN.{length}
 use Rattle.definition.specs.Rows.{flat, isEmpty, from}
 use Rattle.definition.specs.Marked.{slotOf}
 use Rattle.definition.specs.Tables.{noNumber, rowCount, transitionCount, rowCell, transitionCell, actionCell, referencesAt, descriptorsAt, optional, nameAt}
 use Rattle.definition.specs.Rules.{keepsRules}
-use Rattle.definition.specs.declared.Answer.{Answer}
 use Rattle.definition.specs.Answers.{answerNo}
 use Rattle.grammar.specs.Grammar.{inGrammar, grammarFault}
 use Rattle.reading.specs.Tags.{Markup, tagsOf}

@@ -3,10 +3,9 @@
 use mathlib.Core.Bool.{Bool, true, false, not, _&&_, _||_, cond}
 use mathlib.Core.List.{List, [], _∷_, _++_, map}
 use mathlib.Core.Option.{Option, none, some}
-use Prim.Native.Nat.{ℕ, zero, suc, _+_, _*_, _/_, _%_}
+use Prim.Native.Nat.{ℕ, zero, suc, _+_, _/_, _%_}
 use lib.Dec.{eqb, leb}
-use lib.ListN.{length, getD}
-use Rattle.definition.specs.Rows.{flat, isEmpty, from}
+use Rattle.definition.specs.Rows.{flat, isEmpty}
 use Rattle.definition.specs.Tables.{noNumber}
 use Rattle.reading.specs.Faults.{internal, deep}
 use Rattle.reading.specs.Content.{Act, raises, hosts, ifIn, elseifIn, otherwise, endIf, sends, cancels, Row, Transition, Content, ofSource}

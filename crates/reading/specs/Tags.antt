@@ -1,7 +1,7 @@
 -- The tags of a text, found by the grammar's own steps: what a step notes depends on the place before it, the byte, and the place behind it.
-use mathlib.Core.Bool.{Bool, true, false, not, _&&_, _||_, cond}
+use mathlib.Core.Bool.{Bool, true, false, not, _&&_, cond}
 use mathlib.Core.List.{List, [], _∷_, _++_}
-use Prim.Native.Nat.{ℕ, zero, suc, _+_}
+use Prim.Native.Nat.{ℕ, _+_}
 use Rattle.grammar.specs.declared.Step.{Step}
 use Rattle.grammar.specs.declared.Step.the-variants.{Fault, Go, Open, Shut}
 use Rattle.grammar.specs.Grammar.{attribute, owner, isChar, stepOf, State, dead, live, next, start}

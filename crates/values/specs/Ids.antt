@@ -1,12 +1,12 @@
 -- Ids as places in a text: two numbers for each, where it begins and how long it is.
-use mathlib.Core.Path.{_≡_, refl, sym, ap, subst, _∙_}
-use mathlib.Core.Bool.{Bool, true, false, not, _&&_, _||_, cond}
-use mathlib.Core.List.{List, [], _∷_, _++_, map}
+use mathlib.Core.Path.{_≡_, refl, sym, ap, _∙_}
+use mathlib.Core.Bool.{Bool, true, false, _||_}
+use mathlib.Core.List.{List, [], _∷_}
 use Prim.Native.Nat.{ℕ, zero, suc, _+_, _*_, _-_, _^_, _≤_, _<_}
 use native.Mathlib.Omega.{arith}
 use native.Mathlib.Numerals.{add-one}
 use lib.ListN.{length, getD, take, drop}
-use Rattle.definition.specs.Rows.{same, from}
+use Rattle.definition.specs.Rows.{same}
 use Rattle.reading.specs.Faults.{isAmong}
 
 unfoldable pub idAt : List ℕ → List ℕ → ℕ → List ℕ

@@ -5,10 +5,10 @@ use mathlib.Core.List.{List, [], _∷_, _++_}
 use mathlib.Core.Option.{none, some}
 use Prim.Native.Nat.{ℕ}
 use native.Mathlib.Omega.{arith}
-use lib.Dec.{eqb, leb}
+use lib.Dec.{eqb}
 use borrow.Author.Tests.{eqb-true}
-use Rattle.definition.specs.Rows.{same, all, isEmpty}
-use Rattle.reading.specs.Faults.{entityByte, decoded, plain, namespace, versionText, typesOf, isAmong, external, internal, shallow, deep, isDigit, decimal, isDecimal}
+use Rattle.definition.specs.Rows.{same}
+use Rattle.reading.specs.Faults.{entityByte, decoded, plain, namespace, versionText, typesOf, isAmong, external, internal, shallow, deep}
 
 -- the bytes that entities stand for: & < > " '
 abbrev pub isMarkupByte : ℕ → Bool

@@ -1,32 +1,7 @@
 use Rattle.markup.specs.Arms.{at-content, at-less, at-bang, at-dash, at-comment, at-commentdash, at-commentend, at-name, at-tag, at-space, at-attribute, at-equals, at-quote, at-value, at-ampersand, at-entity, at-slash, at-end, at-close, fits-name, fits-attribute, fits-entity, fits-end}
 use borrow.Author.Needs.{needs}
-use borrow.Author.Tests.{eq-eqb, ne-eqb, eqb-true, eqb-false, not-true, not-false}
-use mathlib.Core.Path.{_≡_, refl, sym, ap, subst, _∙_}
-use mathlib.Core.Bool.{Bool, true, false, not, _&&_, _||_, cond}
-use Prim.Native.Nat.{ℕ, zero, suc, _+_, _*_, _-_, _≤_, _<_}
-use native.Mathlib.Omega.{arith}
-use lib.ListN.{length, getD}
-use Rattle.grammar.specs.Grammar.{isSpace, isChar, isToken, wordByte, agree, follows, pickFrom, pick, attribute, has, added, pickAttribute, isComplete, mayEnd, owner, after, opens, nameStep, valueStep, valueEnds, kindOf, contentStep, nameAt, lessStep, tagStep, nameStepAt, attributeAt, spaceStep, equalsStep, attributeStep, quoteStep, valueAt, valueStepAt, entityAt, entityStep, closeStep, endStep, only, stepOf}
 use Rattle.markup.proofs.advance.Statement.{statement}
 use Rattle.markup.proofs.advance.Tie as tie
-use Rattle.markup.proofs.advance.Reads as reads
-use Rattle.markup.proofs.advance.Lts as lts
-use Rattle.markup.proofs.tags.attribute_step.Reads as attribute-step-reads
-use Rattle.markup.proofs.tags.close_step.Reads as close-step-reads
-use Rattle.markup.proofs.tags.comment_step.Reads as comment-step-reads
-use Rattle.markup.proofs.tags.content_step.Reads as content-step-reads
-use Rattle.markup.proofs.tags.end_step.Reads as end-step-reads
-use Rattle.markup.proofs.values.entity_at.Reads as entity-at-reads
-use Rattle.markup.proofs.values.entity_step.Reads as entity-step-reads
-use Rattle.markup.proofs.tags.equals_step.Reads as equals-step-reads
-use Rattle.markup.proofs.values.in_value.Reads as in-value-reads
-use Rattle.markup.proofs.tags.less_step.Reads as less-step-reads
-use Rattle.markup.proofs.tags.name_step.Reads as name-step-reads
-use Rattle.markup.proofs.tags.only_byte.Reads as only-byte-reads
-use Rattle.markup.proofs.values.quote_step.Reads as quote-step-reads
-use Rattle.markup.proofs.tags.space_step.Reads as space-step-reads
-use Rattle.markup.proofs.tags.tag_step.Reads as tag-step-reads
-use Rattle.scan.proofs.pick_word.Reads as pick-word-reads
 
 enum-told : tie.Need-enum-told
 enum-told c = search needs

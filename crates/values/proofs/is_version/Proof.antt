@@ -1,26 +1,14 @@
 use borrow.Author.Needs.{needs}
 use Rattle.values.specs.Plain.{version-so}
-use mathlib.Core.Path.{_≡_, refl, sym, ap, subst, _∙_}
-use mathlib.Core.Bool.{true, false}
-use mathlib.Core.Logic.{⊎-elim}
-use Prim.Native.Nat.{ℕ, _+_, _-_, _≤_, _<_}
-use native.Mathlib.Omega.{arith}
-use lib.ListN.{length, getD}
 use Rattle.values.proofs.is_version.Statement.{statement}
 use Rattle.values.proofs.is_version.Tie as tie
-use Rattle.values.proofs.is_version.Reads as reads
-use Rattle.values.proofs.is_version.Lts as lts
-use Rattle.names.proofs.equal.Reads as equal-reads
 
--- src/lib.rt:24:18
 slice-aggregate-equal : tie.Need-slice-aggregate-equal
 slice-aggregate-equal c = search needs
 
--- src/lib.rt:24:5
 equal-requires : tie.Need-equal-requires
 equal-requires c κs = search needs
 
--- src/lib.rt:21:1
 returns : tie.Need-returns
 returns c = search (needs, version-so)
 

@@ -1,21 +1,8 @@
 use borrow.Author.Needs.{needs}
-use borrow.Author.Tests.{eq-eqb, ne-eqb, eqb-true, eqb-false, not-true, not-false}
-use mathlib.Core.Path.{_≡_, refl, sym, ap, subst, _∙_}
-use mathlib.Core.Bool.{Bool, true, false, not, _&&_, _||_, cond}
-use Prim.Native.Nat.{ℕ, zero, suc, _+_, _*_, _-_, _≤_, _<_}
-use native.Mathlib.Omega.{arith}
-use lib.ListN.{length, getD}
-use Rattle.grammar.specs.Grammar.{isSpace, isChar, isToken, wordByte, agree, follows, pickFrom, pick, attribute, has, added, pickAttribute, isComplete, mayEnd, owner, after, opens, nameStep, valueStep, valueEnds, kindOf, contentStep, nameAt, lessStep, tagStep, nameStepAt, attributeAt, spaceStep, equalsStep, attributeStep, quoteStep, valueAt, valueStepAt, entityAt, entityStep, closeStep, endStep, only, stepOf}
+use mathlib.Core.Path.{sym}
+use Rattle.grammar.specs.Grammar.{attributeStep}
 use Rattle.markup.proofs.tags.attribute_step.Statement.{statement}
 use Rattle.markup.proofs.tags.attribute_step.Tie as tie
-use Rattle.markup.proofs.tags.attribute_step.Reads as reads
-use Rattle.markup.proofs.tags.attribute_step.Lts as lts
-use Rattle.markup.proofs.tags.attribute_at.Reads as attribute-at-reads
-use Rattle.markup.proofs.tags.equals_step.Reads as equals-step-reads
-use Rattle.scan.proofs.attribute_of.Reads as attribute-of-reads
-use Rattle.scan.proofs.is_token.Reads as is-token-reads
-use Rattle.scan.proofs.pick_attribute.Reads as pick-attribute-reads
-use Rattle.scan.proofs.word_byte.Reads as word-byte-reads
 
 attribute-of-requires : tie.Need-attribute-of-requires
 attribute-of-requires c κs = search needs

@@ -1,19 +1,8 @@
 use borrow.Author.Needs.{needs}
-use borrow.Author.Tests.{eq-eqb, ne-eqb, eqb-true, eqb-false, not-true, not-false}
-use mathlib.Core.Path.{_≡_, refl, sym, ap, subst, _∙_}
-use mathlib.Core.Bool.{Bool, true, false, not, _&&_, _||_, cond}
-use Prim.Native.Nat.{ℕ, zero, suc, _+_, _*_, _-_, _≤_, _<_}
-use native.Mathlib.Omega.{arith}
-use lib.ListN.{length, getD}
-use Rattle.grammar.specs.Grammar.{isSpace, isChar, isToken, wordByte, agree, follows, pickFrom, pick, attribute, has, added, pickAttribute, isComplete, mayEnd, owner, after, opens, nameStep, valueStep, valueEnds, kindOf, contentStep, nameAt, lessStep, tagStep, nameStepAt, attributeAt, spaceStep, equalsStep, attributeStep, quoteStep, valueAt, valueStepAt, entityAt, entityStep, closeStep, endStep, only, stepOf}
+use mathlib.Core.Path.{sym}
+use Rattle.grammar.specs.Grammar.{tagStep}
 use Rattle.markup.proofs.tags.tag_step.Statement.{statement}
 use Rattle.markup.proofs.tags.tag_step.Tie as tie
-use Rattle.markup.proofs.tags.tag_step.Reads as reads
-use Rattle.markup.proofs.tags.tag_step.Lts as lts
-use Rattle.scan.proofs.is_complete.Reads as is-complete-reads
-use Rattle.scan.proofs.is_space.Reads as is-space-reads
-use Rattle.scan.proofs.may_end.Reads as may-end-reads
-use Rattle.scan.proofs.opened_by.Reads as opened-by-reads
 
 is-space-requires : tie.Need-is-space-requires
 is-space-requires c κs = search needs

@@ -1,20 +1,8 @@
 use borrow.Author.Needs.{needs}
-use borrow.Author.Tests.{eq-eqb, ne-eqb, eqb-true, eqb-false, not-true, not-false}
-use mathlib.Core.Path.{_≡_, refl, sym, ap, subst, _∙_}
-use mathlib.Core.Bool.{Bool, true, false, not, _&&_, _||_, cond}
-use Prim.Native.Nat.{ℕ, zero, suc, _+_, _*_, _-_, _≤_, _<_}
-use native.Mathlib.Omega.{arith}
-use lib.ListN.{length, getD}
-use Rattle.grammar.specs.Grammar.{isSpace, isChar, isToken, wordByte, agree, follows, pickFrom, pick, attribute, has, added, pickAttribute, isComplete, mayEnd, owner, after, opens, nameStep, valueStep, valueEnds, kindOf, contentStep, nameAt, lessStep, tagStep, nameStepAt, attributeAt, spaceStep, equalsStep, attributeStep, quoteStep, valueAt, valueStepAt, entityAt, entityStep, closeStep, endStep, only, stepOf}
+use mathlib.Core.Path.{sym}
+use Rattle.grammar.specs.Grammar.{valueStepAt}
 use Rattle.markup.proofs.values.in_value.Statement.{statement}
 use Rattle.markup.proofs.values.in_value.Tie as tie
-use Rattle.markup.proofs.values.in_value.Reads as reads
-use Rattle.markup.proofs.values.in_value.Lts as lts
-use Rattle.markup.proofs.values.value_at.Reads as value-at-reads
-use Rattle.markup.proofs.values.value_ends.Reads as value-ends-reads
-use Rattle.markup.proofs.values.value_step.Reads as value-step-reads
-use Rattle.scan.proofs.kind_of.Reads as kind-of-reads
-use Rattle.scan.proofs.with_it.Reads as with-it-reads
 
 kind-of-requires : tie.Need-kind-of-requires
 kind-of-requires c κs = search needs
