@@ -57,7 +57,7 @@ abbrev pub rowsIn : List (List ℕ) → List ℕ → List ℕ
 rowsIn ids v = map (rowNamed ids) (namesIn v)
 
 abbrev pub rowIn : List (List ℕ) → List ℕ → ℕ
-rowIn ids v = rowNamed ids (inner (plain v))
+rowIn ids v = rowNamed ids (inner v)
 
 abbrev pub conditionIn : List (List ℕ) → List Part → Option ℕ
 conditionIn ids ps = cond (states condWord ps) (some (rowIn ids (valueOf condWord ps))) none

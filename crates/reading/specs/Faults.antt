@@ -57,16 +57,31 @@ unfoldable pub spelt : Bool → List ℕ → Bool
 spelt fresh [] = not fresh
 spelt fresh (b ∷ bs) = cond (isToken b) (spelt false bs) (cond (eqb b 46 && not fresh) (spelt true bs) false)
 
--- "cond (In('id'))" (1.2): what stands between In(' and ')
+-- "cond (In('id'))" (1.2): In, an apostrophe, a name, an apostrophe, and nothing else; an apostrophe may stand as its entity
+
+-- how many bytes of an apostrophe the value begins with
+unfoldable pub apostrophe : List ℕ → ℕ
+apostrophe v = cond (same (take 1 v) (39 ∷ [])) 1 (cond (same (take 6 v) (38 ∷ 97 ∷ 112 ∷ 111 ∷ 115 ∷ 59 ∷ [])) 6 0)
+
+-- and how many bytes of names
+unfoldable pub nameBytes : List ℕ → ℕ
+nameBytes [] = 0
+nameBytes (b ∷ bs) = cond (isToken b || eqb b 46) (suc (nameBytes bs)) 0
+
+-- where In's name begins, its bytes, and what stands behind it
+abbrev pub conditionAt : List ℕ → ℕ
+conditionAt v = 3 + apostrophe (drop 3 v)
+
 abbrev pub inner : List ℕ → List ℕ
-inner v = take (length v - 6) (drop 4 v)
+inner v = take (nameBytes (drop (conditionAt v) v)) (drop (conditionAt v) v)
+
+abbrev pub behindName : List ℕ → List ℕ
+behindName v = drop (conditionAt v + nameBytes (drop (conditionAt v) v)) v
 
 unfoldable pub isCondition : List ℕ → Bool
-isCondition v = same v ((73 ∷ 110 ∷ 40 ∷ 39 ∷ []) ++ inner v ++ (39 ∷ 41 ∷ [])) && spelt true (inner v)
-
--- the offset of In's name in a value as it stands: the apostrophe may be an entity
-abbrev pub conditionAt : List ℕ → ℕ
-conditionAt raw = cond (eqb (getD raw 3 0) 38) 9 4
+isCondition v =
+    same (take 3 v) (73 ∷ 110 ∷ 40 ∷ []) && leb 1 (apostrophe (drop 3 v)) && spelt true (inner v) && leb 1 (apostrophe (behindName v)) &&
+    same (drop (apostrophe (behindName v)) (behindName v)) (41 ∷ [])
 
 abbrev pub isDigit : ℕ → Bool
 isDigit b = leb 48 b && leb b 57
@@ -159,7 +174,7 @@ referenceFault ids x = faultIf (ltb 63 (length (x .bytes)) || not (isAmong (x .b
 
 abbrev pub conditionFault : List (List ℕ) → ℕ → List ℕ → List ℕ
 conditionFault ids at raw =
-    cond (isCondition (plain raw)) (referenceFault ids (record { from = at + conditionAt raw; bytes = inner (plain raw) })) (at ∷ [])
+    cond (isCondition raw) (referenceFault ids (record { from = at + conditionAt raw; bytes = inner raw })) (at ∷ [])
 
 -- "attribute value that does not exist" (1.10)
 

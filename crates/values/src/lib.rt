@@ -11,6 +11,8 @@ ghost use Rattle.values.specs.Ids.{Noted, idsFrom};
 use names::equal;
 use scan::is_space;
 
+pub mod conditions;
+
 // "http://www.w3.org/2005/07/scxml"
 pub fn is_namespace(value: &[u8]) -> bool
     ensures { λ r. ⌜ r ≡ same (plain (now (value .entry))) namespace ⌝ }
