@@ -3,6 +3,7 @@
 //! to be there.
 
 use std::collections::HashMap;
+use std::rc::Rc;
 
 pub const SCXML_TEXT: &str = include_str!("grammar.ebnf");
 
@@ -13,8 +14,9 @@ pub type NodeNumber = usize;
 pub enum Node {
     /// One byte of a set: bit b stands for byte b.
     Byte(u128),
-    Sequence(Vec<NodeNumber>),
-    Choice(Vec<NodeNumber>),
+    Literal(Rc<str>),
+    Sequence(Rc<[NodeNumber]>),
+    Choice(Rc<[NodeNumber]>),
     Repeat(NodeNumber),
     /// A rule that is defined somewhere in the grammar.
     Rule(usize),
@@ -66,8 +68,7 @@ impl Grammar {
     }
 
     fn literal(&mut self, text: &str) -> NodeNumber {
-        let bytes = text.bytes().map(|byte| self.add(Node::Byte(1 << byte))).collect();
-        self.add(Node::Sequence(bytes))
+        self.add(Node::Literal(text.into()))
     }
 
     fn rule(&mut self, name: &str) -> NodeNumber {
@@ -76,13 +77,14 @@ impl Grammar {
     }
 
     fn sequence(&mut self, parts: Vec<NodeNumber>) -> NodeNumber {
-        self.add(Node::Sequence(parts))
+        self.add(Node::Sequence(parts.into()))
     }
 
     /// The bytes of a node that is a set of single bytes.
     fn set(&self, node: NodeNumber) -> u128 {
         match &self.nodes[node] {
             Node::Byte(set) => *set,
+            Node::Literal(text) if text.len() == 1 => 1 << text.as_bytes()[0],
             Node::Sequence(parts) if parts.len() == 1 => self.set(parts[0]),
             Node::Choice(parts) => parts.iter().map(|&part| self.set(part)).fold(0, |all, set| all | set),
             Node::Rule(rule) => self.set(self.body(*rule)),
@@ -147,7 +149,7 @@ impl Parser<'_> {
         while self.skip("|") {
             parts.push(self.sequence());
         }
-        self.grammar.add(Node::Choice(parts))
+        self.grammar.add(Node::Choice(parts.into()))
     }
 
     fn sequence(&mut self) -> NodeNumber {
@@ -180,7 +182,7 @@ impl Parser<'_> {
             "[" => {
                 let optional = self.inside("]");
                 let nothing = self.grammar.sequence(Vec::new());
-                self.grammar.add(Node::Choice(vec![nothing, optional]))
+                self.grammar.add(Node::Choice([nothing, optional].into()))
             }
             "ELEMENT" => self.element(),
             token if token.starts_with('#') => self.range(token),
@@ -234,7 +236,7 @@ impl Parser<'_> {
         let (open, close, last) =
             (grammar.literal(">"), grammar.literal(&format!("</{name}")), grammar.literal(">"));
         let full = grammar.sequence(vec![open, content, close, spaces, last]);
-        let end = grammar.add(Node::Choice(vec![empty, full]));
+        let end = grammar.add(Node::Choice([empty, full].into()));
         grammar.sequence(vec![spaces, end])
     }
 
@@ -260,7 +262,7 @@ impl Parser<'_> {
         if !(0..listed.len()).filter(missing).any(|number| listed[number].required) {
             ways.push(end);
         }
-        let node = self.grammar.add(Node::Choice(ways));
+        let node = self.grammar.add(Node::Choice(ways.into()));
         known.insert(left, node);
         node
     }

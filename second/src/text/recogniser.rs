@@ -3,14 +3,43 @@
 
 use super::ebnf::{Grammar, Node, NodeNumber, SCXML_TEXT};
 use std::collections::{HashMap, HashSet};
+use std::hash::{BuildHasherDefault, Hasher};
 use std::rc::Rc;
 
 /// "a document of at most 32,768 bytes".
 pub const MAX_TEXT: usize = 32_768;
 
-/// A stack of nodes: one to come first, and the stack behind it. Equal stacks have equal numbers.
+/// A stack of what is to come, by its number. Equal stacks have equal numbers.
 type Stack = usize;
 const NOTHING: Stack = 0;
+
+/// What comes first, the parts of a node from one of them on, and the stack behind it.
+#[derive(Clone, Copy, PartialEq, Eq, Hash)]
+struct Frame {
+    node: NodeNumber,
+    from: usize,
+    rest: Stack,
+}
+
+/// Stacks are looked up for every byte, so their numbers are mixed quickly.
+#[derive(Default)]
+struct Mixer(u64);
+
+impl Hasher for Mixer {
+    fn finish(&self) -> u64 {
+        self.0
+    }
+
+    fn write(&mut self, bytes: &[u8]) {
+        bytes.iter().for_each(|&byte| self.write_usize(usize::from(byte)));
+    }
+
+    fn write_usize(&mut self, number: usize) {
+        self.0 = (self.0.rotate_left(29) ^ number as u64).wrapping_mul(0x9e37_79b9_7f4a_7c15);
+    }
+}
+
+type Mixed = BuildHasherDefault<Mixer>;
 
 /// Every way to go on. A text is the beginning of one of the grammar exactly if there is a way.
 #[derive(Clone, PartialEq, Eq, Debug)]
@@ -25,10 +54,10 @@ impl Ways {
 pub struct Recogniser {
     grammar: Grammar,
     first: NodeNumber,
-    stacks: Vec<(NodeNumber, Stack)>,
-    known: HashMap<(NodeNumber, Stack), Stack>,
-    /// Of each stack that was looked at: the same, with nothing or a set of bytes first.
-    bytes_first: HashMap<Stack, Rc<[Stack]>>,
+    frames: Vec<Frame>,
+    known: HashMap<Frame, Stack, Mixed>,
+    /// Of each stack that was looked at: the same, with nothing or bytes first.
+    bytes_first: HashMap<Stack, Rc<[Stack]>, Mixed>,
 }
 
 impl Default for Recogniser {
@@ -42,21 +71,30 @@ impl Recogniser {
         let grammar = Grammar::read(grammar);
         let first = grammar.named(first);
         // Stack 0 has nothing to come; what stands at its place is never looked at.
-        let stacks = vec![(0, NOTHING)];
-        Recogniser { grammar, first, stacks, known: HashMap::new(), bytes_first: HashMap::new() }
+        let frames = vec![Frame { node: 0, from: 0, rest: NOTHING }];
+        Recogniser { grammar, first, frames, known: HashMap::default(), bytes_first: HashMap::default() }
     }
 
     /// Where every text begins.
     pub fn start(&mut self) -> Ways {
-        Ways(vec![self.push(self.first, NOTHING)])
+        Ways(vec![self.push(self.first, 0, NOTHING)])
     }
 
-    fn push(&mut self, node: NodeNumber, rest: Stack) -> Stack {
-        let stacks = &mut self.stacks;
-        *self.known.entry((node, rest)).or_insert_with(|| {
-            stacks.push((node, rest));
-            stacks.len() - 1
+    fn push(&mut self, node: NodeNumber, from: usize, rest: Stack) -> Stack {
+        let frames = &mut self.frames;
+        let frame = Frame { node, from, rest };
+        *self.known.entry(frame).or_insert_with(|| {
+            frames.push(frame);
+            frames.len() - 1
         })
+    }
+
+    /// What is behind part `from` of a node that has so many.
+    fn behind(&mut self, frame: Frame, parts: usize) -> Stack {
+        match frame.from + 1 < parts {
+            true => self.push(frame.node, frame.from + 1, frame.rest),
+            false => frame.rest,
+        }
     }
 
     /// The ways to go on behind one more byte.
@@ -64,14 +102,20 @@ impl Recogniser {
         let mut after = Vec::new();
         for &way in &ways.0 {
             for &stack in self.bytes_first(way).iter().filter(|&&stack| stack != NOTHING) {
-                let (node, rest) = self.stacks[stack];
-                let Node::Byte(set) = self.grammar.nodes[node] else { unreachable!("only bytes come first") };
-                let here = byte < 128 && set & 1 << byte != 0;
-                if here && !after.contains(&rest) {
-                    after.push(rest);
+                let frame = self.frames[stack];
+                let (here, parts) = match &self.grammar.nodes[frame.node] {
+                    Node::Byte(set) => (byte < 128 && set & 1 << byte != 0, 1),
+                    Node::Literal(text) => (text.as_bytes()[frame.from] == byte, text.len()),
+                    _ => unreachable!("only bytes come first"),
+                };
+                if here {
+                    let next = self.behind(frame, parts);
+                    after.push(next);
                 }
             }
         }
+        after.sort_unstable();
+        after.dedup();
         Ways(after)
     }
 
@@ -80,18 +124,18 @@ impl Recogniser {
         ways.0.iter().any(|&way| self.bytes_first(way).contains(&NOTHING))
     }
 
-    /// What a stack stands for, each with nothing or a set of bytes first.
+    /// What a stack stands for, each with nothing or bytes first.
     fn bytes_first(&mut self, stack: Stack) -> Rc<[Stack]> {
         if let Some(known) = self.bytes_first.get(&stack) {
             return known.clone();
         }
         let mut todo = vec![stack];
-        let mut seen = HashSet::from([stack]);
+        let mut seen: HashSet<Stack, Mixed> = HashSet::default();
         let mut found = Vec::new();
         while let Some(stack) = todo.pop() {
-            match self.opened(stack) {
-                None => found.push(stack),
-                Some(next) => todo.extend(next.into_iter().filter(|&stack| seen.insert(stack))),
+            let is_new = seen.insert(stack);
+            if is_new && (stack == NOTHING || !self.open(stack, &mut todo)) {
+                found.push(stack);
             }
         }
         let found: Rc<[Stack]> = found.into();
@@ -99,27 +143,26 @@ impl Recogniser {
         found
     }
 
-    /// What stands for a stack whose first node is no set of bytes; None for one that has a set or nothing.
-    fn opened(&mut self, stack: Stack) -> Option<Vec<Stack>> {
-        if stack == NOTHING {
-            return None;
-        }
-        let (node, rest) = self.stacks[stack];
-        match self.grammar.nodes[node].clone() {
-            Node::Byte(_) => None,
+    /// Adds what a stack stands for whose first node is more than bytes; whether it is.
+    fn open(&mut self, stack: Stack, todo: &mut Vec<Stack>) -> bool {
+        let frame = self.frames[stack];
+        match self.grammar.nodes[frame.node].clone() {
+            Node::Byte(_) | Node::Literal(_) => return false,
+            Node::Sequence(parts) if parts.is_empty() => todo.push(frame.rest),
             Node::Sequence(parts) => {
-                Some(vec![parts.into_iter().rev().fold(rest, |rest, part| self.push(part, rest))])
+                let behind = self.behind(frame, parts.len());
+                todo.push(self.push(parts[frame.from], 0, behind));
             }
-            Node::Choice(parts) => Some(parts.into_iter().map(|part| self.push(part, rest)).collect()),
+            Node::Choice(parts) => {
+                todo.extend(parts.iter().map(|&part| self.push(part, 0, frame.rest)));
+            }
             Node::Repeat(part) => {
-                let again = self.push(node, rest);
-                Some(vec![rest, self.push(part, again)])
+                todo.push(frame.rest);
+                todo.push(self.push(part, 0, stack));
             }
-            Node::Rule(rule) => {
-                let body = self.grammar.body(rule);
-                Some(vec![self.push(body, rest)])
-            }
+            Node::Rule(rule) => todo.push(self.push(self.grammar.body(rule), 0, frame.rest)),
         }
+        true
     }
 
     /// "12 at the first byte that no text of the grammar has there, at its end or at 32,768, whichever is

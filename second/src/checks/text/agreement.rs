@@ -109,12 +109,12 @@ fn reads_alike(recogniser: &mut Recogniser, text: &[u8]) -> Found {
 
 fn damaged_spellings(piece: u64) -> Found {
     let random = &mut Random::seeded(piece);
+    let mut recogniser = Recogniser::default();
     let mut count = 0;
     while count < TEXTS_OF_PIECE {
         let rows = random.between(2, 12);
         let flavour = Flavour { blocks: 60, ..Flavour::with_rows(random, rows) };
         let text = spell(&generate::chart(random, flavour), random);
-        let mut recogniser = Recogniser::default();
         for _ in 0..25 {
             let mut changed = damaged(&text, random);
             if random.chance(20) && !changed.is_empty() {

@@ -163,7 +163,7 @@ pub const EXAMPLES: &[(&str, &[(u64, &str)])] = &[
         (12, r#"<scxml><state id="a"><onentry><¦assign/></onentry></state></scxml>"#),
         (12, r#"<scxml><state id="a"><onentry><r¦un/></onentry></state></scxml>"#),
         (12, r#"<scxml><final id="f"><¦donedata/></final></scxml>"#),
-        (12, r#"<¦state id="a"/>"#),
+        (12, r#"<s¦tate id="a"/>"#),
     ]),
     ("H elements of later requests", &[
         (12, r#"<scxml><state id="a"><onentry><¦if cond="In('a')"/></onentry></state></scxml>"#),

@@ -17,13 +17,13 @@ use crate::text::recogniser::{Recogniser, MAX_TEXT};
 use crate::text::spell::spell;
 use crate::text::write::{text_of, write, TOO_LONG};
 
-const CHARTS_OF_CHECK: u64 = 250;
+const CHARTS_OF_CHECK: u64 = 125;
 
 pub fn checks() -> Vec<Check> {
     let mut checks = Vec::new();
     for piece in 0..8 {
         let name = |what: &str| format!("text: {what}, piece {piece}");
-        let of = move |each: fn(&mut Random) -> Found| move || many(piece, each);
+        let of = move |each: Each| move || many(piece, each);
         checks.push(Check::new(name("random spellings read back"), of(spelt_reads_back)));
         checks.push(Check::new(name("written, read and written again"), of(written_reads_back)));
         checks.push(Check::new(name("faults at known places"), of(planted_is_found)));
@@ -31,9 +31,13 @@ pub fn checks() -> Vec<Check> {
     checks
 }
 
-fn many(piece: u64, each: fn(&mut Random) -> Found) -> Found {
+/// A check of one random chart; the recogniser is the same for many, since it remembers what it has seen.
+type Each = fn(&mut Random, &mut Recogniser) -> Found;
+
+fn many(piece: u64, each: Each) -> Found {
+    let mut recogniser = Recogniser::default();
     for seed in piece * CHARTS_OF_CHECK..(piece + 1) * CHARTS_OF_CHECK {
-        each(&mut Random::seeded(seed)).map_err(|what| format!("seed {seed}: {what}"))?;
+        each(&mut Random::seeded(seed), &mut recogniser).map_err(|what| format!("seed {seed}: {what}"))?;
     }
     Ok(())
 }
@@ -50,8 +54,9 @@ fn some_text(random: &mut Random) -> Option<(Chart, Vec<u8>)> {
     (text.len() <= MAX_TEXT).then_some((chart, text))
 }
 
-fn spelt_reads_back(random: &mut Random) -> Found {
+fn spelt_reads_back(random: &mut Random, recogniser: &mut Recogniser) -> Found {
     let Some((chart, text)) = some_text(random) else { return Ok(()) };
+    agrees(recogniser, &text)?;
     let shown = || String::from_utf8_lossy(&text).into_owned();
     let tables = read(&text).map_err(|refusal| format!("{refusal:?}: {}", shown()))?;
     let same = normal_tables(&decoded(&tables)) == normal_tables(&chart);
@@ -95,7 +100,7 @@ fn attributes_of(tag: &str) -> Vec<&str> {
     values
 }
 
-fn written_reads_back(random: &mut Random) -> Found {
+fn written_reads_back(random: &mut Random, recogniser: &mut Recogniser) -> Found {
     let chart = some_chart(random);
     let layout =
         if random.chance(50) { Layout::Plain } else { Layout::Mixed(Random::seeded(random.number())) };
@@ -110,7 +115,7 @@ fn written_reads_back(random: &mut Random) -> Found {
     let length = found.map_err(|answer| format!("writing {} gets {answer}", show::chart(&chart)))?;
     ensure(buffer[..length] == *long.as_bytes(), "the text is written")?;
     ensure(buffer[length..].iter().all(|&byte| byte == b'?'), "and nothing behind it")?;
-    agrees(&mut Recogniser::default(), long.as_bytes())?;
+    agrees(recogniser, long.as_bytes())?;
     let again = read(long.as_bytes()).map_err(|refusal| format!("{refusal:?}: {long}"))?;
     ensure(again == normal_tables(&chart), &format!("{long} does not mean {}", show::chart(&chart)))?;
     ensure(text_of(&decoded(&again)) == long, "writing twice changes nothing")?;
@@ -141,13 +146,13 @@ fn differs_if_changed(chart: &Chart, random: &mut Random) -> Found {
     ensure((text_of(&other) == text_of(chart)) == equal, "written alike exactly if equal")
 }
 
-fn planted_is_found(random: &mut Random) -> Found {
+fn planted_is_found(random: &mut Random, recogniser: &mut Recogniser) -> Found {
     let Some((_, text)) = some_text(random) else { return Ok(()) };
     let Some((text, place)) = planted(&text, random) else { return Ok(()) };
     if text.len() > MAX_TEXT {
         return Ok(());
     }
-    agrees(&mut Recogniser::default(), &text)?;
+    agrees(recogniser, &text)?;
     let found = read(&text).err();
     let shown = String::from_utf8_lossy(&text);
     ensure(found == Some(Refusal::Text(place)), &format!("{found:?}, expected a 12 at {place}: {shown}"))

@@ -65,8 +65,10 @@ fn chart_a_whole() -> Found {
     let names: Vec<&[u8]> = (0..chart.names.len()).map(|name| chart.name(NameNumber(name))).collect();
     let expected = ["p", "done.state.p", "S1", "S11", "e4", "S12", "e1", "S1Final", "S2", "S21", "S22", "e2"];
     ensure(names[..12] == expected.map(|name| name.as_bytes()), &format!("slots {names:?}"))?;
+    ensure(text_of(&chart_a()) == CHART_A, "so is the chart of the marked runs")?;
     let listless = CHART_A.replace(" initial=\"S11\"", "").replace(" initial=\"S21\"", "");
-    ensure(text_of(&chart_a()) == listless, "the chart of document 01 has no lists")
+    let other = read(listless.as_bytes()).map_err(|refusal| format!("{refusal:?}"))?;
+    ensure(text_of(&decoded(&other)) == listless, "without its lists it is another chart")
 }
 
 /// A chart in another spelling, and what is written from it.
