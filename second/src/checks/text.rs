@@ -10,6 +10,7 @@ use crate::text::recogniser::Recogniser;
 use crate::text::scan::scan;
 
 mod agreement;
+mod documents;
 mod examples;
 mod readings;
 mod round_trips;
@@ -23,6 +24,7 @@ pub fn checks() -> Vec<Check> {
     checks.extend(spelling::checks());
     checks.extend(agreement::checks());
     checks.extend(round_trips::checks());
+    checks.extend(documents::checks());
     checks
 }
 
