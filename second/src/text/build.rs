@@ -110,6 +110,9 @@ impl<'a> Build<'a> {
                 self.add_action(action);
                 Open::Other
             }
+            Element::If | Element::Elseif | Element::Else | Element::Send | Element::Cancel => {
+                unreachable!("the tables have no such action yet, and the scanner is not told of it")
+            }
         }
     }
 

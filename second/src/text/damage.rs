@@ -10,7 +10,7 @@ pub const BYTES: [u8; 40] = [
 ];
 
 /// Words that a random text is made of.
-const WORDS: [&str; 30] = [
+const WORDS: [&str; 40] = [
     "<scxml>",
     "</scxml>",
     "<scxml",
@@ -41,6 +41,16 @@ const WORDS: [&str; 30] = [
     " ",
     "\n",
     "</",
+    "<if",
+    "<elseif",
+    "<else",
+    "<send",
+    "<cancel",
+    "</if>",
+    " delay='5'",
+    " sendid=\"a\"",
+    " cond=\"\"",
+    "<onexit>",
 ];
 
 /// The text with one thing changed.

@@ -31,10 +31,10 @@ pub struct Grammar {
 }
 
 impl Grammar {
-    /// A line that begins with a name is a rule.
-    pub fn read(text: &str) -> Grammar {
+    /// Each line is a rule or empty.
+    pub fn read<'a>(lines: impl Iterator<Item = &'a str>) -> Grammar {
         let mut grammar = Grammar::default();
-        for line in text.lines().filter(|line| !line.trim().is_empty()) {
+        for line in lines.filter(|line| !line.trim().is_empty()) {
             let (name, body) = line.split_once('=').expect("a rule has an equals sign");
             let mut parser = Parser { grammar: &mut grammar, tokens: tokens(body), at: 0 };
             let node = parser.choice();

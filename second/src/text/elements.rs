@@ -1,6 +1,6 @@
 //! "elements scxml, state, parallel, final, history, initial, transition, onentry, onexit, raise, log;
 //! attributes xmlns, version, id, initial, type, event, cond (In('id')), target, label, placed as in the
-//! Recommendation".
+//! Recommendation". Those of later requests have their entries too; `KNOWN` says what is read today.
 
 use crate::tables::Kind;
 
@@ -19,7 +19,27 @@ pub enum Element {
     Onexit,
     Raise,
     Log,
+    /// R-5.
+    If,
+    Elseif,
+    Else,
+    /// R-9.
+    Send,
+    Cancel,
 }
+
+/// The actions that the reader takes, and those of all requests. An action of a later one is 12 until it
+/// joins the first list, and `build.rs` and `write.rs` learn it.
+pub const KNOWN: &[Element] = &[Element::Raise, Element::Log];
+pub const ALL: &[Element] = &[
+    Element::Raise,
+    Element::Log,
+    Element::If,
+    Element::Elseif,
+    Element::Else,
+    Element::Send,
+    Element::Cancel,
+];
 
 #[derive(Clone, Copy, PartialEq, Eq, Debug)]
 pub enum Name {
@@ -32,6 +52,8 @@ pub enum Name {
     Cond,
     Target,
     Label,
+    Delay,
+    Sendid,
 }
 
 /// What the grammar asks of a value.
@@ -87,8 +109,10 @@ const EVENT: (Name, Form) = (Name::Event, Form::Name);
 const COND: (Name, Form) = (Name::Cond, Form::Free);
 const TARGET: (Name, Form) = (Name::Target, Form::References);
 const LABEL: (Name, Form) = (Name::Label, Form::Free);
+const DELAY: (Name, Form) = (Name::Delay, Form::Free);
+const SENDID: (Name, Form) = (Name::Sendid, Form::Name);
 
-static ENTRIES: [Entry; 12] = [
+static ENTRIES: [Entry; 17] = [
     entry(Element::Scxml, "scxml", &[XMLNS, VERSION, INITIAL], &[], Content::Row),
     entry(Element::State, "state", &[ID, INITIAL], &[], Content::State),
     entry(Element::Parallel, "parallel", &[ID], &[], Content::Row),
@@ -101,6 +125,11 @@ static ENTRIES: [Entry; 12] = [
     entry(Element::Onexit, "onexit", &[], &[], Content::Block),
     entry(Element::Raise, "raise", &[EVENT], &[Name::Event], Content::Nothing),
     entry(Element::Log, "log", &[LABEL], &[Name::Label], Content::Nothing),
+    entry(Element::If, "if", &[COND], &[Name::Cond], Content::Block),
+    entry(Element::Elseif, "elseif", &[COND], &[Name::Cond], Content::Nothing),
+    entry(Element::Else, "else", &[], &[], Content::Nothing),
+    entry(Element::Send, "send", &[EVENT, DELAY, ID], &[Name::Event], Content::Nothing),
+    entry(Element::Cancel, "cancel", &[SENDID], &[Name::Sendid], Content::Nothing),
 ];
 
 const UNDER_ROW: [Element; 7] = [
@@ -124,13 +153,14 @@ const UNDER_STATE: [Element; 8] = [
 ];
 
 impl Content {
-    /// The elements that may stand there; of a state's, the initial element only once.
-    pub fn elements(self) -> &'static [Element] {
+    /// The elements that may stand there, where a block holds these actions; of a state's, the initial
+    /// element only once.
+    pub fn elements(self, actions: &'static [Element]) -> &'static [Element] {
         match self {
             Content::Row => &UNDER_ROW,
             Content::State => &UNDER_STATE,
             Content::Entering => &[Element::Entering],
-            Content::Block => &[Element::Raise, Element::Log],
+            Content::Block => actions,
             Content::Nothing => &[],
         }
     }
@@ -166,6 +196,8 @@ impl Name {
             Name::Cond => "cond",
             Name::Target => "target",
             Name::Label => "label",
+            Name::Delay => "delay",
+            Name::Sendid => "sendid",
         }
     }
 }

@@ -2,8 +2,8 @@
 
 use super::cursor::Offset;
 use super::elements::{Element, Form, Name};
-use super::scan::{Attribute, Mark, Tag};
-use super::values::{condition, items, label, HISTORY_TYPES, NAMESPACE, TRANSITION_TYPES, VERSION};
+use super::scan::{scan, Attribute, Mark, Tag};
+use super::values::{condition, delay, items, label, HISTORY_TYPES, NAMESPACE, TRANSITION_TYPES, VERSION};
 use crate::limits::MAX_NAME_BYTES;
 use std::collections::HashSet;
 
@@ -17,6 +17,14 @@ pub fn tags(marks: &[Mark]) -> impl Iterator<Item = &Tag> {
 /// Whether an element is a row that must state an id.
 fn is_named_row(element: Element) -> bool {
     element != Element::Scxml && element.row_kind().is_some()
+}
+
+/// The place of the first 12 of a text whose blocks may hold these actions.
+pub fn fault(text: &[u8], actions: &'static [Element]) -> Option<Offset> {
+    match scan(text, actions) {
+        Ok(marks) => first_fault(text, &marks),
+        Err(place) => Some(place),
+    }
 }
 
 /// The place of the first fault, if there is one.
@@ -68,11 +76,12 @@ impl Search<'_> {
             Name::Type if element == Element::History => HISTORY_TYPES.contains(&value),
             Name::Type => TRANSITION_TYPES.contains(&value),
             Name::Label => label(value).is_some(),
+            Name::Delay => delay(value).is_some(),
             Name::Cond => match condition(self.text, start, end) {
                 Some((place, id)) => return (!self.is_reference(&id)).then_some(place),
                 None => false,
             },
-            Name::Id | Name::Initial | Name::Event | Name::Target => true,
+            Name::Id | Name::Initial | Name::Event | Name::Target | Name::Sendid => true,
         };
         (!exists).then_some(start)
     }

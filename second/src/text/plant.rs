@@ -2,7 +2,7 @@
 //! of reading has to find.
 
 use super::cursor::Offset;
-use super::elements::{Form, Name};
+use super::elements::{Form, Name, KNOWN};
 use super::faults::tags;
 use super::scan::{scan, Attribute};
 use super::values::items;
@@ -37,7 +37,7 @@ const CONDITIONS: [(&str, usize); 12] = [
 
 /// The text with one to three faults, and the place of the first; nothing if it has no value to spoil.
 pub fn planted(text: &[u8], random: &mut Random) -> Option<(Vec<u8>, Offset)> {
-    let marks = scan(text).ok()?;
+    let marks = scan(text, KNOWN).ok()?;
     let mut edits: Vec<Edit> = tags(&marks)
         .flat_map(|tag| tag.attributes.iter().copied())
         .filter(|attribute| attribute.name != Name::Id)

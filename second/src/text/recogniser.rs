@@ -2,6 +2,7 @@
 //! the beginning of a text of the grammar, each a stack of what is still to come.
 
 use super::ebnf::{Grammar, Node, NodeNumber, SCXML_TEXT};
+use super::elements::{Element, KNOWN};
 use std::collections::{HashMap, HashSet};
 use std::hash::{BuildHasherDefault, Hasher};
 use std::rc::Rc;
@@ -52,6 +53,8 @@ impl Ways {
 }
 
 pub struct Recogniser {
+    /// Those that blocks hold.
+    pub actions: &'static [Element],
     grammar: Grammar,
     first: NodeNumber,
     frames: Vec<Frame>,
@@ -62,17 +65,22 @@ pub struct Recogniser {
 
 impl Default for Recogniser {
     fn default() -> Self {
-        Recogniser::of(SCXML_TEXT, "text")
+        Recogniser::knowing(KNOWN)
     }
 }
 
 impl Recogniser {
-    pub fn of(grammar: &str, first: &str) -> Recogniser {
-        let grammar = Grammar::read(grammar);
-        let first = grammar.named(first);
+    /// Of the grammar of SCXML text, in which blocks hold these actions.
+    pub fn knowing(actions: &'static [Element]) -> Recogniser {
+        let words: Vec<&str> = actions.iter().map(|action| action.entry().word).collect();
+        let others = SCXML_TEXT.lines().filter(|line| !line.starts_with("action "));
+        let action = format!("action = {}", words.join(" | "));
+        let grammar = Grammar::read(others.chain([action.as_str()]));
+        let first = grammar.named("text");
         // Stack 0 has nothing to come; what stands at its place is never looked at.
         let frames = vec![Frame { node: 0, from: 0, rest: NOTHING }];
-        Recogniser { grammar, first, frames, known: HashMap::default(), bytes_first: HashMap::default() }
+        let (known, bytes_first) = (HashMap::default(), HashMap::default());
+        Recogniser { actions, grammar, first, frames, known, bytes_first }
     }
 
     /// Where every text begins.

@@ -31,10 +31,19 @@ fn place_in(text: &[u8], part: &[u8]) -> usize {
 
 /// "A log's label is a decimal host action from 0 to 65,535."
 pub fn label(value: &[u8]) -> Option<u16> {
+    decimal(value).and_then(|number| u16::try_from(number).ok())
+}
+
+/// "delay 0 to 4,294,967,295 ticks".
+pub fn delay(value: &[u8]) -> Option<u32> {
+    decimal(value).and_then(|number| u32::try_from(number).ok())
+}
+
+/// The number that digits spell, leading zeros or not; one of more than 32 bits is 2^32.
+fn decimal(value: &[u8]) -> Option<u64> {
     let digits = !value.is_empty() && value.iter().all(u8::is_ascii_digit);
-    let number =
-        || value.iter().fold(0u32, |number, digit| (number * 10 + u32::from(digit - b'0')).min(65_536));
-    digits.then(number).and_then(|number| u16::try_from(number).ok())
+    let add = |number: u64, digit: &u8| (number * 10 + u64::from(digit - b'0')).min(1 << 32);
+    digits.then(|| value.iter().fold(0, add))
 }
 
 /// The bytes that a free value stands for, each with its place in the text.

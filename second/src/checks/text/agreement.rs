@@ -7,6 +7,7 @@ use crate::generate::{self, Flavour};
 use crate::invariants::{ensure, Found};
 use crate::random::Random;
 use crate::text::damage::{damaged, words, BYTES};
+use crate::text::elements::{Element, ALL, KNOWN};
 use crate::text::read::{read, Refusal};
 use crate::text::recogniser::{Recogniser, Ways};
 use crate::text::scan::scan;
@@ -19,18 +20,30 @@ const EVERYTHING: &str = "<!-- - --> \n<scxml xmlns='http://www.w3.org/2005/07/s
  target='c'><log label='&quot;2'/></transition> </initial><final id='c'/></state></state>
 <parallel id='p'><history id='h' type='deep'><transition target='d'/></history><state id='d'/></parallel></scxml> <!--->-->\r\n";
 
+/// The actions of later requests.
+const LATER: &str = "<scxml><state id='a'><onexit><if cond=\"In('a')\"><send event='e' /><!-- --><elseif cond='In(&apos;a&apos;)'
+ /><cancel sendid='s'></cancel><if cond='&lt;'/><else></else ></if ><else/><send\tid='s' delay='5' event=\"e\"> </send><raise event='f'/></onexit>
+<transition><if cond=''><log label='1'/></if></transition></state></scxml>";
+
 /// Pieces of random texts, and texts of each.
 const PIECES: u64 = 8;
 const TEXTS_OF_PIECE: u64 = 2_500;
 
 pub fn checks() -> Vec<Check> {
     let mut checks = Vec::new();
-    for (what, text) in [("everything", EVERYTHING), ("chart A", CHART_A), ("the numbered chart", NUMBERED)] {
+    let texts = [
+        ("everything", EVERYTHING, KNOWN),
+        ("chart A", CHART_A, KNOWN),
+        ("the numbered chart", NUMBERED, KNOWN),
+        ("later actions", LATER, ALL),
+        ("everything where later actions are known", EVERYTHING, ALL),
+    ];
+    for (what, text, actions) in texts {
         let name = |how: &str| format!("text: recogniser and reader on {what}, {how}");
-        checks.push(Check::new(name("prefixes"), move || prefixes(text.as_bytes())));
-        checks.push(Check::new(name("bytes changed, preceded, left out and swapped"), move || {
-            each_byte(text.as_bytes())
-        }));
+        let text = text.as_bytes();
+        checks.push(Check::new(name("prefixes"), move || prefixes(text, actions)));
+        let changes = name("bytes changed, preceded, left out and swapped");
+        checks.push(Check::new(changes, move || each_byte(text, actions)));
     }
     for piece in 0..PIECES {
         let name = |what: &str| format!("text: recogniser and reader on {what}, piece {piece}");
@@ -40,8 +53,8 @@ pub fn checks() -> Vec<Check> {
     checks
 }
 
-fn prefixes(text: &[u8]) -> Found {
-    let mut recogniser = Recogniser::default();
+fn prefixes(text: &[u8], actions: &'static [Element]) -> Found {
+    let mut recogniser = Recogniser::knowing(actions);
     ensure(recogniser.fault(text).is_none(), "the whole text is of the grammar")?;
     (0..=text.len()).try_for_each(|length| agrees(&mut recogniser, &text[..length]))
 }
@@ -53,8 +66,8 @@ struct Stops {
 }
 
 impl Stops {
-    fn of(text: &[u8]) -> Stops {
-        let mut recogniser = Recogniser::default();
+    fn of(text: &[u8], actions: &'static [Element]) -> Stops {
+        let mut recogniser = Recogniser::knowing(actions);
         let mut ways = vec![recogniser.start()];
         for &byte in text {
             let next = recogniser.step(&ways[ways.len() - 1], byte);
@@ -66,14 +79,14 @@ impl Stops {
     /// Whether both say the same of a text that is the old one up to a place.
     fn agrees(&mut self, changed: &[u8], from: usize) -> Found {
         let wanted = self.recogniser.fault_from(&self.ways[from], from, changed);
-        let found = scan(changed).err();
+        let found = scan(changed, self.recogniser.actions).err();
         let shown = String::from_utf8_lossy(changed);
         ensure(found == wanted, &format!("{shown:?}: the scanner {found:?}, the recogniser {wanted:?}"))
     }
 }
 
-fn each_byte(text: &[u8]) -> Found {
-    let mut stops = Stops::of(text);
+fn each_byte(text: &[u8], actions: &'static [Element]) -> Found {
+    let mut stops = Stops::of(text, actions);
     for place in 0..text.len() {
         for byte in BYTES {
             let mut changed = text.to_vec();
@@ -129,6 +142,10 @@ fn damaged_spellings(piece: u64) -> Found {
 
 fn random_words(piece: u64) -> Found {
     let random = &mut Random::seeded(1_000 + piece);
-    let mut recogniser = Recogniser::default();
-    (0..TEXTS_OF_PIECE).try_for_each(|_| reads_alike(&mut recogniser, &words(random)))
+    let (mut today, mut later) = (Recogniser::default(), Recogniser::knowing(ALL));
+    (0..TEXTS_OF_PIECE).try_for_each(|_| {
+        let text = words(random);
+        reads_alike(&mut today, &text)?;
+        agrees(&mut later, &text)
+    })
 }
