@@ -62,6 +62,26 @@ impl Grammar {
         self.body(self.names[name])
     }
 
+    /// Whether every node has a text, so that each beginning of one can be ended.
+    pub fn can_always_end(&self) -> bool {
+        let mut ends = vec![false; self.nodes.len()];
+        loop {
+            let before = ends.clone();
+            for (number, node) in self.nodes.iter().enumerate() {
+                ends[number] = match node {
+                    Node::Byte(set) => *set != 0,
+                    Node::Literal(_) | Node::Repeat(_) => true,
+                    Node::Sequence(parts) => parts.iter().all(|&part| ends[part]),
+                    Node::Choice(parts) => parts.iter().any(|&part| ends[part]),
+                    Node::Rule(rule) => ends[self.body(*rule)],
+                };
+            }
+            if ends == before {
+                return ends.iter().all(|&ends| ends);
+            }
+        }
+    }
+
     fn add(&mut self, node: Node) -> NodeNumber {
         self.nodes.push(node);
         self.nodes.len() - 1

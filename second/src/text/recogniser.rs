@@ -76,6 +76,7 @@ impl Recogniser {
         let others = SCXML_TEXT.lines().filter(|line| !line.starts_with("action "));
         let action = format!("action = {}", words.join(" | "));
         let grammar = Grammar::read(others.chain([action.as_str()]));
+        assert!(grammar.can_always_end(), "a way that is left leads to a text");
         let first = grammar.named("text");
         // Stack 0 has nothing to come; what stands at its place is never looked at.
         let frames = vec![Frame { node: 0, from: 0, rest: NOTHING }];
