@@ -1,7 +1,8 @@
 """Which declarations of this repository the contracts of the exports and some statements lead to.
 
-A word of a declaration is resolved by the `use` lines of its file to the module, struct or enum that declares it, and so on. Of a definition its type and body are
-followed, of a theorem its type alone: a proof is checked and need not be believed. What the kit's own libraries declare is outside.
+A word of a declaration is resolved by the `use` lines of its file to the module, struct or enum that declares it, and so on; a renamed one by the name that it has there, the parts of
+an operator to the operator, a whole path as it stands. Of a definition its type and body are followed, of a theorem its type alone: a proof is checked and need not be believed.
+What the kit's own libraries declare is outside. A word that is nothing of all this is a fault: it would be passed over unseen.
 """
 import re
 import sys
@@ -17,6 +18,32 @@ def margin(line):
     return len(line) - len(line.lstrip())
 
 
+def parts(name):
+    """What stands for a name in a text: an operator is written by its parts too."""
+    return [name, *filter(None, name.split("_"))] if "_" in name else [name]
+
+
+def imports(text, keyword):
+    """Of `use` lines: name here -> path and name there; and name here -> path, of modules."""
+    names, modules = {}, {}
+    for path, items, alias in re.findall(rf"^{keyword} ([^\s{{;]+?)(?:\.\{{([^}}]*)\}}| as (\S+?))?;?$", text, re.M):
+        if path.endswith(".*"):
+            sys.exit(f"not followed: use {path}")
+        head, _, rest = path.partition(".")
+        path = f"{modules[head]}.{rest}" if head in modules and rest else path
+        if not items:
+            modules[alias or path.rpartition(".")[2]] = path
+        for item in filter(None, map(str.strip, items.split(","))):
+            there, _, here = item.partition(" as ")
+            below, _, last = there.rpartition(".")
+            for part in parts(here or last):
+                names[part] = (f"{path}.{below}" if below else path, last)
+    return names, modules
+
+
+KNOWN = set('_ : = → -> × ⊥ "C" Type Unit abbrev bool data ensures enum extern fn module mut now pub record struct u8 u16 u32 u64 unfoldable usize where'.split())
+
+
 class Declaration:
     """What a file declares under a name, and the numbers of its lines that have to be believed."""
 
@@ -30,15 +57,19 @@ class Declaration:
 class Specs:
     """A module of crates/CRATE/specs: what it declares, and from which path it has each other name."""
 
-    DECLARES = re.compile(r"(abbrev |unfoldable )?(?:pub )?(?:(record |data )([^\s:({]+)|([^\s:({]+) :)")
+    DECLARES = re.compile(r"((?:abbrev |unfoldable )*)(?:pub )?(?:(record |data )([^\s:({]+)|([^\s:({]+)(?: \{[^{}]*\})* :)")
+    UNKNOWN = re.compile(r" *(?:(?:unfoldable|abbrev|pub) )*(?:open|mutual|axiom|module (?!_ ))\b")
 
     def __init__(self, crate, name):
         self.crate, self.name, self.declared = crate, name, {}
         self.lines = Path(f"crates/{crate}/specs/{name}.antt").read_text().splitlines()
         text = "\n".join(self.lines)
-        self.paths = {word.strip(): path for path, words in re.findall(r"^(?:unfoldable |pub )*use (\S+)\.\{([^}]*)\}", text, re.M) for word in words.split(",")}
-        self.aliases = {alias: path for path, alias in re.findall(r"^use (\S+) as (\S+)", text, re.M)}
+        self.paths, self.aliases = imports(text, "(?:unfoldable |pub )*use")
+        lost = next((line for line in self.lines if self.UNKNOWN.match(line)), None)
+        if lost:
+            sys.exit(f"{crate}: {name}: not followed: {lost}")
         self.read(0, 0, [])
+        self.operators = {part: one for whole, one in self.declared.items() for part in parts(whole)}
 
     def read(self, at, column, heads):
         """The declarations from line `at` on that begin in this column, inside the parameter lists `heads`; hands back the line after them."""
@@ -72,8 +103,11 @@ class Specs:
         """The path and the name in it that a word of this module stands for, if it is declared elsewhere."""
         alias, _, rest = name.partition(".")
         if alias in self.aliases and rest:
-            return self.aliases[alias], rest
-        return self.paths.get(name), name
+            below, _, last = rest.rpartition(".")
+            return f"{self.aliases[alias]}.{below}" if below else self.aliases[alias], last
+        if name.startswith("Rattle·"):
+            return name.rpartition(".")[::2]
+        return self.paths.get(name, (None, name))
 
 
 class Source:
@@ -86,17 +120,18 @@ class Source:
         for file in sorted(Path(f"crates/{crate}/src").glob("*.rt")):
             self.lines += file.read_text().splitlines()
         text = "\n".join(self.lines)
-        self.paths = {word.strip(): path for path, words in re.findall(r"^ghost use (\S+)\.\{([^}]*)\};", text, re.M) for word in words.split(",")}
-        self.paths.update({name: f"Rattle.{path}.specs.declared.{name}" for path, name in re.findall(r"^use (\w+)::(\w+);", text, re.M)})
+        self.paths, self.aliases = imports(text, "ghost use")
+        self.paths.update({name: (f"Rattle.{path}.specs.declared.{name}", name) for path, name in re.findall(r"^use (\w+)::(\w+);", text, re.M)})
         for at, line in enumerate(self.lines):
             found = self.BEGINS.match(line)
             if found:
                 end = at if line.endswith(";") else next(n for n in range(at, len(self.lines)) if self.lines[n] in ("{", "}"))
                 self.declared[found[1]] = Declaration(self, found[1], list(range(at, end + (self.lines[end] != "{"))))
+        self.operators = self.declared
 
     def cited(self, name):
         crate, _, rest = name.partition("::")
-        return (f"Rattle.{crate}.specs.declared.{rest}", rest) if rest else (self.paths.get(name), name)
+        return (f"Rattle.{crate}.specs.declared.{rest}", rest) if rest else Specs.cited(self, name)
 
     def exports(self):
         """Each has to have a contract and may ask for nothing."""
@@ -126,10 +161,10 @@ def declaration(path, name):
 
 def within(file, name):
     """The declaration that a name has in a file: as a constructor it has that of its data type, and a file may hand on what another declares."""
-    if name in file.declared:
-        return file.declared[name]
+    if name in file.operators:
+        return file.operators[name]
     if name in file.paths:
-        return declaration(file.paths[name], name)
+        return declaration(*file.paths[name])
     for one in file.declared.values():
         if re.match(r"(?:pub )?data ", one.lines()[0].lstrip()) and any(name in line.split(" : ")[0].split() for line in one.lines()[1:]):
             return one
@@ -147,7 +182,7 @@ def clauses(one):
 
 
 def words(one):
-    """The words of a declaration that may name something else: no field (.field, or field = ..), no variable."""
+    """The words of a declaration that may name something else: no field (.field, field = .. or field : ..), no variable, unless a `use` line brings in its name."""
     for around, clause in clauses(one):
         head = re.match(rf"\s*{re.escape(one.name)}(\s[^=:]*?)? =\s", clause)
         variables = set(re.findall(r"[^\s(){},]+", head[1] or "")) if head else set()
@@ -155,8 +190,17 @@ def words(one):
             variables |= set(" ".join(names).split())
         tokens = re.findall(r"[^\s(){}\[\];,&⌜⌝λ]+", around + "\n" + clause)
         for at, token in enumerate(tokens):
-            if not token.startswith(".") and tokens[at + 1 : at + 2] != ["="] and token.rstrip(".") not in variables:
-                yield token.rstrip(".")
+            word = token.rstrip(".")
+            if not token.startswith(".") and tokens[at + 1 : at + 2] not in (["="], [":"]) and (word not in variables or word in one.file.paths):
+                yield word
+
+
+def is_known(one, word):
+    """A word that names nothing to follow: a number, one of the languages' own, or in a file of code a parameter, field or case."""
+    if re.fullmatch(r"\d+|\w+:", word) or word in KNOWN:
+        return True
+    text = "\n".join(one.lines())
+    return isinstance(one.file, Source) and bool(re.search(rf"\b{re.escape(word.strip('«»'))}:|^ +{re.escape(word)}\b", text, re.M))
 
 
 def reached(crate, statements):
@@ -173,6 +217,8 @@ def reached(crate, statements):
             cited = declaration(path, name) if path else within(one.file, word)
             if path and path.startswith("Rattle·") and not cited:
                 sys.exit(f"{one.file.crate}: {one.file.name}.{one.name} cites {name} of {path}, which is not found")
+            if not path and not cited and not is_known(one, word):
+                sys.exit(f"{one.file.crate}: {one.file.name}.{one.name} has the word {word}, which is not found")
             if cited:
                 waiting.append(cited)
     return list(found.values())

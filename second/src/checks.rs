@@ -14,6 +14,7 @@ mod names;
 mod near_misses;
 mod readings;
 mod runs;
+mod text;
 
 /// A check with its name. Equal checks give equal answers, whenever and wherever they run.
 pub struct Check {
@@ -43,6 +44,7 @@ pub fn small() -> Vec<Check> {
     checks.extend(near_misses::checks());
     checks.extend(by_hand::checks());
     checks.extend(cases::checks());
+    checks.extend(text::checks());
     checks
 }
 

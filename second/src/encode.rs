@@ -16,6 +16,8 @@ pub struct Spelt {
 pub enum Layout {
     /// Each list behind the one before; empty lists start at 0.
     Plain,
+    /// The same, but an empty list starts where it would stand: the layout of what is read from text.
+    InOrder,
     /// Shared cells, unused cells, empty lists anywhere.
     Mixed(Random),
 }
@@ -43,7 +45,7 @@ impl<const CELLS: usize> Pool<CELLS> {
         let count = list.len() as u64;
         let start = match layout {
             Layout::Plain if list.is_empty() => 0,
-            Layout::Plain => self.append(list, 0),
+            Layout::Plain | Layout::InOrder => self.append(list, 0),
             Layout::Mixed(random) if list.is_empty() => random.between(0, self.items.len()),
             Layout::Mixed(random) => self.lay_mixed(random, list),
         };

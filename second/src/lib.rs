@@ -37,5 +37,6 @@ pub mod session_damage;
 pub mod show;
 pub mod story;
 pub mod tables;
+pub mod text;
 pub mod theorems;
 pub mod tree;

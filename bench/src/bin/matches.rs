@@ -55,12 +55,22 @@ fn long(name: &str, unit: &str, place: usize) -> Case {
     Case { name: name.to_string(), bounded: place == 62, descriptors, event }
 }
 
+/// Of four such descriptors the one at a place ends in ".*" and matches; the others differ in the last byte.
+fn starred(name: &str, place: usize) -> Case {
+    let beginning = "a".repeat(61);
+    let mut descriptors = ["q", "r", "s", "t"].map(|letter| format!("{beginning}.{letter}"));
+    descriptors[place] = format!("{beginning}.*");
+    Case { name: name.to_string(), bounded: false, descriptors, event: format!("{beginning}.e") }
+}
+
 fn cases() -> Vec<Case> {
     vec![
         long("63 bytes, the last differs, no dot", "a", 62),
         long("63 bytes, the last differs, 10 dots", "aaaaa.", 62),
         long("63 bytes, the last differs, 31 dots", "a.", 62),
         long("63 bytes, the first differs", "a", 0),
+        starred("63 bytes, the first of four ends in `.*` and matches", 0),
+        starred("63 bytes, the last of four ends in `.*` and matches", 3),
         case("`all`, the last of four matches", ["b", "c", "d", "all"], "all"),
         case("`all`, the first of four matches", ["all", "b", "c", "d"], "all"),
         case("`open.door`, `open.*` matches", ["close", "lock", "open.*", "halt"], "open.door"),

@@ -1,0 +1,5 @@
+pub mod Marks
+pub mod Walks
+pub mod Arms
+pub mod Grouped
+pub mod Joined

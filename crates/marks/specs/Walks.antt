@@ -1,0 +1,141 @@
+-- The walk over the marks, as the code's loop asks.
+use mathlib.Core.Path.{_≡_, refl, sym, ap, _∙_}
+use mathlib.Core.Bool.{Bool, true, false, not, cond}
+use mathlib.Core.List.{List, [], _∷_}
+use Prim.Native.Nat.{ℕ, _+_, _≤_, _<_}
+use native.Mathlib.Omega.{arith}
+use native.Mathlib.Numerals.{add-one}
+use lib.ListN.{length, getD, drop, drop-of-length-le}
+use lib.Seq.{drop-cons}
+use borrow.Author.Tests.{not-true, not-false}
+use Rattle.grammar.specs.declared.Place.{Place}
+use Rattle.grammar.specs.declared.Place.the-variants as places
+use Rattle.grammar.specs.declared.Step.{Step}
+use Rattle.grammar.specs.declared.Step.the-variants as steps
+use Rattle.markup.specs.declared.Cursor.{Cursor}
+use Rattle.grammar.specs.Grammar.{isChar, stepOf, dead, live}
+use Rattle.markup.specs.Growth.{wordAt}
+use Rattle.markup.specs.Stack.{levels, stateAt, stateOf, Landed, by-advance}
+use Rattle.reading.specs.declared.Zone.{Zone}
+use Rattle.marks.specs.declared.Mark.{Mark}
+use Rattle.marks.specs.declared.Mark.the-variants.{Nothing, Valued, Tagged}
+use Rattle.marks.specs.declared.Walk.{Walk}
+use Rattle.reading.specs.Zones.{zone, landing, isBegun, isValue, elementIn}
+use Rattle.marks.specs.Marks.{markOf, marked, isMark, marksFrom}
+
+-- what is left of the marks
+abbrev pub restOf : List ℕ → List ℕ → Walk → List Mark
+restOf text xs w = marksFrom (stateOf xs (w .cursor)) (w .at) (w .element) (w .from) (w .index) (drop (w .index) text)
+
+pub record Noted (xs ys : List ℕ) (p : Place) (t d at e from i b : ℕ) (r : Walk) : Type 0 where
+  pub long : length ys ≡ length xs
+  pub deep : r .cursor .depth ≤ d + 1
+  pub word : wordAt (r .cursor .place) ≤ wordAt p + 1
+  pub index-is : r .index ≡ i + 1
+  pub marks : (bs : List ℕ) → marksFrom (live p t (levels xs d)) at e from i (b ∷ bs) ≡ marked (r .mark) (marksFrom (stateOf ys (r .cursor)) (r .at) (r .element) (r .from) (i + 1) bs)
+
+pub record Standing (text xs : List ℕ) (w : Walk) : Type 0 where
+  pub within : w .index ≤ length text
+  pub short : length text ≤ 32768
+  pub deep : w .cursor .depth ≤ w .index
+  pub word : wordAt (w .cursor .place) ≤ w .index
+  pub room : length xs ≡ 32768
+
+-- the mark r .mark is the first of what was left, the others are left; there is none where none was left; each is found further on
+pub record Next (text xs ys : List ℕ) (w r : Walk) : Type 0 where
+  pub standing : Standing text ys r
+  pub rest : restOf text xs w ≡ marked (r .mark) (restOf text ys r)
+  pub none : isMark (r .mark) ≡ false → restOf text xs w ≡ []
+  pub further : isMark (r .mark) ≡ true → w .index < r .index
+
+dead-none : (bs : List ℕ) (at e from i : ℕ) → marksFrom dead at e from i bs ≡ []
+unfolding marksFrom
+dead-none [] at e from i = refl
+dead-none (b ∷ bs) at e from i = refl
+
+pub note-none : (xs : List ℕ) (p : Place) (t d at e from i b : ℕ) (plain : Bool) → plain ≡ isChar b → not plain ≡ true →
+    Noted xs xs p t d at e from i b (record { cursor = record { place = places.Content; top = 0; depth = 0; live = false }; at = at; element = e; from = from; index = i + 1; mark = Nothing })
+unfolding marksFrom
+note-none xs p t d at e from i b plain f g =
+    record { long = refl; deep = omega arith; word = omega arith; index-is = refl; marks = λ bs. rw (sym f ∙ not-true plain g) (sym (dead-none bs at e from (i + 1))) }
+
+pub note-plain : (xs ys : List ℕ) (p : Place) (t d at e from i b : ℕ) (plain : Bool) → plain ≡ isChar b → not plain ≡ false →
+    (s : Step) → s ≡ stepOf p t b → (z : Zone) → z ≡ zone p → (y : Zone) → y ≡ landing s → (el : ℕ) → el ≡ elementIn z e → (begun : Bool) → begun ≡ isBegun y →
+    (at' : ℕ) → at' ≡ cond begun i at → (m : Mark) → m ≡ markOf s z t at' el from i → (inside : Bool) → inside ≡ isValue z → (first : ℕ) → first ≡ cond inside from (i + 1) →
+    (c : Cursor) → Landed xs ys d s c → Noted xs ys p t d at e from i b (record { cursor = c; at = at'; element = el; from = first; index = i + 1; mark = m })
+unfolding marksFrom
+note-plain xs ys p t d at e from i b plain f g s es z ez y ey el ee begun eb at' ea m em inside en first ef c l =
+    let st = by-advance xs p t d b ys s c plain f g es l in
+    record {
+      long = st .long;
+      deep = st .deep;
+      word = st .word;
+      index-is = refl;
+      marks = λ bs. rw (st .steps, sym f ∙ not-false plain g, em, ef, en, ea, eb, ee, ey, ez, es) refl;
+    }
+
+-- ---- the loop
+
+pub record Walking (text xs₀ : List ℕ) (w₀ : Walk) (xs : List ℕ) (w : Walk) (i : ℕ) : Type 0 where
+  pub standing : Standing text xs w
+  pub index-is : w .index ≡ i
+  pub begun : w₀ .index ≤ i
+  pub rest : restOf text xs₀ w₀ ≡ restOf text xs w
+
+pub walk-start : (text xs : List ℕ) (w : Walk) → Standing text xs w → Walking text xs w xs w (w .index)
+walk-start text xs w s = record { standing = s; index-is = refl; begun = omega arith; rest = refl }
+
+no-mark : (m : Mark) (ms : List Mark) → isMark m ≡ false → marked m ms ≡ ms
+no-mark Nothing ms e = refl
+no-mark (Valued e w a b) ms q = absurd (let z : _≡_ {A = ℕ} 0 1 = cc in omega arith)
+no-mark (Tagged a s e) ms q = absurd (let z : _≡_ {A = ℕ} 0 1 = cc in omega arith)
+
+module _ (text xs₀ : List ℕ) (w₀ : Walk) (xs : List ℕ) (w : Walk) (i : ℕ) (k : Walking text xs₀ w₀ xs w i) where
+  here : restOf text xs₀ w₀ ≡ marksFrom (stateOf xs (w .cursor)) (w .at) (w .element) (w .from) i (drop i text)
+  here = k .rest ∙ ap (λ (n : ℕ). marksFrom (stateOf xs (w .cursor)) (w .at) (w .element) (w .from) n (drop n text)) (k .index-is)
+
+  at-i : i < length text → drop i text ≡ getD text i 0 ∷ drop (i + 1) text
+  at-i h = drop-cons text i 0 h ∙ ap (λ (n : ℕ). getD text i 0 ∷ drop n text) (sym (add-one i))
+
+  module _ (ys : List ℕ) (r : Walk) (in-text : i < length text) (alive : not (w .cursor .live) ≡ false)
+      (n : Noted xs ys (w .cursor .place) (w .cursor .top) (w .cursor .depth) (w .at) (w .element) (w .from) i (getD text i 0) r) where
+    one : restOf text xs₀ w₀ ≡ marked (r .mark) (restOf text ys r)
+    one =
+        here ∙ ap (λ (l : List ℕ). marksFrom (stateOf xs (w .cursor)) (w .at) (w .element) (w .from) i l) (at-i in-text) ∙
+        ap (λ (a : Bool). marksFrom (stateAt a (w .cursor .place) (w .cursor .top) (levels xs (w .cursor .depth))) (w .at) (w .element) (w .from) i (getD text i 0 ∷ drop (i + 1) text)) (not-false (w .cursor .live) alive) ∙
+        n .marks (drop (i + 1) text) ∙
+        ap (λ (j : ℕ). marked (r .mark) (marksFrom (stateOf ys (r .cursor)) (r .at) (r .element) (r .from) j (drop j text))) (sym (n .index-is))
+
+    stands : Standing text ys r
+    stands =
+        let q = k .index-is in let a = n .index-is in let dd = k .standing .deep in let ww = k .standing .word in let d2 = n .deep in let w2 = n .word in
+        record { within = omega arith; short = k .standing .short; deep = omega arith; word = omega arith; room = n .long ∙ k .standing .room }
+
+    pub walk-found : (found : Bool) → found ≡ isMark (r .mark) → found ≡ true → Next text xs₀ ys w₀ r
+    walk-found found q t = let e : isMark (r .mark) ≡ true = sym q ∙ t in let a = n .index-is in let b = k .begun in record { standing = stands; rest = one; further = λ f. omega arith; none = λ f. absurd (let z : true ≡ false = sym e ∙ f in let z2 : _≡_ {A = ℕ} 0 1 = cc in omega arith) }
+
+    pub walk-more : (found : Bool) → found ≡ isMark (r .mark) → found ≡ false → Walking text xs₀ w₀ ys r (i + 1)
+    walk-more found q t = let e : isMark (r .mark) ≡ false = sym q ∙ t in let b = k .begun in record { standing = stands; index-is = n .index-is; begun = omega arith; rest = one ∙ no-mark (r .mark) (restOf text ys r) e }
+
+  -- the walk that is handed back where there is no mark
+  abbrev pub stay : Walk
+  stay = record { cursor = w .cursor; at = w .at; element = w .element; from = w .from; index = i; mark = Nothing }
+
+  stays : restOf text xs₀ w₀ ≡ [] → Next text xs₀ xs w₀ stay
+  stays e =
+      let q = k .index-is in let dd = k .standing .deep in let ww = k .standing .word in let wi = k .standing .within in
+      record { standing = record { within = omega arith; short = k .standing .short; deep = omega arith; word = omega arith; room = k .standing .room }; rest = here; none = λ f. e; further = λ f. absurd (let z2 : _≡_ {A = ℕ} 0 1 = cc in omega arith) }
+
+  pub walk-dead : not (w .cursor .live) ≡ true → Next text xs₀ xs w₀ stay
+  walk-dead e =
+      stays (here ∙ ap (λ (a : Bool). marksFrom (stateAt a (w .cursor .place) (w .cursor .top) (levels xs (w .cursor .depth))) (w .at) (w .element) (w .from) i (drop i text)) (not-true (w .cursor .live) e) ∙
+      dead-none (drop i text) (w .at) (w .element) (w .from) i)
+
+  pub walk-end : length text ≤ i → Next text xs₀ xs w₀ stay
+  unfolding marksFrom
+  walk-end h = stays (here ∙ ap (λ (l : List ℕ). marksFrom (stateOf xs (w .cursor)) (w .at) (w .element) (w .from) i l) (drop-of-length-le text h))
+
+pub walk-ready : (text xs₀ : List ℕ) (w₀ : Walk) (xs : List ℕ) (w : Walk) (i : ℕ) → Walking text xs₀ w₀ xs w i → i < length text → (w .cursor .depth < length xs) × (wordAt (w .cursor .place) < 65535) × (i < 32768)
+walk-ready text xs₀ w₀ xs w i k h =
+    let q = k .index-is in let dd = k .standing .deep in let ww = k .standing .word in let ss = k .standing .short in let rr = k .standing .room in
+    (omega arith, omega arith, omega arith)

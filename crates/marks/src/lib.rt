@@ -1,0 +1,280 @@
+// The marks of a text: where a value of an attribute stands, and where a tag ends. One call answers the next mark, and no list of tags is stored: a
+// pass that needs them again walks the text again. Joined in specs/ has the theorem that the marks are the tags of the definition.
+ghost use mathlib.Core.Path.{_≡_};
+ghost use mathlib.Core.Bool.{Bool, cond, not, _&&_};
+ghost use Prim.Native.Nat.{ℕ, _<_, _≤_, _+_};
+ghost use lib.ListN.{length, drop};
+ghost use Rattle.grammar.specs.Grammar.{stepOf};
+ghost use Rattle.markup.specs.Growth.{wordAt};
+ghost use Rattle.reading.specs.Zones.{zone, landing, isBegun, isValue, elementIn};
+ghost use Rattle.marks.specs.Marks.{slashMark, endMark, valueMark, markOf, isMark};
+ghost use Rattle.marks.specs.Walks.{Noted, Standing, Next};
+use grammar::Place;
+use grammar::Step;
+use markup::Cursor;
+use markup::advance;
+use markup::moved_to;
+use reading::Zone;
+use scan::attribute_of;
+use scan::is_char;
+use scan::owner_of;
+
+// Nothing; a value: its element, the word of its attribute, the offsets of its first byte and of its quote; a tag's end: the offset of its "<",
+// 0 for <x>, 1 for <x/>, 2 for </x>, and its element.
+pub enum Mark {
+    Nothing,
+    Valued(u8, u8, usize, usize),
+    Tagged(usize, u8, u8),
+}
+
+// Where the walk stands, beside the stack of levels: the last "<", the element, where a value begins, the next byte, and the mark that the last byte gave.
+pub struct Walk {
+    pub cursor: Cursor,
+    pub at: usize,
+    pub element: u8,
+    pub from: usize,
+    pub index: usize,
+    pub mark: Mark,
+}
+
+// What of a place the tags go by.
+fn zone_of(p: Place) -> Zone
+    ensures { λ r. ⌜ r ≡ zone p ⌝ }
+{
+    match p {
+        Place::Content => Zone::Outside,
+        Place::Less => Zone::Begun,
+        Place::Bang => Zone::Outside,
+        Place::Dash => Zone::Outside,
+        Place::Comment => Zone::Outside,
+        Place::CommentDash => Zone::Outside,
+        Place::CommentEnd => Zone::Outside,
+        Place::Name(w, k) => Zone::InTag(w),
+        Place::Tag(e, x) => Zone::InTag(e),
+        Place::Space(e, x) => Zone::InTag(e),
+        Place::Attribute(e, x, j, k) => Zone::InTag(e),
+        Place::Equals(e, x, j) => Zone::InTag(e),
+        Place::Quote(e, x, j) => Zone::InTag(e),
+        Place::Value(e, x, j, q, v) => Zone::InValue(e, j),
+        Place::Ampersand(e, x, j, q) => Zone::InValue(e, j),
+        Place::Entity(e, x, j, q, w, k) => Zone::InValue(e, j),
+        Place::Slash => Zone::Slash,
+        Place::End(k) => Zone::Outside,
+        Place::Close => Zone::Outside,
+    }
+}
+
+// Where a step leads.
+fn landing_of(s: Step) -> Zone
+    ensures { λ r. ⌜ r ≡ landing s ⌝ }
+{
+    match s {
+        Step::Fault => Zone::Outside,
+        Step::Go(p, u) => zone_of(p),
+        Step::Open(u, v) => Zone::Outside,
+        Step::Shut => Zone::Outside,
+    }
+}
+
+fn is_begun(z: Zone) -> bool
+    ensures { λ r. ⌜ r ≡ isBegun z ⌝ }
+{
+    match z {
+        Zone::Outside => false,
+        Zone::Begun => true,
+        Zone::InTag(e) => false,
+        Zone::InValue(e, j) => false,
+        Zone::Slash => false,
+    }
+}
+
+fn is_value(z: Zone) -> bool
+    ensures { λ r. ⌜ r ≡ isValue z ⌝ }
+{
+    match z {
+        Zone::Outside => false,
+        Zone::Begun => false,
+        Zone::InTag(e) => false,
+        Zone::InValue(e, j) => true,
+        Zone::Slash => false,
+    }
+}
+
+// The element that the place is in, or the one known before.
+fn element_in(z: Zone, d: u8) -> u8
+    ensures { λ r. ⌜ r ≡ elementIn z d ⌝ }
+{
+    match z {
+        Zone::Outside => d,
+        Zone::Begun => d,
+        Zone::InTag(e) => e,
+        Zone::InValue(e, j) => e,
+        Zone::Slash => d,
+    }
+}
+
+fn either(first: bool, a: usize, b: usize) -> usize
+    ensures { λ r. ⌜ r ≡ cond first a b ⌝ }
+{
+    if first {
+        return a;
+    }
+    b
+}
+
+// The mark of a step that ends no value: the tag that it ends, if it ends one.
+fn end_mark(s: Step, z: Zone, t: u8, at: usize, e: u8) -> Mark
+    ensures { λ r. ⌜ r ≡ endMark s z t at e ⌝ }
+{
+    match s {
+        Step::Fault => Mark::Nothing,
+        Step::Go(p, u) => slash_mark(z, at, e),
+        Step::Open(u, v) => Mark::Tagged(at, 0, e),
+        Step::Shut => Mark::Tagged(at, 2, owner_of(t)),
+    }
+}
+
+// The mark of a step that leads on: only an empty-element tag ends so.
+fn slash_mark(z: Zone, at: usize, e: u8) -> Mark
+    ensures { λ r. ⌜ r ≡ slashMark z at e ⌝ }
+{
+    match z {
+        Zone::Outside => Mark::Nothing,
+        Zone::Begun => Mark::Nothing,
+        Zone::InTag(d) => Mark::Nothing,
+        Zone::InValue(d, j) => Mark::Nothing,
+        Zone::Slash => Mark::Tagged(at, 1, e),
+    }
+}
+
+// The mark of the byte i that led from the zone z by the step s.
+fn mark_of(s: Step, z: Zone, t: u8, at: usize, e: u8, from: usize, i: usize) -> Mark
+    ensures { λ r. ⌜ r ≡ markOf s z t at e from i ⌝ }
+{
+    match z {
+        Zone::Outside => end_mark(s, z, t, at, e),
+        Zone::Begun => end_mark(s, z, t, at, e),
+        Zone::InTag(d) => end_mark(s, Zone::InTag(d), t, at, e),
+        Zone::InValue(d, j) => value_mark(landing_of(s), d, j, from, i),
+        Zone::Slash => end_mark(s, z, t, at, e),
+    }
+}
+
+// The mark of a byte inside a value: the value, if the byte is the quote that ends it.
+fn value_mark(y: Zone, d: u8, j: u8, from: usize, i: usize) -> Mark
+    ensures { λ r. ⌜ r ≡ valueMark y d j from i ⌝ }
+{
+    let inside = is_value(y);
+    if inside {
+        return Mark::Nothing;
+    }
+    Mark::Valued(d, attribute_of(d, j), from, i)
+}
+
+// One byte: the step, its mark, and where the walk then stands.
+fn note_byte(
+    stack: &mut [u8],
+    place: Place,
+    top: u8,
+    depth: usize,
+    at: usize,
+    element: u8,
+    from: usize,
+    i: usize,
+    b: u8,
+) -> Walk
+    requires { ⌜ (depth < length (now stack)) × (wordAt place < 65535) × (i < 32768) ⌝ }
+    ensures { λ r. ⌜ Noted (now (stack .entry)) (now (stack .exit)) place top depth at element from i b r ⌝ }
+{
+    let plain = is_char(b);
+    if !plain {
+        return Walk {
+            cursor: Cursor {
+                place: Place::Content,
+                top: 0,
+                depth: 0,
+                live: false,
+            },
+            at,
+            element,
+            from,
+            index: i + 1,
+            mark: Mark::Nothing,
+        };
+    }
+    let s = advance(place, top, b);
+    let z = zone_of(place);
+    let y = landing_of(s);
+    let e = element_in(z, element);
+    let begun = is_begun(y);
+    let start = either(begun, i, at);
+    let mark = mark_of(s, z, top, start, e, from, i);
+    let inside = is_value(z);
+    let first = either(inside, from, i + 1);
+    let cursor = moved_to(stack, depth, s);
+    Walk {
+        cursor,
+        at: start,
+        element: e,
+        from: first,
+        index: i + 1,
+        mark,
+    }
+}
+
+fn is_mark(m: Mark) -> bool
+    ensures { λ r. ⌜ r ≡ isMark m ⌝ }
+{
+    match m {
+        Mark::Nothing => false,
+        Mark::Valued(e, w, a, b) => true,
+        Mark::Tagged(a, s, e) => true,
+    }
+}
+
+// The next mark of the text, Nothing where there is none.
+pub fn next_mark(text: &[u8], stack: &mut [u8], walk: Walk) -> Walk
+    requires { ⌜ Standing (now text) (now stack) walk ⌝ }
+    ensures { λ r. ⌜ Next (now (text .entry)) (now (stack .entry)) (now (stack .exit)) walk r ⌝ }
+{
+    let mut w = walk;
+    let mut i = walk.index;
+    while i < text.len() {
+        let c = w.cursor;
+        let live = c.live;
+        if !live {
+            return Walk {
+                cursor: c,
+                at: w.at,
+                element: w.element,
+                from: w.from,
+                index: i,
+                mark: Mark::Nothing,
+            };
+        }
+        let place = c.place;
+        let top = c.top;
+        let depth = c.depth;
+        let at = w.at;
+        let element = w.element;
+        let from = w.from;
+        let b = text[i];
+        let next = note_byte(stack, place, top, depth, at, element, from, i, b);
+        let m = next.mark;
+        let found = is_mark(m);
+        if found {
+            return next;
+        }
+        w = next;
+        i += 1;
+    }
+    let c = w.cursor;
+    Walk {
+        cursor: c,
+        at: w.at,
+        element: w.element,
+        from: w.from,
+        index: i,
+        mark: Mark::Nothing,
+    }
+}

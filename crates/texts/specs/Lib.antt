@@ -1,0 +1,4 @@
+pub mod Opened
+pub mod Faults
+pub mod Refusals
+pub mod Charts

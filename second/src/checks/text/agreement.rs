@@ -1,0 +1,151 @@
+//! The recogniser of the grammar and the reader's own scanner say the same of every text: whether it is
+//! of the grammar, and if not, at which byte it ceases to be the beginning of one.
+
+use super::spelling::{CHART_A, NUMBERED};
+use super::{agrees, Check};
+use crate::generate::{self, Flavour};
+use crate::invariants::{ensure, Found};
+use crate::random::Random;
+use crate::text::damage::{damaged, words, BYTES};
+use crate::text::elements::{Element, ALL, KNOWN};
+use crate::text::read::{read, Refusal};
+use crate::text::recogniser::{Recogniser, Ways};
+use crate::text::scan::scan;
+use crate::text::spell::spell;
+
+/// Every element, attribute and kind of white space, comment, quote and entity.
+const EVERYTHING: &str = "<!-- - --> \n<scxml xmlns='http://www.w3.org/2005/07/scxml'\tversion = \"1.0\" initial=\" p \">
+<state id=\"a\" initial='b'><onentry ><raise event='e.f'> <!----></raise ><log label=\"&amp;1\"/></onentry><onexit/>
+<transition type='internal' cond='In(&apos;b&apos;)' event=\"a.* * b\" target='b'/><state id='b'><initial><!-- --><transition type=\"external\"
+ target='c'><log label='&quot;2'/></transition> </initial><final id='c'/></state></state>
+<parallel id='p'><history id='h' type='deep'><transition target='d'/></history><state id='d'/></parallel></scxml> <!--->-->\r\n";
+
+/// The actions of later requests.
+const LATER: &str = "<scxml><state id='a'><onexit><if cond=\"In('a')\"><send event='e' /><!-- --><elseif cond='In(&apos;a&apos;)'
+ /><cancel sendid='s'></cancel><if cond='&lt;'/><else></else ></if ><else/><send\tid='s' delay='5' event=\"e\"> </send><raise event='f'/></onexit>
+<transition><if cond=''><log label='1'/></if></transition></state></scxml>";
+
+/// Pieces of random texts, and texts of each.
+const PIECES: u64 = 8;
+const TEXTS_OF_PIECE: u64 = 2_500;
+
+pub fn checks() -> Vec<Check> {
+    let mut checks = Vec::new();
+    let texts = [
+        ("everything", EVERYTHING, KNOWN),
+        ("chart A", CHART_A, KNOWN),
+        ("the numbered chart", NUMBERED, KNOWN),
+        ("later actions", LATER, ALL),
+        ("everything where later actions are known", EVERYTHING, ALL),
+    ];
+    for (what, text, actions) in texts {
+        let name = |how: &str| format!("text: recogniser and reader on {what}, {how}");
+        let text = text.as_bytes();
+        checks.push(Check::new(name("prefixes"), move || prefixes(text, actions)));
+        let changes = name("bytes changed, preceded, left out and swapped");
+        checks.push(Check::new(changes, move || each_byte(text, actions)));
+    }
+    for piece in 0..PIECES {
+        let name = |what: &str| format!("text: recogniser and reader on {what}, piece {piece}");
+        checks.push(Check::new(name("damaged spellings"), move || damaged_spellings(piece)));
+        checks.push(Check::new(name("words in no order"), move || random_words(piece)));
+    }
+    checks
+}
+
+fn prefixes(text: &[u8], actions: &'static [Element]) -> Found {
+    let mut recogniser = Recogniser::knowing(actions);
+    ensure(recogniser.fault(text).is_none(), "the whole text is of the grammar")?;
+    (0..=text.len()).try_for_each(|length| agrees(&mut recogniser, &text[..length]))
+}
+
+/// The recogniser's ways before each byte of a text, so that a changed text is taken up at its change.
+struct Stops {
+    recogniser: Recogniser,
+    ways: Vec<Ways>,
+}
+
+impl Stops {
+    fn of(text: &[u8], actions: &'static [Element]) -> Stops {
+        let mut recogniser = Recogniser::knowing(actions);
+        let mut ways = vec![recogniser.start()];
+        for &byte in text {
+            let next = recogniser.step(&ways[ways.len() - 1], byte);
+            ways.push(next);
+        }
+        Stops { recogniser, ways }
+    }
+
+    /// Whether both say the same of a text that is the old one up to a place.
+    fn agrees(&mut self, changed: &[u8], from: usize) -> Found {
+        let wanted = self.recogniser.fault_from(&self.ways[from], from, changed);
+        let found = scan(changed, self.recogniser.actions).err();
+        let shown = String::from_utf8_lossy(changed);
+        ensure(found == wanted, &format!("{shown:?}: the scanner {found:?}, the recogniser {wanted:?}"))
+    }
+}
+
+fn each_byte(text: &[u8], actions: &'static [Element]) -> Found {
+    let mut stops = Stops::of(text, actions);
+    for place in 0..text.len() {
+        for byte in BYTES {
+            let mut changed = text.to_vec();
+            changed[place] = byte;
+            stops.agrees(&changed, place)?;
+            changed[place] = text[place];
+            changed.insert(place, byte);
+            stops.agrees(&changed, place)?;
+        }
+        let mut changed = text.to_vec();
+        changed.remove(place);
+        stops.agrees(&changed, place)?;
+        let mut changed = text.to_vec();
+        changed.swap(place, (place + 1).min(text.len() - 1));
+        stops.agrees(&changed, place)?;
+    }
+    Ok(())
+}
+
+/// Where the recogniser finds a fault the reader answers a 12 there, and no other 12 is of the grammar.
+fn reads_alike(recogniser: &mut Recogniser, text: &[u8]) -> Found {
+    agrees(recogniser, text)?;
+    match (recogniser.fault(text), read(text)) {
+        (Some(place), found) => {
+            ensure(found == Err(Refusal::Text(place)), &format!("{found:?} for a fault at {place}"))
+        }
+        (None, Err(Refusal::Text(place))) => {
+            ensure(place < text.len(), "a fault of the second stage is in the text")
+        }
+        (None, _) => Ok(()),
+    }
+}
+
+fn damaged_spellings(piece: u64) -> Found {
+    let random = &mut Random::seeded(piece);
+    let mut recogniser = Recogniser::default();
+    let mut count = 0;
+    while count < TEXTS_OF_PIECE {
+        let rows = random.between(2, 12);
+        let flavour = Flavour { blocks: 60, ..Flavour::with_rows(random, rows) };
+        let text = spell(&generate::chart(random, flavour), random);
+        for _ in 0..25 {
+            let mut changed = damaged(&text, random);
+            if random.chance(20) && !changed.is_empty() {
+                changed = damaged(&changed, random);
+            }
+            reads_alike(&mut recogniser, &changed)?;
+            count += 1;
+        }
+    }
+    Ok(())
+}
+
+fn random_words(piece: u64) -> Found {
+    let random = &mut Random::seeded(1_000 + piece);
+    let (mut today, mut later) = (Recogniser::default(), Recogniser::knowing(ALL));
+    (0..TEXTS_OF_PIECE).try_for_each(|_| {
+        let text = words(random);
+        reads_alike(&mut today, &text)?;
+        agrees(&mut later, &text)
+    })
+}

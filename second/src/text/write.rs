@@ -1,0 +1,150 @@
+//! "From an accepted chart write SCXML text in one fixed spelling".
+
+use super::recogniser::MAX_TEXT;
+use super::values::{NAMESPACE, VERSION};
+use crate::compiled::needed_place;
+use crate::numbers::{NameNumber, RowNumber, ROOT};
+use crate::rules::judge;
+use crate::tables::{Action, Chart, Kind, Transition, TransitionType};
+
+/// "If the text does not fit the lent buffer, or passes the reader's 32,768 bytes".
+pub const TOO_LONG: u64 = 13;
+
+/// Writes the chart of the tables into the buffer and answers the text's length, or 1 to 5 or 13; then
+/// the buffer is as it was. Behind the text it keeps its bytes.
+pub fn write(numbers: &[u64], names: &[u8], buffer: &mut [u8]) -> Result<usize, u64> {
+    let place = needed_place(numbers).ok_or(1u64)?;
+    let (chart, _) = judge(numbers, names, place)?;
+    let text = text_of(&chart);
+    if text.len() > buffer.len().min(MAX_TEXT) {
+        return Err(TOO_LONG);
+    }
+    buffer[..text.len()].copy_from_slice(text.as_bytes());
+    Ok(text.len())
+}
+
+/// The text of a chart that keeps the rules, of whatever length.
+pub fn text_of(chart: &Chart) -> String {
+    Writer { chart }.row(ROOT)
+}
+
+type Attributes<'a> = Vec<(&'a str, String)>;
+
+/// "no optional spaces": one before each attribute, none elsewhere; an element with nothing inside is one
+/// tag.
+fn element(word: &str, attributes: &Attributes, inside: &str) -> String {
+    let spelt: String = attributes.iter().map(|(name, value)| format!(" {name}=\"{value}\"")).collect();
+    match inside.is_empty() {
+        true => format!("<{word}{spelt}/>"),
+        false => format!("<{word}{spelt}>{inside}</{word}>"),
+    }
+}
+
+fn ascii(bytes: &[u8]) -> String {
+    String::from_utf8(bytes.to_vec()).expect("names are ASCII")
+}
+
+struct Writer<'a> {
+    chart: &'a Chart,
+}
+
+impl Writer<'_> {
+    fn id(&self, row: RowNumber) -> String {
+        ascii(self.chart.id(row))
+    }
+
+    fn ids(&self, rows: &[RowNumber]) -> String {
+        rows.iter().map(|&row| self.id(row)).collect::<Vec<_>>().join(" ")
+    }
+
+    fn names(&self, names: &[NameNumber]) -> String {
+        names.iter().map(|&name| ascii(self.chart.name(name))).collect::<Vec<_>>().join(" ")
+    }
+
+    /// Onentry, onexit, the initial element or default transition, transitions, then child rows.
+    fn row(&self, number: RowNumber) -> String {
+        let row = self.chart.row(number);
+        let mut inside = self.block_of("onentry", &row.entry) + &self.block_of("onexit", &row.exit);
+        if row.kind.is_history() || (!row.list.is_empty() && !row.block.is_empty()) {
+            inside += &self.list_with_block(number);
+        }
+        for transition in self.chart.transitions.iter().filter(|transition| transition.source == number) {
+            inside += &self.transition(transition);
+        }
+        for child in self.chart.row_numbers().filter(|&child| self.chart.row(child).parent == Some(number)) {
+            inside += &self.row(child);
+        }
+        let (word, attributes) = self.row_tag(number);
+        element(word, &attributes, &inside)
+    }
+
+    /// The word and the attributes of a row; a list without a block is an attribute.
+    fn row_tag(&self, number: RowNumber) -> (&'static str, Attributes<'static>) {
+        let row = self.chart.row(number);
+        let mut attributes = match row.kind {
+            Kind::Root => vec![("xmlns", ascii(NAMESPACE)), ("version", ascii(VERSION))],
+            _ => vec![("id", self.id(number))],
+        };
+        if !row.kind.is_history() && !row.list.is_empty() && row.block.is_empty() {
+            attributes.push(("initial", self.ids(&row.list)));
+        }
+        if row.kind == Kind::DeepHistory {
+            attributes.push(("type", "deep".to_string()));
+        }
+        let word = match row.kind {
+            Kind::Root => "scxml",
+            Kind::State => "state",
+            Kind::Parallel => "parallel",
+            Kind::Final => "final",
+            Kind::ShallowHistory | Kind::DeepHistory => "history",
+        };
+        (word, attributes)
+    }
+
+    fn list_with_block(&self, number: RowNumber) -> String {
+        let row = self.chart.row(number);
+        let target = vec![("target", self.ids(&row.list))];
+        let transition = element("transition", &target, &self.actions(&row.block));
+        match row.kind.is_history() {
+            true => transition,
+            false => element("initial", &Vec::new(), &transition),
+        }
+    }
+
+    /// Attributes in the order of R-1's list, "defaults left out".
+    fn transition(&self, transition: &Transition) -> String {
+        let mut attributes = Attributes::new();
+        if transition.kind == TransitionType::Internal {
+            attributes.push(("type", "internal".to_string()));
+        }
+        if !transition.descriptors.is_empty() {
+            attributes.push(("event", self.names(&transition.descriptors)));
+        }
+        if let Some(row) = transition.condition {
+            attributes.push(("cond", format!("In('{}')", self.id(row))));
+        }
+        if !transition.targets.is_empty() {
+            attributes.push(("target", self.ids(&transition.targets)));
+        }
+        element("transition", &attributes, &self.actions(&transition.block))
+    }
+
+    fn block_of(&self, word: &str, block: &[Action]) -> String {
+        match block.is_empty() {
+            true => String::new(),
+            false => element(word, &Vec::new(), &self.actions(block)),
+        }
+    }
+
+    fn actions(&self, block: &[Action]) -> String {
+        block.iter().map(|&action| self.action(action)).collect()
+    }
+
+    fn action(&self, action: Action) -> String {
+        let (word, attribute) = match action {
+            Action::Raise(name) => ("raise", ("event", self.names(&[name]))),
+            Action::Host(number) => ("log", ("label", number.to_string())),
+        };
+        element(word, &vec![attribute], "")
+    }
+}
