@@ -18,6 +18,7 @@ use Rattle.definition.specs.Compiled.{words}
 use Rattle.laws.specs.Bools.{clash, bool-case, and-left, and-right, and-true}
 use Rattle.laws.specs.Loops.{all-append, each-below, below-each}
 use Rattle.laws.specs.Orders.{lt-case}
+use Rattle.laws.specs.Parts.{part-end}
 use Rattle.theory.specs.Tree.{Tree}
 use Rattle.rowset.specs.declared.RowSet.{RowSet}
 use Rattle.rowset.specs.Member.{rowsOf}
@@ -44,6 +45,10 @@ all-zero : (ws : List ℕ) → ((k : ℕ) → getD ws k 0 ≡ 0) → all (eqb 0)
 unfolding all
 all-zero [] h = refl
 all-zero (x ∷ ws) h = and-true (eqb 0 x) _ (eq-eqb 0 x (sym (h 0))) (all-zero ws (λ k. h (suc k)))
+
+-- what was said of the words from m on, as a part that ends where they do
+pub behind-told : (ws : List ℕ) (m : ℕ) (b t : Bool) → b ≡ all (eqb 0) (take (length ws - m) (drop m ws)) → b ≡ t → all (eqb 0) (drop m ws) ≡ t
+behind-told ws m b t e f = sym (ap (all (eqb 0)) (part-end m ws)) ∙ sym e ∙ f
 
 -- four words of zero hold no row
 none-stored : (ws : List ℕ) (h : ℕ) → ((k : ℕ) → h * 4 ≤ k → getD ws k 0 ≡ 0) → storedAt ws h ≡ []
