@@ -1,4 +1,4 @@
-// The session: what a host hands over to every call and gets back. Plain numbers, so that C can hold it.
+// The session by value: what every call of this crate takes and hands back beside its answer. Plain numbers; C lends the same parts in place (crate lent).
 ghost use mathlib.Core.Path.{_≡_};
 ghost use mathlib.Core.List.{_++_};
 ghost use Prim.Native.Nat.{_+_, _*_, _<_};
