@@ -12,17 +12,18 @@ use Rattle.definition.specs.Chart.{Chart, Names, kind, isHistory}
 use Rattle.definition.specs.Tables.{chartOf, nameAt}
 use Rattle.definition.specs.Tree.{defaultTargets}
 use Rattle.definition.specs.Rules.{keepsRules}
-use Rattle.definition.specs.Selection.{History, effectiveTargets, domain, exitSet, selected}
-use Rattle.definition.specs.Blocks.{Effect}
-use Rattle.definition.specs.Microstep.{addExits, exits, stored, storing, pathsBelow, addTargets, targeted, entrySet, storedIn, staying, historyAfter, entryOf, configurationAfter}
-use Rattle.definition.specs.Follower.{Follower, Round, idle, over, did, taking, selectedBy, closingRound, round}
-use Rattle.definition.specs.Legal.{WellFormed}
+use Rattle.follower.specs.Selection.{History, effectiveTargets, domain, exitSet, selected}
+use Rattle.follower.specs.Blocks.{Effect}
+use Rattle.follower.specs.Microstep.{addExits, exits, stored, storing, pathsBelow, addTargets, targeted, entrySet, storedIn, staying, historyAfter, entryOf, configurationAfter}
+use Rattle.follower.specs.Follower.{Follower, Round, idle, over, did, taking, selectedBy, closingRound, round}
+use Rattle.follower.specs.Legal.{WellFormed}
 use Rattle.laws.specs.Bools.{no, clash, or-elim, or-left, or-right, and-false, both-ways, not-so}
 use Rattle.laws.specs.Sets.{Ascends, NoTwice, ascends-ext, ascends-union, ascends-minus, ascends-those, mem-head, mem-one, mem-union, mem-minus, empty-none}
 use Rattle.laws.specs.Lists.{mem-app, mem-tail, empty-list, set-eq, full-list}
-use Rattle.theory.specs.Fork.{Legal}
-use Rattle.theory.specs.Unions.{union-mem, mem-in-union, ascends-fold-union}
-use Rattle.theory.specs.Accepted.{Sound, HistOk, accepted-sound}
+use Rattle.accepted.specs.Fork.{Legal}
+use Rattle.accepted.specs.Unions.{union-mem, mem-in-union, ascends-fold-union}
+use Rattle.accepted.specs.Sound.{Sound, accepted-sound}
+use Rattle.theory.specs.Accepted.{HistOk}
 use Rattle.theory.specs.LegalTest.{legal-facts}
 use Rattle.theory.specs.Storing.{stored-kept}
 use Rattle.theory.specs.Shown.{takenIn, taken-effects}

@@ -6,7 +6,7 @@ use Prim.Native.Nat.{ℕ}
 use Rattle.definition.specs.Rows.{fold, from, mem}
 use Rattle.definition.specs.Chart.{Chart}
 use Rattle.definition.specs.Tree.{children}
-use Rattle.definition.specs.Microstep.{pathsBelow, Entry, hasNoChildIn, complete, entrySet}
+use Rattle.follower.specs.Microstep.{pathsBelow, Entry, hasNoChildIn, complete, entrySet}
 use Rattle.laws.specs.Bools.{or-elim, or-left, or-right, both-ways}
 use Rattle.laws.specs.Lists.{meets-none, none-meets}
 use Rattle.theory.specs.Entry.{bare-facts, bare-intro, bare-less, asksFor, asks-elim, asks-child, asks-initial, mem-complete}

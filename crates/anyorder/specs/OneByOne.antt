@@ -6,9 +6,9 @@ use Prim.Native.Nat.{ℕ}
 use Rattle.definition.specs.Rows.{fold, mem, isEmpty, union, intersection, minus}
 use Rattle.definition.specs.Chart.{Chart}
 use Rattle.definition.specs.Tree.{descendants, defaultTargets}
-use Rattle.definition.specs.Selection.{History, effectiveTargets, domain}
-use Rattle.definition.specs.Microstep.{storing, pathsBelow, entrySet, storedIn}
-use Rattle.definition.specs.Follower.{Follower}
+use Rattle.follower.specs.Selection.{History, effectiveTargets, domain}
+use Rattle.follower.specs.Microstep.{storing, pathsBelow, entrySet, storedIn}
+use Rattle.follower.specs.Follower.{Follower}
 use Rattle.laws.specs.Sets.{NoTwice}
 
 -- "the configuration and stored history"

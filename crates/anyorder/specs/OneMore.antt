@@ -8,19 +8,20 @@ use native.Mathlib.Omega.{arith}
 use Rattle.definition.specs.Rows.{fold, from, keep, those, mem, isIn, isEmpty, union, intersection, minus, append}
 use Rattle.definition.specs.Chart.{Chart, kind, parent, isHistory, isShallow}
 use Rattle.definition.specs.Tree.{isDescendant, isChild, descendants, children, isAtomic, defaultTargets}
-use Rattle.definition.specs.Selection.{History, atomicStates, standIns, addStandIns, effectiveTargets, domain, exitSet}
-use Rattle.definition.specs.Microstep.{addExits, exits, wouldStore, stored, storing, pathsBelow, addTargets, targeted, entrySet, storedIn, staying, historyAfter, entryOf, configurationAfter}
-use Rattle.definition.specs.Legal.{isAtomicBelow}
+use Rattle.follower.specs.Selection.{History, atomicStates, standIns, addStandIns, effectiveTargets, domain, exitSet}
+use Rattle.follower.specs.Microstep.{addExits, exits, wouldStore, stored, storing, pathsBelow, addTargets, targeted, entrySet, storedIn, staying, historyAfter, entryOf, configurationAfter}
+use Rattle.follower.specs.Legal.{isAtomicBelow}
 use Rattle.laws.specs.Bools.{no, clash, or-left, or-right, or-false, and-false, both-ways, bool-case, not-so, and-left, and-right}
 use Rattle.laws.specs.Sets.{Ascends, ascends-ext, ascends-keep, ascends-intersection, ascends-union, ascends-minus, ascends-those, mem-head, mem-union, mem-intersection, mem-minus, empty-some}
 use Rattle.laws.specs.Folds.{fold-same}
 use Rattle.laws.specs.Lists.{mem-app}
 use Rattle.laws.specs.Ways.{Way, way-compare, below-way, below-trans}
-use Rattle.theory.specs.Tree.{under-below, under-plain, below-under, mem-children}
-use Rattle.theory.specs.Fork.{Legal}
+use Rattle.accepted.specs.Tree.{under-below, under-plain, below-under, mem-children}
+use Rattle.accepted.specs.Fork.{Legal}
 use Rattle.theory.specs.Entry.{path-descends, down-facts}
-use Rattle.theory.specs.Unions.{union-mem}
-use Rattle.theory.specs.Accepted.{Sound, mem-descendants, HistOk, child-under}
+use Rattle.accepted.specs.Unions.{union-mem}
+use Rattle.accepted.specs.Sound.{Sound, mem-descendants}
+use Rattle.theory.specs.Accepted.{HistOk, child-under}
 use Rattle.theory.specs.Domain.{dom, target-stand, effective-of, effective-in}
 use Rattle.theory.specs.Round.{Taken, Moves, exits-of, domains-apart, after-at, next-ascends}
 use Rattle.theory.specs.Storing.{isStoredBy, stored-mem, mem-stored}

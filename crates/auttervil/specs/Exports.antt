@@ -12,7 +12,7 @@ use Rattle.definition.specs.Answers.{answerNo, statusNo}
 use Rattle.definition.specs.Compiled.{compiled, isCompiled}
 use Rattle.compiler.specs.Results.{Compiles}
 use Rattle.definition.specs.Names.{Name}
-use Rattle.definition.specs.Blocks.{Effect}
+use Rattle.follower.specs.Blocks.{Effect}
 use Rattle.state.specs.State.{traceWith}
 use Rattle.session.specs.declared.Session.{Session}
 use Rattle.session.specs.declared.Started.{Started}

@@ -5,7 +5,7 @@ use mathlib.Core.List.{List, [], _∷_}
 use Prim.Native.Nat.{ℕ, _-_}
 use lib.Dec.{eqb, leb}
 use lib.ListN.{length, take, drop}
-use Rattle.definition.specs.Calls.{Call, starts, posts, runs}
+use Rattle.follower.specs.Calls.{Call, starts, posts, runs}
 
 -- "a number of rounds from 0 to 4,294,967,295"
 abbrev pub mostRounds : ℕ

@@ -6,8 +6,8 @@ use mathlib.Core.List.{List, [], _∷_, map}
 use Prim.Native.Nat.{ℕ, suc}
 use lib.ListN.{length}
 use Rattle.definition.specs.Tables.{rowCount, chartOf}
-use Rattle.definition.specs.Follower.{endedFollower}
-use Rattle.definition.specs.Calls.{Call, starts, posts, runs, Outcome}
+use Rattle.follower.specs.Follower.{endedFollower}
+use Rattle.follower.specs.Calls.{Call, starts, posts, runs, Outcome}
 use Rattle.definition.specs.Compiled.{ownNumbers, isCompiled}
 use Rattle.laws.specs.Bools.{no}
 use Rattle.session.specs.declared.Session.{Session}

@@ -11,11 +11,11 @@ use Rattle.definition.specs.declared.Answer.the-variants.{Done}
 use Rattle.definition.specs.Chart.{Chart}
 use Rattle.definition.specs.Tables.{rowCount, chartOf, nameAt}
 use Rattle.definition.specs.Rules.{keepsRules}
-use Rattle.definition.specs.Follower.{start, run}
-use Rattle.definition.specs.Legal.{WellFormed}
+use Rattle.follower.specs.Follower.{start, run}
+use Rattle.follower.specs.Legal.{WellFormed}
 use Rattle.definition.specs.Compiled.{ownNumbers, isCompiled}
 use Rattle.laws.specs.Bools.{bool-case, eq-case}
-use Rattle.theory.specs.Accepted.{Sound}
+use Rattle.accepted.specs.Sound.{Sound}
 use Rattle.theory.specs.Theorems.{start-keeps, run-keeps}
 use Rattle.chart.specs.Own.{answer-done, own-chart, compiled-ready}
 use Rattle.compiler.specs.Results.{verdict-sizes}

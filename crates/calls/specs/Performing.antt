@@ -7,8 +7,8 @@ use Prim.Native.Nat.{ℕ}
 use lib.ListN.{length, getD, take, drop}
 use Rattle.definition.specs.Rows.{flat}
 use Rattle.definition.specs.Tables.{chartOf, nameAt}
-use Rattle.definition.specs.Follower.{endedFollower}
-use Rattle.definition.specs.Calls.{Call, starts, posts, runs, Outcome, followAll}
+use Rattle.follower.specs.Follower.{endedFollower}
+use Rattle.follower.specs.Calls.{Call, starts, posts, runs, Outcome, followAll}
 use Rattle.definition.specs.Compiled.{ownNumbers, isCompiled}
 use Rattle.session.specs.declared.Session.{Session}
 use Rattle.session.specs.Sessions.{sessionOf, endedSession}

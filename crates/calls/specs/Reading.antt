@@ -10,7 +10,7 @@ use lib.Seq.{drop-cons}
 use borrow.Author.Tests.{leb-true, le-leb, lt-leb, ne-eqb}
 use Rattle.definition.specs.declared.Answer.{Answer}
 use Rattle.definition.specs.Answers.{answerNo, statusNo}
-use Rattle.definition.specs.Calls.{Call}
+use Rattle.follower.specs.Calls.{Call}
 use Rattle.laws.specs.Bools.{and-left, and-right}
 use Rattle.session.specs.declared.Session.{Session}
 use Rattle.session.specs.declared.Started.{Started}

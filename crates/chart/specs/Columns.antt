@@ -8,9 +8,8 @@ use lib.ListN.{length, getD, length-append}
 use lib.Seq.{getD-at, getD-append-add}
 use Rattle.definition.specs.Rows.{from, flat, union, mem}
 use Rattle.definition.specs.Compiled.{word, words, wordsAt, column}
-use Rattle.laws.specs.Lists.{flat-app}
+use Rattle.laws.specs.Lists.{flat-app, length-from}
 use Rattle.laws.specs.Loops.{from-last, from-at}
-use Rattle.theory.specs.Round.{length-from}
 use Rattle.rowset.specs.declared.RowSet.{RowSet}
 use Rattle.rowset.specs.Member.{rowsOf}
 use Rattle.rowset.specs.Rows.{rows-read}

@@ -22,7 +22,7 @@ use Rattle.laws.specs.Bools.{and-left, and-right, and4, and7}
 use Rattle.laws.specs.Sets.{ascends-those, ascends-union}
 use Rattle.laws.specs.Lists.{same-eq}
 use Rattle.laws.specs.Orders.{union-none}
-use Rattle.theory.specs.Accepted.{Sound, verdict-rule1, verdict-rule2, verdict-sound}
+use Rattle.accepted.specs.Sound.{Sound, verdict-rule1, verdict-rule2, verdict-sound}
 use Rattle.tables.specs.Ranges.{InTables, rule1-tables}
 use Rattle.rowset.specs.Member.{rowsOf}
 use Rattle.chart.specs.Ready.{ancestorBase, descendantBase, childBase, defaultBase, anchorBase, setAt, Ready, CompiledWith}

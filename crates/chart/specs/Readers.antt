@@ -12,7 +12,7 @@ use Rattle.definition.specs.Chart.{Chart, kind, isRoot, isState, isFinal}
 use Rattle.definition.specs.Tables.{rowCount, transitionCount, tablesSize, parentAt, chartOf}
 use Rattle.definition.specs.Tree.{children, isCompound, isAtomic, isDomainKind}
 use Rattle.definition.specs.Rules.{countsFit, compiledSize}
-use Rattle.theory.specs.Tree.{low}
+use Rattle.accepted.specs.Tree.{low}
 use Rattle.tables.specs.Ranges.{Counts}
 use Rattle.rowset.specs.declared.RowSet.{RowSet}
 use Rattle.rowset.specs.Member.{rowsOf}

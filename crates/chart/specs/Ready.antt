@@ -11,7 +11,7 @@ use Rattle.definition.specs.Rules.{compiledSize, rule2}
 use Rattle.definition.specs.Compiled.{ownNumbers}
 use Rattle.tables.specs.Ranges.{InTables}
 unfoldable pub use Rattle.tables.specs.Parts.{setAt}
-use Rattle.theory.specs.Accepted.{Sound}
+use Rattle.accepted.specs.Sound.{Sound}
 use Rattle.rowset.specs.Member.{rowsOf}
 
 -- ---- where each column begins; a set has four words

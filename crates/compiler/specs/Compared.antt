@@ -18,7 +18,7 @@ use Rattle.laws.specs.Lists.{same-eq, same-self}
 use Rattle.laws.specs.Orders.{union-none}
 use Rattle.laws.specs.Parts.{part-end}
 use Rattle.laws.specs.Passes.{drop-end}
-use Rattle.theory.specs.Tree.{Tree}
+use Rattle.accepted.specs.Tree.{Tree}
 use Rattle.rowset.specs.Member.{rowsOf, Fitting}
 use Rattle.rowset.specs.Rows.{words-of-rows}
 use Rattle.chart.specs.Ready.{setAt}

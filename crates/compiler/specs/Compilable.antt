@@ -7,8 +7,8 @@ use lib.ListN.{length, drop}
 use Rattle.definition.specs.Chart.{Chart}
 use Rattle.definition.specs.Tables.{rowCount, transitionCount, parentAt, chartOf}
 use Rattle.tables.specs.Ranges.{InTables, RowIn, TransitionIn, HasParent}
-use Rattle.theory.specs.Tree.{low}
-use Rattle.theory.specs.Accepted.{Sound}
+use Rattle.accepted.specs.Tree.{low}
+use Rattle.accepted.specs.Sound.{Sound}
 use Rattle.definition.specs.Tree.{children, defaultTargets}
 use Rattle.definition.specs.Compiled.{column}
 use Rattle.compiler.specs.Writing.{columnOver}

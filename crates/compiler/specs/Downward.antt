@@ -6,17 +6,16 @@ use Prim.Native.Nat.{ℕ, zero, suc, _+_, _≤_, _<_}
 use native.Mathlib.Omega.{arith}
 use lib.Dec.{eqb, leb, ltb}
 use borrow.Author.Tests.{le-ltb, lt-ltb, le-leb, lt-leb, leb-true, leb-false, ltb-true, eqb-true, eqb-false, eq-eqb, ne-eqb}
-use Rattle.definition.specs.Rows.{from, mem, any, those, insert, union}
+use Rattle.definition.specs.Rows.{from, mem, any, those, insert, union, nothingAt}
 use Rattle.definition.specs.Chart.{Chart, kind, parent, isHistory}
 use Rattle.definition.specs.Tree.{ancestors, isDescendant, descendants}
 use Rattle.definition.specs.Compiled.{words, column}
-use Rattle.definition.specs.Follower.{nothingAt}
 use Rattle.laws.specs.Bools.{not-so, clash, and-false, or-false, no, bool-case, and-left, and-right, and-true, both-ways}
 use Rattle.laws.specs.Sets.{Ascends, ascends-ext, ascends-union, ascends-those, those-ext, those-low, mem-those, mem-insert, mem-union}
 use Rattle.laws.specs.Lists.{mem-cases, any-true}
 use Rattle.laws.specs.Orders.{keep-none}
 use Rattle.laws.specs.Ways.{from-parent, child-way}
-use Rattle.theory.specs.Tree.{Tree, low, climb-one, ancestor-low, anc-below, parent-plain}
+use Rattle.accepted.specs.Tree.{Tree, low, climb-one, ancestor-low, anc-below, parent-plain}
 use Rattle.compiler.specs.Writing.{from-bounds, column-cong}
 
 -- from b, which is i or a later row, one step up leads to a

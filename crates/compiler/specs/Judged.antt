@@ -18,7 +18,7 @@ use Rattle.laws.specs.Lists.{any-true, any-mem, all-mem, mem-all, same-eq, same
 use Rattle.laws.specs.Loops.{each-below, below-each}
 use Rattle.laws.specs.Passes.{fold-keeps}
 use Rattle.laws.specs.Ways.{Way, Below, eq-way, below-way, below-trans, way-cases, way-le, child-way, from-parent}
-use Rattle.theory.specs.Tree.{Tree, low, climb-one, below-anc, under-below, under-plain, below-under, child-of, child-facts, children-mem, mem-children}
+use Rattle.accepted.specs.Tree.{Tree, low, climb-one, below-anc, under-below, under-plain, below-under, child-of, child-facts, children-mem, mem-children}
 use Rattle.rowset.specs.Member.{rowsOf}
 use Rattle.rowset.specs.Rows.{ascends-rows}
 use Rattle.chart.specs.Ready.{setAt}

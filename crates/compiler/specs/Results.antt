@@ -20,8 +20,8 @@ use Rattle.laws.specs.Bools.{clash, not-so, and-left}
 use Rattle.laws.specs.Sets.{mem-union}
 use Rattle.laws.specs.Passes.{drop-end}
 use Rattle.laws.specs.Parts.{part-end}
-use Rattle.theory.specs.Tree.{Tree}
-use Rattle.theory.specs.Accepted.{verdict-rule1, verdict-rule2, verdict-sound}
+use Rattle.accepted.specs.Tree.{Tree}
+use Rattle.accepted.specs.Sound.{verdict-rule1, verdict-rule2, verdict-sound}
 use Rattle.tables.specs.Ranges.{InTables, rule1-tables}
 use Rattle.rules3.specs.Parents.{tree-kept}
 use Rattle.rules3.specs.Ancestry.{setOf, Climbed}

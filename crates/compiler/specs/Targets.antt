@@ -11,7 +11,7 @@ use Rattle.definition.specs.Tables.{rowCount, transitionCount, kindAt, chartOf}
 use Rattle.definition.specs.Tree.{children, isDomainKind, listed, defaultTargets, anchor, anchors}
 use Rattle.laws.specs.Bools.{clash}
 use Rattle.laws.specs.Orders.{union-none}
-use Rattle.theory.specs.Tree.{root-kind}
+use Rattle.accepted.specs.Tree.{root-kind}
 use Rattle.tables.specs.Ranges.{HasParent}
 use Rattle.rowset.specs.declared.RowSet.{RowSet}
 use Rattle.rowset.specs.Member.{rowsOf}

@@ -5,13 +5,12 @@ use mathlib.Core.List.{List, [], _++_}
 use Prim.Native.Nat.{ℕ, _+_, _*_, _≤_, _<_}
 use native.Mathlib.Omega.{arith}
 use lib.ListN.{length, drop, length-append, length-drop}
-use Rattle.definition.specs.Rows.{insert, union}
+use Rattle.definition.specs.Rows.{insert, union, nothingAt}
 use Rattle.definition.specs.Chart.{Chart, isHistory}
 use Rattle.definition.specs.Tables.{rowCount, parentAt, kindAt, chartOf}
 use Rattle.definition.specs.Tree.{ancestors, descendants, isChild, children, defaultTargets}
 use Rattle.definition.specs.Compiled.{words, column}
-use Rattle.definition.specs.Follower.{nothingAt}
-use Rattle.theory.specs.Tree.{ancestor-low}
+use Rattle.accepted.specs.Tree.{ancestor-low}
 use Rattle.laws.specs.Sets.{ascends-those}
 use Rattle.laws.specs.Orders.{union-none}
 use Rattle.rowset.specs.declared.RowSet.{RowSet}

@@ -5,16 +5,15 @@ use mathlib.Core.List.{List, [], _∷_}
 use Prim.Native.Nat.{ℕ, zero, suc, _+_, _<_}
 use native.Mathlib.Omega.{arith}
 use borrow.Author.Tests.{le-ltb, ne-eqb}
-use Rattle.definition.specs.Rows.{from, mem, those, insert, union}
+use Rattle.definition.specs.Rows.{from, mem, those, insert, union, nothingAt}
 use Rattle.definition.specs.Chart.{Chart, kind, parent, isHistory}
 use Rattle.definition.specs.Tree.{ancestors, isChild, children}
 use Rattle.definition.specs.Compiled.{words, column}
-use Rattle.definition.specs.Follower.{nothingAt}
 use Rattle.laws.specs.Bools.{and-false, no}
 use Rattle.laws.specs.Sets.{ascends-ext, ascends-insert, ascends-union, ascends-those, mem-insert, mem-union, those-low}
 use Rattle.laws.specs.Orders.{union-none}
 use Rattle.laws.specs.Loops.{those-insert, those-skip}
-use Rattle.theory.specs.Tree.{Tree, climb-one, child-of}
+use Rattle.accepted.specs.Tree.{Tree, climb-one, child-of}
 use Rattle.compiler.specs.Writing.{words-set, column-cong}
 
 -- ---- ancestors

@@ -13,7 +13,7 @@ use Rattle.definition.specs.declared.Action.the-variants.{Raise, Host}
 use Rattle.definition.specs.Rows.{all}
 use Rattle.definition.specs.Tables.{nameCount}
 use Rattle.definition.specs.Rules.{argumentFits}
-use Rattle.definition.specs.Blocks.{perform, performed}
+use Rattle.follower.specs.Blocks.{perform, performed}
 use Rattle.laws.specs.Maps.{all-at}
 use Rattle.tables.specs.Ranges.{InTables}
 use Rattle.tables.specs.Parts.{actionsOf, BlockOf}

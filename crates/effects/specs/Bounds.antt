@@ -10,11 +10,11 @@ use Rattle.definition.specs.declared.Action.{Action}
 use Rattle.definition.specs.Rows.{flat, from, keep, minus, mem, backwards}
 use Rattle.definition.specs.Chart.{kind, parent, isRoot, isFinal}
 use Rattle.definition.specs.Tables.{mostActions, rowCount, transitionCount, rowCell, transitionCell, blockAt, entryAt, exitAt, listBlockAt, transitionBlockAt, chartOf}
-use Rattle.definition.specs.Blocks.{done, performed}
-use Rattle.definition.specs.Microstep.{exitEffects, exiting, transitionEffects, Entry, initialBlock, defaultBlock, isDoneAbove, doneEffects, activeLeaving, activeAt, defaultEffects, entryEffects, entering}
+use Rattle.follower.specs.Blocks.{done, performed}
+use Rattle.follower.specs.Microstep.{exitEffects, exiting, transitionEffects, Entry, initialBlock, defaultBlock, isDoneAbove, doneEffects, activeLeaving, activeAt, defaultEffects, entryEffects, entering}
 use Rattle.laws.specs.Orders.{mem-backwards}
 use Rattle.laws.specs.Folds.{flat-length, backwards-length, ascends-length}
-use Rattle.theory.specs.Round.{length-from}
+use Rattle.laws.specs.Lists.{length-from}
 use Rattle.rowset.specs.declared.RowSet.{RowSet}
 use Rattle.rowset.specs.Member.{rowsOf}
 use Rattle.rowset.specs.Rows.{ascends-rows, rows-low}

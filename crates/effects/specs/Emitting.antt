@@ -7,7 +7,7 @@ use native.Mathlib.Numerals.{add-one}
 use lib.ListN.{length, getD, drop}
 use lib.Seq.{drop-cons}
 use Rattle.definition.specs.Rows.{flat, backwards}
-use Rattle.definition.specs.Blocks.{Effect}
+use Rattle.follower.specs.Blocks.{Effect}
 use Rattle.rowset.specs.declared.RowSet.{RowSet}
 use Rattle.rowset.specs.Member.{rowsOf}
 use Rattle.rowset.specs.Rows.{rows-low}

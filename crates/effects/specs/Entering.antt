@@ -13,21 +13,21 @@ use Rattle.definition.specs.Rows.{fold, from, keep, mem, isIn, notIn, any, flat
 use Rattle.definition.specs.Chart.{Chart, kind, parent, isRoot, isParallel, isFinal, isHistory}
 use Rattle.definition.specs.Tables.{rowCount, kindAt, chartOf}
 use Rattle.definition.specs.Tree.{isDescendant, descendants, children, isCompound}
-use Rattle.definition.specs.Blocks.{Effect, exited, entered, done, perform, performed}
-use Rattle.definition.specs.Microstep.{exitEffects, Entry, initialBlock, defaultBlock, isActiveFinal, isInFinal, addInFinal, inFinal, isDoneAbove, doneEffects, isPast, isUpTo, activeLeaving, activeAt, defaultEffects, entryEffects}
+use Rattle.follower.specs.Blocks.{Effect, exited, entered, done, perform, performed}
+use Rattle.follower.specs.Microstep.{exitEffects, Entry, initialBlock, defaultBlock, isActiveFinal, isInFinal, addInFinal, inFinal, isDoneAbove, doneEffects, isPast, isUpTo, activeLeaving, activeAt, defaultEffects, entryEffects}
 use Rattle.laws.specs.Bools.{no, both-ways, and-left, and-right, and-true, or-false, not-so, clash}
 use Rattle.laws.specs.Sets.{mem-intersection, mem-insert, mem-from}
 use Rattle.laws.specs.Lists.{mem-subset, subset-mem, keep-cong}
 use Rattle.laws.specs.Folds.{keep-backwards}
 use Rattle.laws.specs.Ways.{Way, here, below-way}
-use Rattle.theory.specs.Tree.{Tree, mem-children, child-facts, root-kind, under-below, below-under}
+use Rattle.accepted.specs.Tree.{Tree, mem-children, child-facts, root-kind, under-below, below-under}
 use Rattle.theory.specs.Entry.{compound-kind}
 use Rattle.rowset.specs.declared.RowSet.{RowSet}
 use Rattle.rowset.specs.Member.{rowsOf}
 use Rattle.rowset.specs.Search.{restFrom, rest-all}
 use Rattle.chart.specs.Ready.{Ready, RowReady}
 use Rattle.chart.specs.Inside.{child-inside}
-use Rattle.theory.specs.Accepted.{Sound}
+use Rattle.accepted.specs.Sound.{Sound}
 use Rattle.rowset.specs.Rows.{rows-low}
 use Rattle.effects.specs.declared.Tally.{Tally}
 use Rattle.effects.specs.Trace.{Places, Wrote, Room, wrote-both, room-first, room-next}

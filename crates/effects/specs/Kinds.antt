@@ -6,7 +6,7 @@ use native.Mathlib.Omega.{arith}
 use Rattle.definition.specs.declared.Action.{Action}
 use Rattle.definition.specs.declared.Action.the-variants.{Raise, Host}
 use Rattle.definition.specs.Rows.{flat}
-use Rattle.definition.specs.Blocks.{Effect, exited, taken, entered, acted, raised, done, traceNo, perform}
+use Rattle.follower.specs.Blocks.{Effect, exited, taken, entered, acted, raised, done, traceNo, perform}
 use lib.ListN.{length, set, length-set}
 use Rattle.effects.specs.declared.Tally.{Tally}
 use Rattle.effects.specs.Trace.{queues, allQueues, joining, joinsOf, Places, places, overwrite, overwrite-none, overwrite-one, Wrote, Shown, Room}

@@ -8,7 +8,7 @@ use lib.Seq.{sets, length-sets, sets-eq}
 use Rattle.definition.specs.Rows.{flat}
 use Rattle.definition.specs.Chart.{Chart, Names}
 use Rattle.laws.specs.Lists.{flat-app}
-use Rattle.definition.specs.Blocks.{Effect, exited, taken, entered, acted, raised, done, traceNo, queued}
+use Rattle.follower.specs.Blocks.{Effect, exited, taken, entered, acted, raised, done, traceNo, queued}
 use Rattle.effects.specs.declared.Tally.{Tally}
 
 -- ---- numbers put into a list from a place on, each only where the list reaches

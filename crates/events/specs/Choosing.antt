@@ -12,14 +12,14 @@ use Rattle.definition.specs.Rows.{mem, all, meets}
 use Rattle.definition.specs.Names.{Name, isName}
 use Rattle.definition.specs.Chart.{Chart, Names}
 use Rattle.definition.specs.Tables.{nameAt, chartOf}
-use Rattle.definition.specs.Selection.{History, selected}
-use Rattle.definition.specs.Microstep.{storedIn}
-use Rattle.definition.specs.Follower.{Follower, taking, selectedBy, byExternal, byInternal, byEventless, roundIn}
+use Rattle.follower.specs.Selection.{History, selected}
+use Rattle.follower.specs.Microstep.{storedIn}
+use Rattle.follower.specs.Follower.{Follower, taking, selectedBy, byExternal, byInternal, byEventless, roundIn}
 use Rattle.laws.specs.Lists.{set-below}
 use Rattle.laws.specs.Maps.{all-at}
-use Rattle.theory.specs.NameFacts.{name-length}
-use Rattle.theory.specs.Accepted.{Sound}
-use Rattle.theory.specs.Tree.{Tree}
+use Rattle.accepted.specs.NameFacts.{name-length}
+use Rattle.accepted.specs.Sound.{Sound}
+use Rattle.accepted.specs.Tree.{Tree}
 use Rattle.rowset.specs.Member.{rowsOf}
 use Rattle.chart.specs.Ready.{CompiledWith}
 use Rattle.matching.specs.Events.{eventOf}

@@ -14,16 +14,16 @@ use Rattle.definition.specs.Names.{Name, isId}
 use Rattle.definition.specs.Chart.{Chart, Names, kindNo, kind, parent, isRoot, isParallel, isFinal}
 use Rattle.definition.specs.Tables.{noNumber, rowCount, transitionCount, actionCount, nameCount, rowCell, transitionCell, actionAt, blockAt, entryAt, exitAt, idAt, listBlockAt, transitionBlockAt, nameAt, chartOf}
 use Rattle.definition.specs.Rules.{each, argumentFits, slotFits, idDiffers, idFits, actionNamed, rule2}
-use Rattle.definition.specs.Selection.{History}
-use Rattle.definition.specs.Blocks.{Effect, exited, taken, entered, acted, raised, done, traceNo, queued, perform, performed}
-use Rattle.definition.specs.Microstep.{exits, exitEffects, exiting, transitionEffects, targeted, Entry, initialBlock, defaultBlock, isDoneAbove, doneEffects, activeLeaving, activeAt, defaultEffects, entryEffects, entering, storedIn, staying, historyAfter, entryOf, fallen, effects}
-use Rattle.definition.specs.Follower.{firstEntry, firstEffects}
+use Rattle.follower.specs.Selection.{History}
+use Rattle.follower.specs.Blocks.{Effect, exited, taken, entered, acted, raised, done, traceNo, queued, perform, performed}
+use Rattle.follower.specs.Microstep.{exits, exitEffects, exiting, transitionEffects, targeted, Entry, initialBlock, defaultBlock, isDoneAbove, doneEffects, activeLeaving, activeAt, defaultEffects, entryEffects, entering, storedIn, staying, historyAfter, entryOf, fallen, effects}
+use Rattle.follower.specs.Follower.{firstEntry, firstEffects}
 use Rattle.definition.specs.Compiled.{ownNumbers}
 use Rattle.laws.specs.Bools.{clash, not-so, and3, and-left, and-right, and-true}
 use Rattle.laws.specs.Lists.{all-both, all-flat, flat-app}
 use Rattle.laws.specs.Loops.{each-below}
 use Rattle.laws.specs.Orders.{mem-backwards}
-use Rattle.theory.specs.Tree.{low}
+use Rattle.accepted.specs.Tree.{low}
 use Rattle.tables.specs.Ranges.{RowIn, row-fits, transition-fits, argument-fits, optional-below}
 use Rattle.chart.specs.Ready.{Ready, CompiledWith}
 use Rattle.chart.specs.Own.{own-chart}

@@ -12,9 +12,8 @@ use borrow.Author.Tests.{ltb-true}
 use Rattle.definition.specs.Rows.{all, flat}
 use Rattle.definition.specs.Names.{Name, doneName, beforeZero}
 use Rattle.definition.specs.Chart.{Chart, Names}
-use Rattle.definition.specs.Tables.{rowCount, nameCount, idAt, nameAt, chartOf}
-use Rattle.definition.specs.Marked.{slotOf}
-use Rattle.definition.specs.Blocks.{queued}
+use Rattle.definition.specs.Tables.{rowCount, nameCount, idAt, nameAt, chartOf, slotOf}
+use Rattle.follower.specs.Blocks.{queued}
 use Rattle.laws.specs.Bools.{and-left, and-right}
 use Rattle.laws.specs.Lists.{flat-app}
 use Rattle.tables.specs.Parts.{IdOf, SlotOf}

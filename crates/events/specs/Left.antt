@@ -8,7 +8,7 @@ use lib.ListN.{length, drop, replicate}
 use Rattle.definition.specs.Rows.{all}
 use Rattle.definition.specs.Names.{Name, isName}
 use Rattle.definition.specs.Chart.{Chart}
-use Rattle.definition.specs.Follower.{Follower, mostQueued}
+use Rattle.follower.specs.Follower.{Follower, mostQueued}
 use Rattle.laws.specs.Bools.{and-right}
 use Rattle.queue.specs.Queues.{queueBytes, queueOf, queue-length, queue-rest}
 use Rattle.state.specs.declared.State.{State}

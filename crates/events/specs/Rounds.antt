@@ -10,9 +10,9 @@ use Rattle.definition.specs.Rows.{all, flat}
 use Rattle.definition.specs.Names.{Name}
 use Rattle.definition.specs.Chart.{Chart, Names}
 use Rattle.definition.specs.Tables.{rowCount, nameCount, idAt, chartOf}
-use Rattle.definition.specs.Selection.{History}
-use Rattle.definition.specs.Blocks.{Effect, exited, taken, entered, acted, raised, done, queued}
-use Rattle.definition.specs.Follower.{Follower, Round, idle, taking, roundIn}
+use Rattle.follower.specs.Selection.{History}
+use Rattle.follower.specs.Blocks.{Effect, exited, taken, entered, acted, raised, done, queued}
+use Rattle.follower.specs.Follower.{Follower, Round, idle, taking, roundIn}
 use Rattle.rowset.specs.declared.RowSet.{RowSet}
 use Rattle.rowset.specs.Member.{rowsOf}
 use Rattle.matching.specs.Chosen.{listOf}

@@ -9,9 +9,9 @@ use Rattle.definition.specs.Names.{Name}
 use Rattle.definition.specs.Tables.{chartOf, nameAt}
 use Rattle.definition.specs.Rules.{countsFit, verdict, keepsRules}
 use Rattle.definition.specs.Answers.{answerNo, modeNo}
-use Rattle.definition.specs.Follower.{Follower, endedFollower}
-use Rattle.definition.specs.Calls.{Call, Outcome, followAll}
-use Rattle.definition.specs.Legal.{isWellFormed}
+use Rattle.follower.specs.Follower.{Follower, endedFollower}
+use Rattle.follower.specs.Calls.{Call, Outcome, followAll}
+use Rattle.follower.specs.Legal.{isWellFormed}
 use Rattle.definition.specs.Compiled.{compiled, isCompiled}
 
 -- slots one after the other

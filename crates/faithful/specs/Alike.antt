@@ -3,7 +3,7 @@ use mathlib.Core.Path.{_≡_}
 use mathlib.Core.List.{List, [], _∷_, _++_}
 use Prim.Native.Nat.{ℕ}
 use lib.ListN.{length, drop}
-use Rattle.definition.specs.Calls.{Outcome}
+use Rattle.follower.specs.Calls.{Outcome}
 use Rattle.session.specs.Sessions.{sessionOf, view}
 use Rattle.faithful.specs.Program.{Step}
 

@@ -9,7 +9,7 @@ use Rattle.definition.specs.declared.Answer.the-variants.{Done}
 use Rattle.definition.specs.Chart.{Chart}
 use Rattle.definition.specs.Tables.{rowCount, chartOf, nameAt}
 use Rattle.definition.specs.Rules.{keepsRules}
-use Rattle.definition.specs.Follower.{Follower, Ran, run}
+use Rattle.follower.specs.Follower.{Follower, Ran, run}
 use Rattle.definition.specs.Compiled.{ownNumbers, isCompiled}
 use Rattle.laws.specs.Bools.{bool-case}
 use Rattle.theory.specs.Runs.{joined}

@@ -8,11 +8,11 @@ use Rattle.definition.specs.declared.Answer.the-variants.{BadChart, BadSession,
 use Rattle.definition.specs.declared.Status.the-variants.{More, Refused}
 use Rattle.definition.specs.Chart.{Chart}
 use Rattle.definition.specs.Tables.{chartOf, nameAt}
-use Rattle.definition.specs.Follower as follower
-use Rattle.definition.specs.Follower.{startOr, run}
-use Rattle.definition.specs.Legal.{WellFormed}
+use Rattle.follower.specs.Follower as follower
+use Rattle.follower.specs.Follower.{startOr, run}
+use Rattle.follower.specs.Legal.{WellFormed}
 use Rattle.definition.specs.Compiled.{ownNumbers, isCompiled}
-use Rattle.theory.specs.Accepted.{Sound}
+use Rattle.accepted.specs.Sound.{Sound}
 use Rattle.theory.specs.Runs.{run-more}
 use Rattle.chart.specs.Own.{own-chart, compiled-ready}
 use Rattle.room.specs.Rounds.{waiting, run-spent, run-bounded, well-formed-closes, well-formed-waiting}

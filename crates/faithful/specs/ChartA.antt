@@ -3,7 +3,7 @@ use mathlib.Core.Path.{_≡_, refl, sym, ap, _∙_}
 use Prim.Native.Nat.{ℕ}
 use lib.ListN.{length}
 use Rattle.definition.specs.declared.Answer.the-variants.{Done}
-use Rattle.definition.specs.Marked.{numbersA, namesA}
+use Rattle.definition.specs.ChartA.{numbersA, namesA}
 use Rattle.definition.specs.Rules.{compiledSize, verdict, keepsRules}
 use Rattle.definition.specs.Answers.{answerNo}
 use Rattle.definition.specs.Compiled.{compiled}

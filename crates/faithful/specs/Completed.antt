@@ -11,10 +11,10 @@ use Rattle.definition.specs.declared.Answer.the-variants.{Done}
 use Rattle.definition.specs.Chart.{Chart, Names}
 use Rattle.definition.specs.Tables.{rowCount, chartOf, nameAt}
 use Rattle.definition.specs.Rules.{keepsRules}
-use Rattle.definition.specs.Follower.{Follower, Ran, run}
-use Rattle.definition.specs.Legal.{isLegal, WellFormed}
+use Rattle.follower.specs.Follower.{Follower, Ran, run}
+use Rattle.follower.specs.Legal.{isLegal, WellFormed}
 use Rattle.laws.specs.Bools.{bool-case}
-use Rattle.theory.specs.Accepted.{accepted-sound}
+use Rattle.accepted.specs.Sound.{accepted-sound}
 use Rattle.theory.specs.Runs.{run-rounds, joined, onwards}
 use Rattle.theory.specs.Shown.{takenIn, DisjointExits}
 use Rattle.theory.specs.Theorems.{run-keeps, round-disjoint}

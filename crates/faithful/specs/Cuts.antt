@@ -8,8 +8,8 @@ use native.Mathlib.Omega.{arith}
 use lib.ListN.{length}
 use Rattle.definition.specs.declared.Answer.{Answer}
 use Rattle.definition.specs.Chart.{Chart, Names}
-use Rattle.definition.specs.Blocks.{Effect}
-use Rattle.definition.specs.Follower.{Follower, Round, idle, over, did, round, refusal, Ran, stopped, counted, restStatus, run}
+use Rattle.follower.specs.Blocks.{Effect}
+use Rattle.follower.specs.Follower.{Follower, Round, idle, over, did, round, refusal, Ran, stopped, counted, restStatus, run}
 use Rattle.theory.specs.Runs.{run-zero, run-idle, run-over, run-refused, run-round, run-cases, run-refusal, RefusedRound, run-status, joined, onwards, run-split}
 
 module _ (c : Chart) (names : Names) where

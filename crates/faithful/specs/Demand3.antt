@@ -11,11 +11,11 @@ use Rattle.definition.specs.declared.Answer.the-variants.{Done}
 use Rattle.definition.specs.Tables.{rowCount, chartOf, nameAt}
 use Rattle.definition.specs.Chart.{Chart}
 use Rattle.definition.specs.Rules.{keepsRules, verdict}
-use Rattle.definition.specs.Blocks.{Effect}
+use Rattle.follower.specs.Blocks.{Effect}
 use Rattle.definition.specs.Answers.{answerNo}
-use Rattle.definition.specs.Follower.{Follower, endedFollower, did, round, refusal}
-use Rattle.definition.specs.Calls.{Call, starts, Outcome, startedOutcome, follow, followAll}
-use Rattle.definition.specs.Legal.{WellFormed}
+use Rattle.follower.specs.Follower.{Follower, endedFollower, did, round, refusal}
+use Rattle.follower.specs.Calls.{Call, starts, Outcome, startedOutcome, follow, followAll}
+use Rattle.follower.specs.Legal.{WellFormed}
 use Rattle.definition.specs.Compiled.{ownNumbers, isCompiled}
 use Rattle.theory.specs.Shown.{takenIn, DisjointExits}
 use Rattle.theory.specs.Theorems.{EveryAfter, start-keeps, calls-keep, all-calls-keep, round-keeps, round-disjoint}

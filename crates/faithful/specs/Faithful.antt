@@ -9,13 +9,13 @@ use Rattle.definition.specs.Names.{Name}
 use Rattle.definition.specs.Chart.{Chart}
 use Rattle.definition.specs.Tables.{rowCount, chartOf, nameAt}
 use Rattle.definition.specs.Rules.{keepsRules}
-use Rattle.definition.specs.Blocks.{Effect, traceNo}
+use Rattle.follower.specs.Blocks.{Effect, traceNo}
 use Rattle.definition.specs.Answers.{answerNo}
-use Rattle.definition.specs.Follower.{Follower, endedFollower, Started, Ran, start, post, postAnswer, run}
-use Rattle.definition.specs.Calls.{startedOutcome, ranOutcome, Call, starts, posts, runs, follow, followAll}
-use Rattle.definition.specs.Legal.{WellFormed}
+use Rattle.follower.specs.Follower.{Follower, endedFollower, Started, Ran, start, post, postAnswer, run}
+use Rattle.follower.specs.Calls.{startedOutcome, ranOutcome, Call, starts, posts, runs, follow, followAll}
+use Rattle.follower.specs.Legal.{WellFormed}
 use Rattle.definition.specs.Compiled.{ownNumbers, isCompiled}
-use Rattle.theory.specs.Accepted.{Sound, accepted-sound}
+use Rattle.accepted.specs.Sound.{Sound, accepted-sound}
 use Rattle.theory.specs.Theorems.{start-keeps, follow-keeps, ended-well-formed}
 use Rattle.state.specs.State.{traceWith}
 use Rattle.session.specs.declared.Session.{Session}

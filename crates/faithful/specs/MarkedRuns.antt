@@ -9,10 +9,11 @@ use Rattle.definition.specs.Names.{Name, matches}
 use Rattle.definition.specs.Tables.{rowCount, chartOf, nameAt}
 use Rattle.definition.specs.Rules.{compiledSize, verdict, keepsRules}
 use Rattle.definition.specs.Answers.{answerNo}
-use Rattle.definition.specs.Follower.{Follower, endedFollower}
-use Rattle.definition.specs.Calls.{Call, starts, posts, runs, Outcome, follow, followAll}
+use Rattle.follower.specs.Follower.{Follower, endedFollower}
+use Rattle.follower.specs.Calls.{Call, starts, posts, runs, Outcome, follow, followAll}
 use Rattle.definition.specs.Compiled.{compiled}
-use Rattle.definition.specs.Marked.{numbersA, e1, e2, e4, namesWith, namesA, playA, lastOf, lastA, traceA, sumA, test, marked, expected}
+use Rattle.definition.specs.ChartA.{numbersA, e1, e2, e4, namesWith, namesA}
+use Rattle.follower.specs.Marked.{playA, lastOf, lastA, traceA, sumA, test, marked, expected}
 use Rattle.theory.specs.MarkedRuns.{marked-runs}
 use Rattle.state.specs.State.{rowsAt}
 use Rattle.session.specs.Sessions.{endedSession, view}

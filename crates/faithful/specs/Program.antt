@@ -3,8 +3,8 @@ use mathlib.Core.List.{List, [], _∷_}
 use Prim.Native.Nat.{ℕ, suc, _+_, _-_}
 use lib.ListN.{take, drop}
 use Rattle.definition.specs.Answers.{answerNo, statusNo}
-use Rattle.definition.specs.Blocks.{Effect}
-use Rattle.definition.specs.Calls.{Call, starts, posts, runs}
+use Rattle.follower.specs.Blocks.{Effect}
+use Rattle.follower.specs.Calls.{Call, starts, posts, runs}
 use Rattle.state.specs.State.{traceWith}
 use Rattle.session.specs.declared.Session.{Session}
 use Rattle.session.specs.declared.Ran.{Ran}

@@ -8,13 +8,13 @@ use Rattle.definition.specs.Rows.{mem, all, isSet, isSingle, subset, fold}
 use Rattle.definition.specs.Chart.{Chart, kind, parent, isParallel, isShallow}
 use Rattle.definition.specs.Tables.{rowCount, chartOf}
 use Rattle.definition.specs.Tree.{isDescendant, isChild, children, descendants, isAtomic}
-use Rattle.definition.specs.Microstep.{addPath, pathsBelow}
-use Rattle.definition.specs.Legal.{childrenFit, shallowFits, isAtomicBelow, deepFits, isStorable}
+use Rattle.follower.specs.Microstep.{addPath, pathsBelow}
+use Rattle.follower.specs.Legal.{childrenFit, shallowFits, isAtomicBelow, deepFits, isStorable}
 use Rattle.laws.specs.Bools.{both-ways, and-right}
 use Rattle.laws.specs.Sets.{mem-intersection}
 use Rattle.laws.specs.Lists.{all-mem, mem-all, subset-mem, mem-subset}
-use Rattle.theory.specs.Tree.{Tree, children-mem, mem-children}
-use Rattle.theory.specs.Accepted.{mem-descendants, descendants-mem}
+use Rattle.accepted.specs.Tree.{Tree, children-mem, mem-children}
+use Rattle.accepted.specs.Sound.{mem-descendants, descendants-mem}
 use Rattle.chart.specs.Ready.{Ready}
 use Rattle.legality.specs.Rows.{RowsReady}
 

@@ -14,16 +14,15 @@ use Rattle.definition.specs.declared.Status.the-variants.{Refused}
 use Rattle.definition.specs.Rows.{all, from}
 use Rattle.definition.specs.Names.{Name, isName}
 use Rattle.definition.specs.Chart.{Chart}
-use Rattle.definition.specs.Tables.{rowCount, chartOf, nameAt}
-use Rattle.definition.specs.Marked.{slotOf}
+use Rattle.definition.specs.Tables.{rowCount, chartOf, nameAt, slotOf}
 use Rattle.definition.specs.Answers.{modeNo}
 use Rattle.definition.specs.declared.Mode.{Mode}
-use Rattle.definition.specs.Follower.{Follower, run, start}
+use Rattle.follower.specs.Follower.{Follower, run, start}
 use Rattle.definition.specs.Compiled.{words, isCompiled}
 use Rattle.laws.specs.Bools.{no, bool-case, and-right, and3}
 use Rattle.laws.specs.Loops.{said-not-yes, said-not-no}
 use Rattle.laws.specs.Passes.{drop-end}
-use Rattle.theory.specs.Accepted.{Sound}
+use Rattle.accepted.specs.Sound.{Sound}
 use Rattle.rowset.specs.declared.RowSet.{RowSet}
 use Rattle.rowset.specs.Member.{rowsOf}
 use Rattle.chart.specs.Ready.{Ready, CompiledWith, setAt}

@@ -9,7 +9,7 @@ use Rattle.definition.specs.declared.Answer.{Answer}
 use Rattle.definition.specs.declared.Answer.the-variants.{BadSession}
 use Rattle.definition.specs.Names.{Name}
 use Rattle.definition.specs.Tables.{chartOf}
-use Rattle.definition.specs.Blocks.{Effect}
+use Rattle.follower.specs.Blocks.{Effect}
 use Rattle.definition.specs.Compiled.{isCompiled}
 use Rattle.state.specs.State.{traceWith}
 use Rattle.session.specs.declared.Session.{Session}

@@ -14,11 +14,11 @@ use Rattle.definition.specs.Rows.{fold, any, those, mem, isIn, append, intersec
 use Rattle.definition.specs.Names.{Name}
 use Rattle.definition.specs.Chart.{Chart, Names}
 use Rattle.definition.specs.Tree.{isAtomic}
-use Rattle.definition.specs.Selection.{addOnce, choose, atomicStates, candidates}
+use Rattle.follower.specs.Selection.{addOnce, choose, atomicStates, candidates}
 use Rattle.laws.specs.Bools.{no, and-left, or-elim}
 use Rattle.laws.specs.Sets.{mem-those, mem-head, mem-one, mem-intersection}
 use Rattle.laws.specs.Lists.{keep-cong, mem-app, mem-cases, mem-tail}
-use Rattle.theory.specs.Accepted.{Sound}
+use Rattle.accepted.specs.Sound.{Sound}
 use Rattle.theory.specs.Disjoint.{candidate-of}
 
 -- the first n items

@@ -10,8 +10,8 @@ use Rattle.definition.specs.Rows.{from, first, flat}
 use Rattle.definition.specs.Names.{Name}
 use Rattle.definition.specs.Chart.{Chart, Names, parent}
 use Rattle.definition.specs.Tree.{ancestors}
-use Rattle.definition.specs.Selection.{isMatch, transitionsOf, choice}
-use Rattle.theory.specs.Tree.{ancestors-on, ancestors-top}
+use Rattle.follower.specs.Selection.{isMatch, transitionsOf, choice}
+use Rattle.accepted.specs.Tree.{ancestors-on, ancestors-top}
 use Rattle.matching.specs.declared.Choice.{Choice}
 use Rattle.matching.specs.declared.Choice.the-variants.{Nothing, Of}
 

@@ -9,7 +9,7 @@ use lib.Dec.{ltb}
 use lib.ListN.{length, getD}
 use Rattle.definition.specs.Rows.{any}
 use Rattle.definition.specs.Tables.{nameCount, mostDescriptors, slotSize, slotAt, nameAt}
-use Rattle.definition.specs.Selection.{matchesAt}
+use Rattle.follower.specs.Selection.{matchesAt}
 use Rattle.laws.specs.Bools.{or-false}
 use Rattle.tables.specs.Ranges.{NamesIn}
 use Rattle.chart.specs.Ready.{CompiledWith}

@@ -13,14 +13,14 @@ use Rattle.definition.specs.Rows.{from, fold, with, mem, meets, isEmpty, insert
 use Rattle.definition.specs.declared.Kind.{Kind}
 use Rattle.definition.specs.Chart.{Chart, Names, kindNo, kind, parent, isFinal, isState, isHistory}
 use Rattle.definition.specs.Tree.{children, descendants, isDescendant, isAtomic}
-use Rattle.definition.specs.Selection.{History, isTriggered, isMatch, atomicStates, candidates, withoutConflicts, selected}
+use Rattle.follower.specs.Selection.{History, isTriggered, isMatch, atomicStates, candidates, withoutConflicts, selected}
 use Rattle.laws.specs.Bools.{and-left, and-true, not-so, or-elim}
 use Rattle.laws.specs.Sets.{mem-head, mem-from}
 use Rattle.laws.specs.Lists.{keep-mem, mem-tail, meets-none}
 use Rattle.laws.specs.Ways.{way-cases}
-use Rattle.theory.specs.Accepted.{Sound, descendants-mem}
-use Rattle.theory.specs.Tree.{below-anc}
-use Rattle.theory.specs.Unions.{mem-in-union}
+use Rattle.accepted.specs.Sound.{Sound, descendants-mem}
+use Rattle.accepted.specs.Tree.{below-anc}
+use Rattle.accepted.specs.Unions.{mem-in-union}
 use Rattle.theory.specs.Disjoint.{candidate-choice, choice-facts}
 use Rattle.matching.specs.Chosen.{Within}
 

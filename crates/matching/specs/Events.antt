@@ -12,7 +12,7 @@ use Rattle.definition.specs.Rows.{any, isEmpty}
 use Rattle.definition.specs.Names.{Name, matches, beforeZero}
 use Rattle.definition.specs.Chart.{Chart, Names}
 use Rattle.definition.specs.Tables.{slotAt, nameAt}
-use Rattle.definition.specs.Selection.{matchesAt, isTriggered, isTrue, isMatch}
+use Rattle.follower.specs.Selection.{matchesAt, isTriggered, isTrue, isMatch}
 
 -- the round's event: no bytes say that there is none, as a name is never empty
 unfoldable pub eventOf : List ℕ → Option Name

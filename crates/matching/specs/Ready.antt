@@ -9,7 +9,7 @@ use lib.Dec.{eqb}
 use lib.ListN.{length, set, length-set}
 use Rattle.definition.specs.Rows.{any}
 use Rattle.definition.specs.Tables.{rowCount, transitionCount, nameCount, chartOf}
-use Rattle.definition.specs.Selection.{addOnce}
+use Rattle.follower.specs.Selection.{addOnce}
 use Rattle.tables.specs.Ranges.{SlotIn}
 use Rattle.rowset.specs.declared.RowSet.{RowSet}
 use Rattle.rowset.specs.Member.{rowsOf}

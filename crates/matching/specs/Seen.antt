@@ -14,7 +14,7 @@ use Rattle.definition.specs.Names.{Name}
 use Rattle.definition.specs.Chart.{Chart, Names}
 use Rattle.definition.specs.Tables.{nameAt, chartOf, transitionCount}
 use Rattle.definition.specs.Tree.{ancestors}
-use Rattle.definition.specs.Selection.{isMatch, hasSource, transitionsOf, choice, addOnce}
+use Rattle.follower.specs.Selection.{isMatch, hasSource, transitionsOf, choice, addOnce}
 use Rattle.laws.specs.Bools.{no, and-right, both-ways}
 use Rattle.laws.specs.Sets.{mem-those, mem-head, mem-one, mem-insert-one}
 use Rattle.laws.specs.Lists.{mem-app, first-some}

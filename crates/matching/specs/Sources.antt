@@ -12,10 +12,11 @@ use borrow.Author.Tests.{eqb-true, eq-eqb, leb-true, le-leb, ltb-true, ltb-false
 use Rattle.definition.specs.Rows.{from, those, mem}
 use Rattle.definition.specs.Chart.{Chart}
 use Rattle.definition.specs.Rules.{isInOrder}
-use Rattle.definition.specs.Selection.{hasSource, transitionsOf}
+use Rattle.follower.specs.Selection.{hasSource, transitionsOf}
 use Rattle.laws.specs.Bools.{both-ways, and-true, and-left, and-right, bool-case, eq-case, clash}
 use Rattle.laws.specs.Sets.{ascends-ext, ascends-those, ascends-from, mem-those, mem-from}
-use Rattle.theory.specs.Accepted.{Sound, sources-in-order}
+use Rattle.accepted.specs.Sound.{Sound}
+use Rattle.theory.specs.Accepted.{sources-in-order}
 
 abbrev pub source : Chart → ℕ → ℕ
 source c t = (c .transition) t .source

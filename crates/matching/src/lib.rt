@@ -3,7 +3,7 @@ ghost use mathlib.Core.Path.{_≡_};
 ghost use lib.ListN.{length};
 ghost use Rattle.definition.specs.Rows.{any};
 ghost use Rattle.definition.specs.Tables.{rowCount, transitionCount, eventsAt, nameAt, chartOf};
-ghost use Rattle.definition.specs.Selection.{matchesAt, isTriggered, isTrue, isMatch, choice, candidates};
+ghost use Rattle.follower.specs.Selection.{matchesAt, isTriggered, isTrue, isMatch, choice, candidates};
 ghost use Rattle.tables.specs.Ranges.{SlotIn, NameInList};
 ghost use Rattle.tables.specs.Parts.{conditionOf};
 ghost use Rattle.rowset.specs.Member.{rowsOf};

@@ -10,7 +10,7 @@ use Rattle.definition.specs.declared.Kind.{Kind}
 use Rattle.definition.specs.Rows.{mem, isEmpty, insert, union, meets}
 use Rattle.definition.specs.Chart.{Chart, kindNo, kind, isState, isParallel, isFinal}
 use Rattle.definition.specs.Tree.{children, isCompound, isAtomic, defaultTargets}
-use Rattle.definition.specs.Microstep.{pathsBelow, Entry, hasNoChildIn, complete, entrySet}
+use Rattle.follower.specs.Microstep.{pathsBelow, Entry, hasNoChildIn, complete, entrySet}
 use Rattle.laws.specs.Bools.{no, clash, not-so, and-left, and-right, or-elim}
 use Rattle.laws.specs.Sets.{mem-those}
 use Rattle.laws.specs.Passes.{Counted, count-begin}

@@ -8,15 +8,15 @@ use Rattle.definition.specs.Rows.{keep, mem, isEmpty, flat, union, minus, inter
 use Rattle.definition.specs.Chart.{Chart, isHistory}
 use Rattle.definition.specs.Tables.{rowCount, transitionCount, kindAt, chartOf}
 use Rattle.definition.specs.Tree.{descendants, defaultTargets}
-use Rattle.definition.specs.Selection.{History, effectiveTargets, domain, exitSet}
-use Rattle.definition.specs.Blocks.{Effect}
-use Rattle.definition.specs.Microstep.{stored, addExits, exits, historyAfter, storedIn, staying, exiting, transitionEffects, pathsBelow, addTargets, targeted, Entry, entrySet, entryOf, fellToDefault, addFallen, fallen, entering, configurationAfter, effects}
-use Rattle.definition.specs.Follower.{firstEntry, firstEffects}
+use Rattle.follower.specs.Selection.{History, effectiveTargets, domain, exitSet}
+use Rattle.follower.specs.Blocks.{Effect}
+use Rattle.follower.specs.Microstep.{stored, addExits, exits, historyAfter, storedIn, staying, exiting, transitionEffects, pathsBelow, addTargets, targeted, Entry, entrySet, entryOf, fellToDefault, addFallen, fallen, entering, configurationAfter, effects}
+use Rattle.follower.specs.Follower.{firstEntry, firstEffects}
 use Rattle.laws.specs.Bools.{no, and-left, or-elim}
 use Rattle.laws.specs.Sets.{mem-union, mem-intersection, mem-minus}
 use Rattle.laws.specs.Lists.{keep-mem}
 use Rattle.laws.specs.Passes.{fold-keeps}
-use Rattle.theory.specs.Accepted.{Sound}
+use Rattle.accepted.specs.Sound.{Sound}
 use Rattle.theory.specs.Entry.{path-inside, entry-inside}
 use Rattle.rowset.specs.Member.{rowsOf}
 use Rattle.chart.specs.Ready.{Ready}

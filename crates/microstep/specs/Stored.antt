@@ -9,8 +9,8 @@ use Rattle.definition.specs.Rows.{mem, intersection, isEmpty, union}
 use Rattle.definition.specs.Chart.{Chart, kind, parent, isShallow, isHistory}
 use Rattle.definition.specs.Tables.{rowCount, transitionCount, kindAt, chartOf}
 use Rattle.definition.specs.Tree.{children, descendants}
-use Rattle.definition.specs.Selection.{History, addStandIns}
-use Rattle.definition.specs.Microstep.{wouldStore, stored, storing, exits, historyAfter, storedIn}
+use Rattle.follower.specs.Selection.{History, addStandIns}
+use Rattle.follower.specs.Microstep.{wouldStore, stored, storing, exits, historyAfter, storedIn}
 use Rattle.theory.specs.Round.{getD-map-from}
 use Rattle.theory.specs.Storing.{stored-mem}
 use Rattle.rowset.specs.declared.RowSet.{RowSet}

@@ -10,14 +10,15 @@ use lib.ListN.{length, getD}
 use Rattle.definition.specs.Rows.{fold, keep, any, mem, isEmpty, insert, union, with}
 use Rattle.definition.specs.Chart.{Chart, Transition, kind, parent, isRoot, isHistory}
 use Rattle.definition.specs.Tree.{ancestors, isDescendant, descendants, listed, defaultTargets, anchor, anchors}
-use Rattle.definition.specs.Selection.{History, orDefault, standIns, addStandIns, effectiveTargets, domain}
-use Rattle.definition.specs.Microstep.{addPath, pathsBelow, addTargets, targeted, fellToDefault, addFallen, fallen}
+use Rattle.follower.specs.Selection.{History, orDefault, standIns, addStandIns, effectiveTargets, domain}
+use Rattle.follower.specs.Microstep.{addPath, pathsBelow, addTargets, targeted, fellToDefault, addFallen, fallen}
 use Rattle.laws.specs.Bools.{no, clash, not-so, or-left, or-right, or-elim, or-false, and-left, and-right, and-true, both-ways}
 use Rattle.laws.specs.Sets.{Ascends, ascends-ext, ascends-insert, mem-union, mem-one, union-set}
 use Rattle.laws.specs.Lists.{keep-cong}
 use Rattle.laws.specs.Folds.{fold-same, fold-kept, any-same}
-use Rattle.theory.specs.Accepted.{Sound, mem-descendants, descendants-mem, target-not-root}
-use Rattle.theory.specs.Tree.{root-kind, low, ancestors-on, ancestor-low}
+use Rattle.accepted.specs.Sound.{Sound, mem-descendants, descendants-mem}
+use Rattle.theory.specs.Accepted.{target-not-root}
+use Rattle.accepted.specs.Tree.{root-kind, low, ancestors-on, ancestor-low}
 use Rattle.theory.specs.Domain.{effective-of}
 use Rattle.theory.specs.Entry.{isOnPath, mem-paths, ascends-paths}
 use Rattle.chart.specs.Inside.{default-inside, anchors-inside}

@@ -12,8 +12,8 @@ use borrow.Author.Tests.{lt-ltb, ltb-true, ltb-false}
 use Rattle.definition.specs.Rows.{those, mem}
 use Rattle.definition.specs.Chart.{Chart, kind, isHistory}
 use Rattle.definition.specs.Tables.{rowCount, kindAt, parentAt, chartOf}
-use Rattle.definition.specs.Selection.{History}
-use Rattle.definition.specs.Microstep.{wouldStore, stored, exits, historyAfter, storedIn}
+use Rattle.follower.specs.Selection.{History}
+use Rattle.follower.specs.Microstep.{wouldStore, stored, exits, historyAfter, storedIn}
 use Rattle.laws.specs.Bools.{clash, bool-case, eq-case, and-true, and-left, and-right, not-so}
 use Rattle.laws.specs.Sets.{mem-those}
 use Rattle.numbers.specs.declared.Row.{Row}

@@ -11,7 +11,7 @@ use lib.Seq.{take-append-seam, drop-append-seam, length-take-le}
 use borrow.Author.Tests.{eqb-false, ne-eqb}
 use Rattle.definition.specs.Rows.{all, same, mem}
 use Rattle.definition.specs.Names.{Name, beforeZero, fromZero, zerosAfter, isName, isId, doneName, doneState}
-use Rattle.definition.specs.Marked.{slotOf}
+use Rattle.definition.specs.Tables.{slotOf}
 use Rattle.laws.specs.Bools.{both-ways, no}
 use Rattle.laws.specs.Cells.{zeros-blank, blank-zeros}
 use Rattle.laws.specs.Lists.{same-eq, same-self}

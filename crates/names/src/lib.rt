@@ -7,7 +7,7 @@ ghost use lib.Dec.{eqb};
 ghost use lib.ListN.{length, replicate};
 ghost use Rattle.definition.specs.Rows.{all, same};
 ghost use Rattle.definition.specs.Names.{between, isLetter, isNameByte, isName, bare, isDescriptor, begins, tokens, matches, doneName, isId, beforeZero, zerosAfter};
-ghost use Rattle.definition.specs.Marked.{slotOf};
+ghost use Rattle.definition.specs.Tables.{slotOf};
 ghost use Rattle.laws.specs.Parts.{laid};
 ghost use Rattle.names.specs.Slots.{padded};
 ghost use Rattle.names.specs.Matching.{startsToken};

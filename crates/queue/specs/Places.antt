@@ -6,8 +6,7 @@ use native.Mathlib.Numerals.{add-one}
 use native.Mathlib.Omega.{arith}
 use lib.ListN.{length, getD, take, drop, set, replicate, length-drop, length-append, take-append-drop, replicate-append-replicate}
 use lib.Seq.{drop-append-le, take-at, take-all, take-suc, drop-cons, drop-drop, drop-length, getD-append-add, getD-drop, set-at, length-take-le}
-use Rattle.definition.specs.Tables.{slotAt}
-use Rattle.definition.specs.Marked.{slotOf}
+use Rattle.definition.specs.Tables.{slotAt, slotOf}
 use Rattle.laws.specs.Cells.{blank}
 use Rattle.names.specs.Slots.{padded, slot-padded, padded-blank}
 use Rattle.queue.specs.Queues.{SlotInside, Waiting}

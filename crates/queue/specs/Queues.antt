@@ -11,10 +11,9 @@ use lib.Seq.{drop-at, drop-drop, length-take-le}
 use borrow.Author.Tests.{ltb-true, ltb-false, lt-ltb, le-leb, leb-true, not-true, not-false}
 use Rattle.definition.specs.Rows.{from, all, same, flat}
 use Rattle.definition.specs.Names.{Name, isName, beforeZero, zerosAfter}
-use Rattle.definition.specs.Tables.{slotAt, nameAt}
-use Rattle.definition.specs.Marked.{slotOf}
-use Rattle.definition.specs.Follower.{mostQueued}
-use Rattle.definition.specs.Legal.{queueFits}
+use Rattle.definition.specs.Tables.{slotAt, nameAt, slotOf}
+use Rattle.follower.specs.Follower.{mostQueued}
+use Rattle.follower.specs.Legal.{queueFits}
 use Rattle.laws.specs.Bools.{no, both-ways, bool-case, and-left, and-right, and-true}
 use Rattle.laws.specs.Lists.{same-eq, same-self}
 use Rattle.laws.specs.Loops.{each-below, below-each}

@@ -5,8 +5,7 @@ ghost use mathlib.Core.List.{_++_};
 ghost use Prim.Native.Nat.{_+_, _-_, _*_};
 ghost use lib.ListN.{length, take, drop, replicate};
 ghost use Rattle.definition.specs.Names.{doneName};
-ghost use Rattle.definition.specs.Tables.{slotAt, nameAt};
-ghost use Rattle.definition.specs.Marked.{slotOf};
+ghost use Rattle.definition.specs.Tables.{slotAt, nameAt, slotOf};
 ghost use Rattle.queue.specs.Queues.{isQueue, SlotInside, QueueSized, Waiting};
 
 // "at most 32 names each"

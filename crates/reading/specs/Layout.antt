@@ -6,8 +6,7 @@ use Prim.Native.Nat.{ℕ, zero, suc, _+_}
 use lib.Dec.{eqb}
 use lib.ListN.{length}
 use Rattle.definition.specs.Rows.{flat, isEmpty, from}
-use Rattle.definition.specs.Marked.{slotOf}
-use Rattle.definition.specs.Tables.{noNumber, rowCount, transitionCount, rowCell, transitionCell, actionCell, referencesAt, descriptorsAt, optional, nameAt}
+use Rattle.definition.specs.Tables.{slotOf, noNumber, rowCount, transitionCount, rowCell, transitionCell, actionCell, referencesAt, descriptorsAt, optional, nameAt}
 use Rattle.definition.specs.Rules.{keepsRules}
 use Rattle.definition.specs.Answers.{answerNo}
 use Rattle.grammar.specs.Grammar.{inGrammar, grammarFault}

@@ -15,11 +15,11 @@ use Rattle.definition.specs.declared.Answer.the-variants.{NoRoom}
 use Rattle.definition.specs.declared.Status.the-variants.{Refused}
 use Rattle.definition.specs.Rows.{all, isSet}
 use Rattle.definition.specs.Chart.{Chart, Names}
-use Rattle.definition.specs.Blocks.{Effect}
-use Rattle.definition.specs.Follower.{Follower, mostQueued, did, round, refusalIf, refusal, firstEffects, firstFollower, startOr, start, stopped, counted, run}
-use Rattle.definition.specs.Legal.{isLegal, rowFits, childrenFit, WellFormed}
+use Rattle.follower.specs.Blocks.{Effect}
+use Rattle.follower.specs.Follower.{Follower, mostQueued, did, round, refusalIf, refusal, firstEffects, firstFollower, startOr, start, stopped, counted, run}
+use Rattle.follower.specs.Legal.{isLegal, rowFits, childrenFit, WellFormed}
 use Rattle.laws.specs.Bools.{and3}
-use Rattle.theory.specs.Accepted.{Sound}
+use Rattle.accepted.specs.Sound.{Sound}
 use Rattle.theory.specs.Runs.{not-refused, run-cases, run-zero-no-refusal}
 use Rattle.theory.specs.Keeps.{Live, Over, Fit, FitAfter, round-fits}
 use Rattle.theory.specs.WellFormed.{well-formed-fit}

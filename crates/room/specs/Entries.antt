@@ -16,17 +16,17 @@ use Rattle.definition.specs.Rows.{fold, from, keep, mem, isIn, isEmpty, isSet, 
 use Rattle.definition.specs.Names.{Name}
 use Rattle.definition.specs.Chart.{Chart, Names, kind, parent, isRoot, isState, isFinal, isHistory}
 use Rattle.definition.specs.Tree.{descendants, isCompound, defaultTargets}
-use Rattle.definition.specs.Selection.{History, domain, effectiveTargets, exitSet, selected}
-use Rattle.definition.specs.Blocks.{Effect, done, performed}
-use Rattle.definition.specs.Microstep.{addExits, exits, exitEffects, exiting, transitionEffects, pathsBelow, addTargets, targeted, Entry, entrySet, fellToDefault, addFallen, fallen, initialBlock, defaultBlock, isDoneAbove, doneEffects, activeLeaving, activeAt, defaultEffects, entryEffects, entering, storedIn, staying, historyAfter, entryOf, effects}
-use Rattle.definition.specs.Follower.{Follower, Round, idle, over, did, taking, selectedBy, closingRound, round, firstEntry, firstEffects}
+use Rattle.follower.specs.Selection.{History, domain, effectiveTargets, exitSet, selected}
+use Rattle.follower.specs.Blocks.{Effect, done, performed}
+use Rattle.follower.specs.Microstep.{addExits, exits, exitEffects, exiting, transitionEffects, pathsBelow, addTargets, targeted, Entry, entrySet, fellToDefault, addFallen, fallen, initialBlock, defaultBlock, isDoneAbove, doneEffects, activeLeaving, activeAt, defaultEffects, entryEffects, entering, storedIn, staying, historyAfter, entryOf, effects}
+use Rattle.follower.specs.Follower.{Follower, Round, idle, over, did, taking, selectedBy, closingRound, round, firstEntry, firstEffects}
 use Rattle.laws.specs.Bools.{no, or-elim, bool-case, and-left, and-right}
 use Rattle.laws.specs.Sets.{Ascends, NoTwice, no-twice, mem-one, mem-insert-one, mem-intersection}
 use Rattle.laws.specs.Lists.{keep-mem, mem-app, set-ascends, set-below}
-use Rattle.theory.specs.Unions.{union-mem, ascends-fold-union}
-use Rattle.theory.specs.Tree.{Tree}
+use Rattle.accepted.specs.Unions.{union-mem, ascends-fold-union}
+use Rattle.accepted.specs.Tree.{Tree}
 use Rattle.theory.specs.Entry.{path-inside, ascends-paths, bare-facts, Step, child, initial, steps-keep, entry-steps, entry-ascends, entry-inside}
-use Rattle.theory.specs.Accepted.{mem-descendants}
+use Rattle.accepted.specs.Sound.{mem-descendants}
 use Rattle.theory.specs.Disjoint.{candidate-of, selected-once, selected-candidate, no-twice-subsequence, subsequence-keep}
 use Rattle.theory.specs.Round.{exits-ascends}
 use Rattle.theory.specs.Runs.{round-cases}

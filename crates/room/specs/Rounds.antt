@@ -12,10 +12,10 @@ use Rattle.definition.specs.declared.Status.the-variants.{More}
 use Rattle.definition.specs.Rows.{any, isEmpty, flat, backwards}
 use Rattle.definition.specs.Names.{Name}
 use Rattle.definition.specs.Chart.{Chart, Names}
-use Rattle.definition.specs.Blocks.{Effect, exited, taken, entered, acted, raised, done, queued}
-use Rattle.definition.specs.Microstep.{storedIn, exitEffects, exiting, effects, configurationAfter}
-use Rattle.definition.specs.Follower.{Follower, mostQueued, modeOf, Round, idle, over, did, taking, selectedBy, byExternal, byInternal, byEventless, closingRound, roundIn, round, stopped, counted, run}
-use Rattle.definition.specs.Legal.{WellFormed}
+use Rattle.follower.specs.Blocks.{Effect, exited, taken, entered, acted, raised, done, queued}
+use Rattle.follower.specs.Microstep.{storedIn, exitEffects, exiting, effects, configurationAfter}
+use Rattle.follower.specs.Follower.{Follower, mostQueued, modeOf, Round, idle, over, did, taking, selectedBy, byExternal, byInternal, byEventless, closingRound, roundIn, round, stopped, counted, run}
+use Rattle.follower.specs.Legal.{WellFormed}
 use Rattle.laws.specs.Bools.{no}
 use Rattle.laws.specs.Lists.{list-full}
 use Rattle.laws.specs.Folds.{backwards-length}

@@ -3,7 +3,7 @@ use mathlib.Core.Path.{_≡_}
 use mathlib.Core.List.{List}
 use Prim.Native.Nat.{ℕ}
 use lib.ListN.{length}
-use Rattle.definition.specs.Follower as follower
+use Rattle.follower.specs.Follower as follower
 use Rattle.state.specs.State.{Spells, traceWith}
 use Rattle.rounds.specs.declared.Begun.{Begun}
 use Rattle.rounds.specs.declared.Progress.{Progress}

@@ -8,8 +8,8 @@ use lib.ListN.{length, replicate}
 use Rattle.definition.specs.declared.Mode.{Mode}
 use Rattle.definition.specs.declared.Mode.the-variants.{Running, Closing, Ended}
 use Rattle.definition.specs.Tables.{rowCount, nameAt, chartOf}
-use Rattle.definition.specs.Microstep.{exiting}
-use Rattle.definition.specs.Follower.{Follower, Round, closingRound, roundIn, round, refusalIf, refusal}
+use Rattle.follower.specs.Microstep.{exiting}
+use Rattle.follower.specs.Follower.{Follower, Round, closingRound, roundIn, round, refusalIf, refusal}
 use Rattle.theory.specs.Runs.{not-refused}
 use Rattle.rowset.specs.Member.{rowsOf}
 use Rattle.chart.specs.Ready.{Ready, CompiledWith}

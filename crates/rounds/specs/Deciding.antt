@@ -6,9 +6,9 @@ use lib.Dec.{ltb}
 use lib.ListN.{length}
 use Rattle.definition.specs.declared.Mode.the-variants.{Running}
 use Rattle.definition.specs.Tables.{transitionCount, nameAt, chartOf}
-use Rattle.definition.specs.Blocks.{Effect}
-use Rattle.definition.specs.Microstep.{exits, storedIn}
-use Rattle.definition.specs.Follower.{Follower, Round, roundIn, refusalIf, refusal}
+use Rattle.follower.specs.Blocks.{Effect}
+use Rattle.follower.specs.Microstep.{exits, storedIn}
+use Rattle.follower.specs.Follower.{Follower, Round, roundIn, refusalIf, refusal}
 use Rattle.rowset.specs.declared.RowSet.{RowSet}
 use Rattle.rowset.specs.Member.{rowsOf}
 use Rattle.matching.specs.Chosen.{listOf, Taken}

@@ -10,8 +10,8 @@ use Rattle.definition.specs.declared.Answer.the-variants.{Full, NoRoom}
 use Rattle.definition.specs.Rows.{flat}
 use Rattle.definition.specs.Names.{Name}
 use Rattle.definition.specs.Chart.{Chart, Names}
-use Rattle.definition.specs.Blocks.{Effect, queued}
-use Rattle.definition.specs.Follower.{Follower, refusalIf, refusal}
+use Rattle.follower.specs.Blocks.{Effect, queued}
+use Rattle.follower.specs.Follower.{Follower, refusalIf, refusal}
 use Rattle.effects.specs.declared.Tally.{Tally}
 use Rattle.effects.specs.Trace.{allQueues, queues-all, Places, Wrote}
 use Rattle.events.specs.declared.Source.{Source}

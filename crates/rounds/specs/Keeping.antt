@@ -13,11 +13,11 @@ use Rattle.definition.specs.Chart.{Chart}
 use Rattle.definition.specs.Tables.{mostRows, mostTransitions, mostNames, mostDescriptors, mostTargets, mostActions, slotSize, rowCount, transitionCount, referenceCount, descriptorCount, actionCount, nameCount, tablesSize, nameAt, chartOf}
 use Rattle.definition.specs.Rules.{compiledSize, countsFit, sizesFit, rowInRange, transitionInRange, referenceInRange, descriptorInRange, actionInRange, rule1}
 use Rattle.definition.specs.Compiled.{ownNumbers}
-use Rattle.definition.specs.Blocks.{Effect}
-use Rattle.definition.specs.Follower.{Follower, did, round, refusal}
-use Rattle.definition.specs.Legal.{WellFormed}
+use Rattle.follower.specs.Blocks.{Effect}
+use Rattle.follower.specs.Follower.{Follower, did, round, refusal}
+use Rattle.follower.specs.Legal.{WellFormed}
 use Rattle.laws.specs.Loops.{below-each}
-use Rattle.theory.specs.Tree.{Tree}
+use Rattle.accepted.specs.Tree.{Tree}
 use Rattle.theory.specs.Queues.{Queued, round-queued}
 use Rattle.theory.specs.Keeps.{FitAfter, round-fits}
 use Rattle.theory.specs.WellFormed.{parts-well-formed, well-formed-queues, well-formed-fit}

@@ -16,9 +16,9 @@ use Rattle.definition.specs.Rows.{isEmpty}
 use Rattle.definition.specs.Names.{Name}
 use Rattle.definition.specs.Chart.{Chart, Names}
 use Rattle.definition.specs.Tables.{nameAt, chartOf}
-use Rattle.definition.specs.Selection.{History, selected}
-use Rattle.definition.specs.Microstep.{storedIn}
-use Rattle.definition.specs.Follower.{Follower, taking, selectedBy, byExternal, byInternal, byEventless, closingRound, roundIn, round, restStatus}
+use Rattle.follower.specs.Selection.{History, selected}
+use Rattle.follower.specs.Microstep.{storedIn}
+use Rattle.follower.specs.Follower.{Follower, taking, selectedBy, byExternal, byInternal, byEventless, closingRound, roundIn, round, restStatus}
 use Rattle.rowset.specs.Member.{rowsOf}
 use Rattle.chart.specs.Ready.{CompiledWith}
 use Rattle.matching.specs.Chosen.{listOf, chosen-length}

@@ -9,8 +9,8 @@ use Rattle.definition.specs.declared.Answer.{Answer}
 use Rattle.definition.specs.declared.Status.{Status}
 use Rattle.definition.specs.Tables.{nameAt, chartOf}
 use Rattle.definition.specs.Chart.{Chart, Names}
-use Rattle.definition.specs.Blocks.{Effect}
-use Rattle.definition.specs.Follower.{Follower, Round, idle, over, did, round, refusal, Ran, stopped, counted, restStatus, run}
+use Rattle.follower.specs.Blocks.{Effect}
+use Rattle.follower.specs.Follower.{Follower, Round, idle, over, did, round, refusal, Ran, stopped, counted, restStatus, run}
 use Rattle.theory.specs.Runs.{not-refused, run-zero, run-idle, run-over, run-refused, run-round}
 use Rattle.chart.specs.Ready.{CompiledWith}
 use Rattle.state.specs.declared.State.{State}

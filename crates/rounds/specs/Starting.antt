@@ -14,9 +14,9 @@ use Rattle.definition.specs.Rows.{from, flat}
 use Rattle.definition.specs.Names.{Name}
 use Rattle.definition.specs.Chart.{Chart}
 use Rattle.definition.specs.Tables.{rowCount, nameAt, chartOf}
-use Rattle.definition.specs.Blocks.{Effect, traceNo, queued}
-use Rattle.definition.specs.Microstep.{Entry, entering}
-use Rattle.definition.specs.Follower.{Follower, noHistory, endedFollower, modeOf, refusalIf, refusal, firstEntry, firstEffects, firstFollower, startOr, start}
+use Rattle.follower.specs.Blocks.{Effect, traceNo, queued}
+use Rattle.follower.specs.Microstep.{Entry, entering}
+use Rattle.follower.specs.Follower.{Follower, noHistory, endedFollower, modeOf, refusalIf, refusal, firstEntry, firstEffects, firstFollower, startOr, start}
 use Rattle.theory.specs.Runs.{Fits, not-refused}
 use Rattle.rowset.specs.Member.{rowsOf}
 use Rattle.chart.specs.Ready.{CompiledWith}

@@ -15,14 +15,14 @@ use Rattle.definition.specs.Rows.{from, flat, mem, any, union}
 use Rattle.definition.specs.Names.{Name}
 use Rattle.definition.specs.Chart.{Chart, Names}
 use Rattle.definition.specs.Tables.{rowCount, nameAt, chartOf}
-use Rattle.definition.specs.Selection.{History}
-use Rattle.definition.specs.Blocks.{Effect, traceNo, queued}
-use Rattle.definition.specs.Microstep.{exits, storing, storedIn, historyAfter, configurationAfter, effects}
-use Rattle.definition.specs.Follower.{Follower, did, roundIn, isFinalUnderRoot, modeOf, taking, refusal}
+use Rattle.follower.specs.Selection.{History}
+use Rattle.follower.specs.Blocks.{Effect, traceNo, queued}
+use Rattle.follower.specs.Microstep.{exits, storing, storedIn, historyAfter, configurationAfter, effects}
+use Rattle.follower.specs.Follower.{Follower, did, roundIn, isFinalUnderRoot, modeOf, taking, refusal}
 use Rattle.laws.specs.Bools.{bool-case}
 use Rattle.laws.specs.Lists.{set-below}
 use Rattle.laws.specs.Maps.{map-length, map-reads}
-use Rattle.theory.specs.Tree.{Tree}
+use Rattle.accepted.specs.Tree.{Tree}
 use Rattle.theory.specs.Runs.{Fits, not-refused}
 use Rattle.rowset.specs.declared.RowSet.{RowSet}
 use Rattle.rowset.specs.Member.{rowsOf}

@@ -7,7 +7,7 @@ use native.Mathlib.Nat.{zero-add}
 use native.Mathlib.Omega.{arith}
 use lib.ListN.{length, getD, take, drop, set, length-append, length-map, length-drop}
 use lib.Seq.{take-at, take-all, take-suc, drop-cons, set-at, drop-at, drop-drop, drop-length, length-take-le}
-use Rattle.definition.specs.Blocks.{Effect, traceNo}
+use Rattle.follower.specs.Blocks.{Effect, traceNo}
 use Rattle.effects.specs.declared.Tally.{Tally}
 use Rattle.effects.specs.Trace.{allQueues, joinsOf, joins-length, overwrite, overwrite-length, overwrite-inside, Places, Wrote}
 use Rattle.state.specs.State.{traceWith}

@@ -8,8 +8,8 @@ use lib.ListN.{length}
 use Rattle.definition.specs.declared.Answer.{Answer}
 use Rattle.definition.specs.declared.Status.{Status}
 use Rattle.definition.specs.declared.Status.the-variants as status
-use Rattle.definition.specs.Blocks.{Effect}
-use Rattle.definition.specs.Follower.{Follower, Round, idle, over, did, refusal}
+use Rattle.follower.specs.Blocks.{Effect}
+use Rattle.follower.specs.Follower.{Follower, Round, idle, over, did, refusal}
 use Rattle.state.specs.declared.State.{State}
 use Rattle.state.specs.State.{Spells, traceWith}
 use Rattle.rounds.specs.declared.Outcome.{Outcome}

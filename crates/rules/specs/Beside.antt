@@ -18,7 +18,7 @@ use Rattle.laws.specs.Bools.{clash, both-ways, bool-case, not-so, and4, and-lef
 use Rattle.laws.specs.Sets.{mem-head, mem-one, mem-insert-one, mem-union, empty-some}
 use Rattle.laws.specs.Lists.{Pairs, pairs-both, all-mem, mem-all, mem-app, flat-app, flat-mem, mem-flat, full-mem, meets-none, none-meets}
 use Rattle.laws.specs.Orders.{lt-case}
-use Rattle.theory.specs.Tree.{ancestor-low}
+use Rattle.accepted.specs.Tree.{ancestor-low}
 use Rattle.rowset.specs.declared.RowSet.{RowSet}
 use Rattle.rowset.specs.Member.{rowsOf}
 use Rattle.tables.specs.Ranges.{RowIn}

@@ -14,7 +14,7 @@ use Rattle.laws.specs.Bools.{no, clash, and-left, and-right, and-true}
 use Rattle.laws.specs.Sets.{ascends-intersection, mem-intersection}
 use Rattle.laws.specs.Lists.{Pairs, mem-cases, mem-tail}
 use Rattle.laws.specs.Orders.{lt-case, first-leads, missing-first}
-use Rattle.theory.specs.Tree.{ancestors-on, ancestors-top, ancestor-low}
+use Rattle.accepted.specs.Tree.{ancestors-on, ancestors-top, ancestor-low}
 use Rattle.numbers.specs.declared.Row.{Row}
 use Rattle.rowset.specs.declared.RowSet.{RowSet}
 use Rattle.rowset.specs.declared.Found.{Found}

@@ -11,7 +11,7 @@ use Rattle.definition.specs.Tables.{rowCount, chartOf}
 use Rattle.definition.specs.Tree.{ancestors}
 use Rattle.laws.specs.Bools.{eq-case}
 use Rattle.laws.specs.Sets.{mem-insert}
-use Rattle.theory.specs.Tree.{ancestors-on}
+use Rattle.accepted.specs.Tree.{ancestors-on}
 use Rattle.rowset.specs.declared.RowSet.{RowSet}
 use Rattle.rowset.specs.Member.{rowsOf}
 use Rattle.tables.specs.Parts.{setAt}

@@ -15,7 +15,7 @@ use Rattle.laws.specs.Bools.{clash, both-ways, bool-case, or-false, and-false, 
 use Rattle.laws.specs.Sets.{mem-insert}
 use Rattle.laws.specs.Lists.{mem-cases}
 use Rattle.laws.specs.Loops.{from-last, any-append, each-below, below-each}
-use Rattle.theory.specs.Tree.{ancestors-on, ancestors-top, ancestor-low}
+use Rattle.accepted.specs.Tree.{ancestors-on, ancestors-top, ancestor-low}
 use Rattle.rowset.specs.declared.RowSet.{RowSet}
 use Rattle.rowset.specs.Member.{rowsOf}
 use Rattle.tables.specs.Stands.{root-no-history}

@@ -7,12 +7,12 @@ use borrow.Author.Tests.{not-true, not-false}
 use Rattle.definition.specs.Rows.{fold, mem, any, append, union, meets}
 use Rattle.definition.specs.Chart.{Chart}
 use Rattle.definition.specs.Tree.{descendants}
-use Rattle.definition.specs.Selection.{History, exitSet, isConflict, isInTheWay, keepBeside, admit}
-use Rattle.definition.specs.Microstep.{addExits, exits}
+use Rattle.follower.specs.Selection.{History, exitSet, isConflict, isInTheWay, keepBeside, admit}
+use Rattle.follower.specs.Microstep.{addExits, exits}
 use Rattle.laws.specs.Bools.{no, not-so}
 use Rattle.laws.specs.Lists.{any-true, meets-none, none-meets}
 use Rattle.laws.specs.Orders.{keep-all}
-use Rattle.theory.specs.Unions.{mem-in-union}
+use Rattle.accepted.specs.Unions.{mem-in-union}
 use Rattle.theory.specs.Disjoint.{isBeside, keep-beside}
 
 module _ (c : Chart) (conf : List ℕ) (hist : History) where

@@ -10,8 +10,8 @@ use borrow.Author.Tests.{not-true, not-false}
 use Rattle.definition.specs.Rows.{isEmpty, intersection, subset, first, orElse}
 use Rattle.definition.specs.Chart.{Chart, Transition, parent}
 use Rattle.definition.specs.Tree.{ancestors, descendants, isCompound, isDomainKind}
-use Rattle.definition.specs.Selection.{History, effectiveTargets, holdsAll, isOwnDomain, domainOf, domain, exitSet}
-use Rattle.theory.specs.Tree.{ancestors-on, ancestors-top}
+use Rattle.follower.specs.Selection.{History, effectiveTargets, holdsAll, isOwnDomain, domainOf, domain, exitSet}
+use Rattle.accepted.specs.Tree.{ancestors-on, ancestors-top}
 
 -- premises are what each call answered, and what the test said of the answer
 

@@ -12,7 +12,7 @@ use Rattle.definition.specs.Rows.{fold, any, with, isEmpty, union, insert, inte
 use Rattle.definition.specs.declared.Kind.{Kind}
 use Rattle.definition.specs.Chart.{Chart, kind, isHistory}
 use Rattle.definition.specs.Tree.{descendants, anchor, anchors}
-use Rattle.definition.specs.Selection.{History, standIns, addStandIns, effectiveTargets, domainOf, domain, exitSet}
+use Rattle.follower.specs.Selection.{History, standIns, addStandIns, effectiveTargets, domainOf, domain, exitSet}
 use Rattle.laws.specs.Bools.{no, clash, and-left, and-right, bool-case, eq-case, not-so, or-left, or-right}
 
 unfoldable pub isHistoryRow : Chart → ℕ → Bool

@@ -8,7 +8,7 @@ use Rattle.definition.specs.declared.Kind.{Kind}
 use Rattle.definition.specs.Rows.{fold, with, isEmpty, insert, union}
 use Rattle.definition.specs.Chart.{Chart, kind, isHistory}
 use Rattle.definition.specs.Tree.{listed}
-use Rattle.definition.specs.Selection.{History, orDefault, standIns, addStandIns}
+use Rattle.follower.specs.Selection.{History, orDefault, standIns, addStandIns}
 use Rattle.laws.specs.Bools.{no}
 use Rattle.rowset.specs.declared.RowSet.{RowSet}
 use Rattle.rowset.specs.Member.{rowsOf}

@@ -7,8 +7,8 @@ use lib.ListN.{length, getD, drop, set, length-set}
 use lib.Seq.{drop-set-lt, drop-drop, getD-drop}
 use Rattle.definition.specs.Rows.{fold, append, union}
 use Rattle.definition.specs.Chart.{Chart}
-use Rattle.definition.specs.Selection.{History, exitSet}
-use Rattle.definition.specs.Microstep.{exits}
+use Rattle.follower.specs.Selection.{History, exitSet}
+use Rattle.follower.specs.Microstep.{exits}
 use Rattle.laws.specs.Passes.{Walked, walk-begin, walk-turn, walk-done}
 use Rattle.rowset.specs.declared.RowSet.{RowSet}
 use Rattle.rowset.specs.Member.{rowsOf}

@@ -6,8 +6,8 @@ use lib.ListN.{length, drop}
 use Rattle.definition.specs.Tables.{rowCount, transitionCount, transitionAt, chartOf}
 use Rattle.definition.specs.Rows.{append, union}
 use Rattle.definition.specs.Chart.{Chart}
-use Rattle.definition.specs.Selection.{History, exitSet}
-use Rattle.definition.specs.Microstep.{exits}
+use Rattle.follower.specs.Selection.{History, exitSet}
+use Rattle.follower.specs.Microstep.{exits}
 use Rattle.rowset.specs.declared.RowSet.{RowSet}
 use Rattle.rowset.specs.Member.{rowsOf}
 use Rattle.chart.specs.Ready.{Ready, RowReady}

@@ -5,7 +5,7 @@ ghost use Prim.Native.Nat.{_+_, _≤_, _<_};
 ghost use lib.ListN.{length};
 ghost use Rattle.definition.specs.Rows.{fold, any, union};
 ghost use Rattle.definition.specs.Tables.{rowCount, transitionCount, transitionAt, nameAt, chartOf};
-ghost use Rattle.definition.specs.Selection.{effectiveTargets, holdsAll, isOwnDomain, domainOf, domain, exitSet, isInTheWay, keepBeside, admit, withoutConflicts, selected};
+ghost use Rattle.follower.specs.Selection.{effectiveTargets, holdsAll, isOwnDomain, domainOf, domain, exitSet, isInTheWay, keepBeside, admit, withoutConflicts, selected};
 ghost use Rattle.rowset.specs.Member.{rowsOf};
 ghost use Rattle.chart.specs.Ready.{Ready, RowReady, TransitionReady};
 ghost use Rattle.matching.specs.Events.{eventOf};

@@ -8,11 +8,11 @@ use Rattle.definition.specs.declared.Answer.{Answer}
 use Rattle.definition.specs.declared.Answer.the-variants.{BadChart, BadSession}
 use Rattle.definition.specs.declared.Status.{Status}
 use Rattle.definition.specs.Tables.{rowCount, chartOf, nameAt}
-use Rattle.definition.specs.Follower as follower
+use Rattle.follower.specs.Follower as follower
 use Rattle.definition.specs.Answers.{modeNo}
-use Rattle.definition.specs.Follower.{Follower, startOr, start, run}
+use Rattle.follower.specs.Follower.{Follower, startOr, start, run}
 use Rattle.definition.specs.Compiled.{words, ownNumbers, isCompiled}
-use Rattle.theory.specs.Accepted.{Sound}
+use Rattle.accepted.specs.Sound.{Sound}
 use Rattle.rowset.specs.Member.{rowsOf}
 use Rattle.chart.specs.Ready.{setAt}
 use Rattle.chart.specs.Own.{own-chart, compiled-ready}

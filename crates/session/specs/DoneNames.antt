@@ -7,12 +7,11 @@ use native.Mathlib.Omega.{arith}
 use lib.ListN.{length, getD, replicate}
 use Rattle.definition.specs.declared.Answer.the-variants.{Done}
 use Rattle.definition.specs.Names.{Name, isId, doneName, beforeZero}
-use Rattle.definition.specs.Tables.{rowCount, idAt, nameAt}
-use Rattle.definition.specs.Marked.{slotOf}
+use Rattle.definition.specs.Tables.{rowCount, idAt, nameAt, slotOf}
 use Rattle.definition.specs.Rules.{keepsRules}
-use Rattle.definition.specs.Open.{everything}
-use Rattle.theory.specs.NameFacts.{name-length}
-use Rattle.theory.specs.Accepted.{accepted-rule1, accepted-rule2, accepted-sound}
+use Rattle.follower.specs.Open.{everything}
+use Rattle.accepted.specs.NameFacts.{name-length}
+use Rattle.accepted.specs.Sound.{accepted-rule1, accepted-rule2, accepted-sound}
 use Rattle.theory.specs.Queues.{row-done-name}
 use Rattle.names.specs.Slots.{padded, slot-padded, name-in-slot}
 

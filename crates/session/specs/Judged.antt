@@ -11,14 +11,14 @@ use borrow.Author.Tests.{eq-eqb, ne-eqb, ltb-true, ltb-false}
 use Rattle.definition.specs.Rows.{from, any, all, same, isEmpty}
 use Rattle.definition.specs.Chart.{Chart, kind, isHistory}
 use Rattle.definition.specs.Answers.{modeNo}
-use Rattle.definition.specs.Follower.{Follower, isFinalUnderRoot}
-use Rattle.definition.specs.Legal.{isLegal, isStorable, placeFits, historyFits, queueFits, modeFits, isWellFormed}
+use Rattle.follower.specs.Follower.{Follower, isFinalUnderRoot}
+use Rattle.follower.specs.Legal.{isLegal, isStorable, placeFits, historyFits, queueFits, modeFits, isWellFormed}
 use Rattle.definition.specs.Compiled.{words}
 use Rattle.laws.specs.Bools.{no, both-ways, bool-case, or-elim, and4, and7, and-left, and-right, and-true}
 use Rattle.laws.specs.Lists.{same-eq, same-self, empty-list}
 use Rattle.laws.specs.Loops.{each-below, below-each}
 use Rattle.laws.specs.Maps.{map-length, map-at}
-use Rattle.theory.specs.Tree.{Tree}
+use Rattle.accepted.specs.Tree.{Tree}
 use Rattle.selection.specs.History.{storedAt}
 use Rattle.queue.specs.Queues.{queueBytes, queueOf, isQueue, names-length}
 use Rattle.session.specs.declared.Session.{Session}

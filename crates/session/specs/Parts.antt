@@ -12,14 +12,14 @@ use borrow.Author.Tests.{eqb-true, eq-eqb}
 use Rattle.definition.specs.Rows.{any, all, from, isEmpty}
 use Rattle.definition.specs.Chart.{Chart, kind, isHistory}
 use Rattle.definition.specs.Tables.{chartOf}
-use Rattle.definition.specs.Follower.{isFinalUnderRoot}
-use Rattle.definition.specs.Legal.{isLegal, isStorable}
+use Rattle.follower.specs.Follower.{isFinalUnderRoot}
+use Rattle.follower.specs.Legal.{isLegal, isStorable}
 use Rattle.definition.specs.Compiled.{words}
 use Rattle.laws.specs.Bools.{clash, bool-case, and-left, and-right, and-true}
 use Rattle.laws.specs.Loops.{all-append, each-below, below-each}
 use Rattle.laws.specs.Orders.{lt-case}
 use Rattle.laws.specs.Parts.{part-end}
-use Rattle.theory.specs.Tree.{Tree}
+use Rattle.accepted.specs.Tree.{Tree}
 use Rattle.rowset.specs.declared.RowSet.{RowSet}
 use Rattle.rowset.specs.Member.{rowsOf}
 use Rattle.rowset.specs.Rows.{rows-empty}

@@ -11,13 +11,12 @@ use Rattle.definition.specs.declared.Answer.{Answer}
 use Rattle.definition.specs.declared.Answer.the-variants.{Done, NotAName, Full, BadChart, BadSession, SessionEnded}
 use Rattle.definition.specs.Names.{Name, isName}
 use Rattle.definition.specs.Chart.{Chart}
-use Rattle.definition.specs.Tables.{rowCount, chartOf}
-use Rattle.definition.specs.Marked.{slotOf}
+use Rattle.definition.specs.Tables.{rowCount, chartOf, slotOf}
 use Rattle.definition.specs.Answers.{answerNo}
-use Rattle.definition.specs.Follower.{Follower, isEnded, postAnswer, withExternal, post}
-use Rattle.definition.specs.Legal.{WellFormed}
+use Rattle.follower.specs.Follower.{Follower, isEnded, postAnswer, withExternal, post}
+use Rattle.follower.specs.Legal.{WellFormed}
 use Rattle.definition.specs.Compiled.{ownNumbers, isCompiled}
-use Rattle.theory.specs.Accepted.{Sound}
+use Rattle.accepted.specs.Sound.{Sound}
 use Rattle.theory.specs.Queues.{post-queued}
 use Rattle.theory.specs.Keeps.{post-fits}
 use Rattle.theory.specs.WellFormed.{parts-well-formed, well-formed-queues, well-formed-fit}

@@ -12,11 +12,11 @@ use Rattle.definition.specs.Rows.{from, same}
 use Rattle.definition.specs.Names.{Name}
 use Rattle.definition.specs.Chart.{Chart}
 use Rattle.definition.specs.Tables.{chartOf, nameAt}
-use Rattle.definition.specs.Blocks.{Effect}
-use Rattle.definition.specs.Follower as follower
+use Rattle.follower.specs.Blocks.{Effect}
+use Rattle.follower.specs.Follower as follower
 use Rattle.definition.specs.Answers.{modeNo, answerNo}
-use Rattle.definition.specs.Follower.{Follower, postAnswer, post, startOr, start, run}
-use Rattle.definition.specs.Legal.{isWellFormed}
+use Rattle.follower.specs.Follower.{Follower, postAnswer, post, startOr, start, run}
+use Rattle.follower.specs.Legal.{isWellFormed}
 use Rattle.definition.specs.Compiled.{words, ownNumbers, isCompiled}
 use Rattle.selection.specs.History.{storedAt}
 use Rattle.queue.specs.Queues.{queueBytes, queueOf}

@@ -8,13 +8,13 @@ use borrow.Author.Tests.{eqb-true, eq-eqb}
 use Rattle.definition.specs.Rows.{from}
 use Rattle.definition.specs.Chart.{Chart}
 use Rattle.definition.specs.Answers.{modeNo}
-use Rattle.definition.specs.Follower.{Follower, noHistory, endedFollower}
-use Rattle.definition.specs.Legal.{WellFormed, isWellFormed}
+use Rattle.follower.specs.Follower.{Follower, noHistory, endedFollower}
+use Rattle.follower.specs.Legal.{WellFormed, isWellFormed}
 use Rattle.laws.specs.Bools.{and7, and-left, and-right, and-true}
 use Rattle.laws.specs.Lists.{same-eq, same-self}
 use Rattle.laws.specs.Maps.{map-reads}
-use Rattle.theory.specs.Tree.{Tree}
-use Rattle.theory.specs.Accepted.{Sound}
+use Rattle.accepted.specs.Tree.{Tree}
+use Rattle.accepted.specs.Sound.{Sound}
 use Rattle.theory.specs.WellFormed.{well-formed-exact}
 use Rattle.selection.specs.History.{storedAt}
 use Rattle.queue.specs.Queues.{queue-none}

@@ -12,14 +12,14 @@ use Rattle.definition.specs.declared.Mode.the-variants.{Running, Closing, Ended
 use Rattle.definition.specs.Rows.{all, isEmpty, isSet}
 use Rattle.definition.specs.Names.{Name, isName}
 use Rattle.definition.specs.Chart.{Chart}
-use Rattle.definition.specs.Microstep.{storedIn, wouldStore}
+use Rattle.follower.specs.Microstep.{storedIn, wouldStore}
 use Rattle.definition.specs.Answers.{modeNo}
-use Rattle.definition.specs.Follower.{Follower, mostQueued}
-use Rattle.definition.specs.Legal.{isLegal, rowFits, childrenFit, StoredFrom, WellFormed, queueFits}
+use Rattle.follower.specs.Follower.{Follower, mostQueued}
+use Rattle.follower.specs.Legal.{isLegal, rowFits, childrenFit, StoredFrom, WellFormed, queueFits}
 use Rattle.definition.specs.Compiled.{words}
 use Rattle.laws.specs.Bools.{bool-case, and3, and-true}
 use Rattle.laws.specs.Lists.{set-ascends, set-below, ascends-set, empty-list, full-list}
-use Rattle.theory.specs.Tree.{Tree}
+use Rattle.accepted.specs.Tree.{Tree}
 use Rattle.theory.specs.Storing.{stored-mem, ascends-stored}
 use Rattle.selection.specs.History.{storedAt}
 use Rattle.queue.specs.Queues.{queueBytes, queueOf, names-again}

@@ -6,10 +6,10 @@ use lib.ListN.{length, take, drop, replicate}
 use Rattle.definition.specs.declared.Mode.{Mode}
 use Rattle.definition.specs.declared.Mode.the-variants.{Running, Closing, Ended}
 use Rattle.definition.specs.Rows.{from, flat}
-use Rattle.definition.specs.Blocks.{Effect, traceNo}
+use Rattle.follower.specs.Blocks.{Effect, traceNo}
 use Rattle.definition.specs.Chart.{Chart}
-use Rattle.definition.specs.Follower.{Follower}
-use Rattle.definition.specs.Legal.{WellFormed}
+use Rattle.follower.specs.Follower.{Follower}
+use Rattle.follower.specs.Legal.{WellFormed}
 use Rattle.definition.specs.Compiled.{words}
 use Rattle.rowset.specs.Member.{rowsOf}
 use Rattle.chart.specs.Ready.{setAt}

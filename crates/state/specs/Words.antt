@@ -9,10 +9,9 @@ use lib.Dec.{ltb}
 use lib.ListN.{length, getD, drop, length-drop, List·getD-eq-default, replicate-append-replicate}
 use lib.Seq.{getD-take, getD-drop, take-all, length-take-le}
 use borrow.Author.Tests.{ltb-true, ltb-false}
-use Rattle.definition.specs.Rows.{from, mem, fold, union, isSet}
+use Rattle.definition.specs.Rows.{from, mem, fold, union, isSet, nothingAt}
 use Rattle.definition.specs.Compiled.{word, words}
-use Rattle.definition.specs.Microstep.{storedIn}
-use Rattle.definition.specs.Follower.{nothingAt}
+use Rattle.follower.specs.Microstep.{storedIn}
 use Rattle.laws.specs.Bools.{bool-case, no}
 use Rattle.laws.specs.Lists.{set-ascends, set-below, ascends-set}
 use Rattle.laws.specs.Orders.{union-none}

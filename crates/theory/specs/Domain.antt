@@ -8,15 +8,16 @@ use Prim.Native.Nat.{ℕ, suc, _<_}
 use Rattle.definition.specs.Rows.{mem, isEmpty, union, subset, first, orElse}
 use Rattle.definition.specs.Chart.{Chart, kind, parent, isRoot, isParallel}
 use Rattle.definition.specs.Tree.{ancestors, isDescendant, descendants, isCompound, isDomainKind, anchor}
-use Rattle.definition.specs.Selection.{History, standIns, addStandIns, effectiveTargets, holdsAll, isOwnDomain, domainOf, domain}
+use Rattle.follower.specs.Selection.{History, standIns, addStandIns, effectiveTargets, holdsAll, isOwnDomain, domainOf, domain}
 use Rattle.laws.specs.Bools.{eq-case, or-left, or-right, and-left, and-right}
 use Rattle.laws.specs.Sets.{Ascends}
 use Rattle.laws.specs.Lists.{full-mem, first-some, subset-mem}
 use Rattle.laws.specs.Ways.{Way, here, up, eq-way, way-cases, way-trans, way-compare, below-way}
-use Rattle.theory.specs.Tree.{root-kind, way-zero, anc-below}
-use Rattle.theory.specs.Fork.{Split, Forks, list-split}
-use Rattle.theory.specs.Unions.{union-mem, mem-in-union, ascends-fold-union}
-use Rattle.theory.specs.Accepted.{Sound, mem-descendants, target-not-root, targets-apart, HistOk, Stand, stand}
+use Rattle.accepted.specs.Tree.{root-kind, way-zero, anc-below}
+use Rattle.accepted.specs.Fork.{Split, Forks, list-split}
+use Rattle.accepted.specs.Unions.{union-mem, mem-in-union, ascends-fold-union}
+use Rattle.accepted.specs.Sound.{Sound, mem-descendants}
+use Rattle.theory.specs.Accepted.{target-not-root, targets-apart, HistOk, Stand, stand}
 
 -- what makes d the domain of transition t
 pub record Dom (c : Chart) (hist : History) (t : ℕ) (d : ℕ) : Type 0 where

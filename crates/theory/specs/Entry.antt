@@ -12,14 +12,14 @@ use Rattle.definition.specs.declared.Kind.the-variants.{Root, State, Parallel, 
 use Rattle.definition.specs.Rows.{fold, from, with, mem, any, insert, union, meets}
 use Rattle.definition.specs.Chart.{Chart, kind, parent, isRoot, isState, isParallel, isHistory}
 use Rattle.definition.specs.Tree.{ancestors, descendants, isDescendant, isChild, children, isCompound, isDomainKind, defaultTargets}
-use Rattle.definition.specs.Microstep.{addPath, pathsBelow, Entry, hasNoChildIn, complete, entrySet}
+use Rattle.follower.specs.Microstep.{addPath, pathsBelow, Entry, hasNoChildIn, complete, entrySet}
 use Rattle.laws.specs.Bools.{no, clash, or-elim, or-left, or-right, or-false, bool-case, not-so, eq-case, and-left, and-right, and-true}
 use Rattle.laws.specs.Sets.{Ascends, mem-those, those-low, mem-insert, mem-one, mem-insert-one, mem-union, mem-intersection, ascends-insert, ascends-union, ascends-intersection}
 use Rattle.laws.specs.Lists.{any-true, any-mem, meets-none, none-meets, meets-some}
 use Rattle.laws.specs.Passes.{fold-keeps, count-keeps}
 use Rattle.laws.specs.Ways.{Way, here, eq-way, up, Below, way-cases, way-trans, below-way, way-le, below-lt, child-way}
-use Rattle.theory.specs.Tree.{Tree, low, not-root, anc-below, below-anc, under-below, under-plain, below-under, child-of, child-facts, children-mem, mem-children, parent-plain}
-use Rattle.theory.specs.Fork.{live, Partial, Legal, Forks, live-up}
+use Rattle.accepted.specs.Tree.{Tree, low, not-root, anc-below, below-anc, under-below, under-plain, below-under, child-of, child-facts, children-mem, mem-children, parent-plain}
+use Rattle.accepted.specs.Fork.{live, Partial, Legal, Forks, live-up}
 
 -- ---- the rows of a list and their ancestors
 

@@ -9,20 +9,21 @@ use lib.Dec.{eqb}
 use lib.ListN.{length, getD, length-map}
 use Rattle.definition.specs.declared.Mode.the-variants.{Running, Ended}
 use Rattle.definition.specs.declared.Answer.{Answer}
-use Rattle.definition.specs.Rows.{from, isEmpty}
+use Rattle.definition.specs.Rows.{from, isEmpty, nothingAt}
 use Rattle.definition.specs.Names.{Name}
 use Rattle.definition.specs.Chart.{Chart, Names, kind, isHistory}
 use Rattle.definition.specs.Tree.{defaultTargets}
-use Rattle.definition.specs.Selection.{selected}
-use Rattle.definition.specs.Microstep.{storedIn, historyAfter, configurationAfter, targeted, entryOf}
+use Rattle.follower.specs.Selection.{selected}
+use Rattle.follower.specs.Microstep.{storedIn, historyAfter, configurationAfter, targeted, entryOf}
 use Rattle.definition.specs.Answers.{answerNo}
-use Rattle.definition.specs.Follower.{Follower, nothingAt, noHistory, endedFollower, modeOf, Round, idle, over, did, taking, selectedBy, closingRound, round, refusal, firstEffects, firstFollower, startOr, start, isEnded, postAnswer, withExternal, post, run}
-use Rattle.definition.specs.Legal.{isLegal, StoredFrom}
+use Rattle.follower.specs.Follower.{Follower, noHistory, endedFollower, modeOf, Round, idle, over, did, taking, selectedBy, closingRound, round, refusal, firstEffects, firstFollower, startOr, start, isEnded, postAnswer, withExternal, post, run}
+use Rattle.follower.specs.Legal.{isLegal, StoredFrom}
 use Rattle.laws.specs.Bools.{clash, bool-case}
-use Rattle.laws.specs.Lists.{empty-list, full-list, list-full, set-eq, eq-set}
-use Rattle.theory.specs.Accepted.{Sound, HistOk}
+use Rattle.laws.specs.Lists.{empty-list, full-list, list-full, set-eq, eq-set, length-from}
+use Rattle.accepted.specs.Sound.{Sound}
+use Rattle.theory.specs.Accepted.{HistOk}
 use Rattle.theory.specs.EntryOrder.{EntrySet}
-use Rattle.theory.specs.Round.{entered-means, length-from, selected-taken, next-legal, next-order, after-ok, after-size, after-plain}
+use Rattle.theory.specs.Round.{entered-means, selected-taken, next-legal, next-order, after-ok, after-size, after-plain}
 use Rattle.theory.specs.LegalTest.{legal-facts, facts-legal}
 use Rattle.theory.specs.Seed.{first-legal}
 use Rattle.theory.specs.Storing.{stored-kept, kept-stored}

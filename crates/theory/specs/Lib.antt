@@ -1,9 +1,6 @@
 pub mod MarkedRuns
-pub mod Tree
-pub mod Fork
 pub mod Entry
 pub mod EntryOrder
-pub mod Unions
 pub mod Accepted
 pub mod Disjoint
 pub mod Domain
@@ -11,7 +8,6 @@ pub mod Round
 pub mod LegalTest
 pub mod Seed
 pub mod Storing
-pub mod NameFacts
 pub mod Runs
 pub mod Moments
 pub mod Queues

@@ -14,8 +14,8 @@ use Rattle.definition.specs.declared.Answer.the-variants.{Full}
 use Rattle.definition.specs.Rows.{mem, flat}
 use Rattle.definition.specs.Names.{Name}
 use Rattle.definition.specs.Chart.{Chart, Names}
-use Rattle.definition.specs.Blocks.{Effect, exited, taken, entered, acted, raised, done, queued}
-use Rattle.definition.specs.Follower.{Follower, mostQueued, Round, idle, over, did, taking, closingRound, round, refusalIf, refusal, firstEffects, firstFollower}
+use Rattle.follower.specs.Blocks.{Effect, exited, taken, entered, acted, raised, done, queued}
+use Rattle.follower.specs.Follower.{Follower, mostQueued, Round, idle, over, did, taking, closingRound, round, refusalIf, refusal, firstEffects, firstFollower}
 use Rattle.laws.specs.Bools.{no}
 use Rattle.laws.specs.Sets.{mem-head}
 use Rattle.laws.specs.Lists.{mem-cases, mem-tail}

@@ -19,16 +19,16 @@ use Rattle.definition.specs.Names.{Name, isName, isId, doneName}
 use Rattle.definition.specs.Chart.{Chart, Names, kind, parent, isRoot, isParallel, isFinal}
 use Rattle.definition.specs.Tables.{rowCount, transitionCount, referenceCount, descriptorCount, actionCount, rowCell, transitionCell, actionAt, blockAt, entryAt, exitAt, idAt, listBlockAt, transitionBlockAt, nameAt, chartOf, noNumber, mostDescriptors, mostTargets, nameCount}
 use Rattle.definition.specs.Rules.{each, inside, optionalBelow, countsFit, sizesFit, blockFits, rowInRange, transitionInRange, referenceInRange, descriptorInRange, actionInRange, compiledSize, rule1, slotFits, idDiffers, idFits, raiseFits, actionNamed, rule2}
-use Rattle.definition.specs.Blocks.{Effect, done, queued, perform, performed}
-use Rattle.definition.specs.Microstep.{exitEffects, exiting, transitionEffects, Entry, initialBlock, defaultBlock, isDoneAbove, doneEffects, activeAt, defaultEffects, entryEffects, entering, exits, storedIn, effects, staying}
-use Rattle.definition.specs.Selection.{History}
+use Rattle.follower.specs.Blocks.{Effect, done, queued, perform, performed}
+use Rattle.follower.specs.Microstep.{exitEffects, exiting, transitionEffects, Entry, initialBlock, defaultBlock, isDoneAbove, doneEffects, activeAt, defaultEffects, entryEffects, entering, exits, storedIn, effects, staying}
+use Rattle.follower.specs.Selection.{History}
 use Rattle.definition.specs.Answers.{answerNo}
-use Rattle.definition.specs.Follower.{Follower, mostQueued, Round, idle, over, did, taking, selectedBy, closingRound, round, refusal, firstEntry, firstEffects, firstFollower, startOr, start, endedFollower, isEnded, postAnswer, withExternal, post, run}
+use Rattle.follower.specs.Follower.{Follower, mostQueued, Round, idle, over, did, taking, selectedBy, closingRound, round, refusal, firstEntry, firstEffects, firstFollower, startOr, start, endedFollower, isEnded, postAnswer, withExternal, post, run}
 use Rattle.laws.specs.Bools.{no, and3, and4, clash, bool-case, and-left, and-right, and-true}
 use Rattle.laws.specs.Loops.{each-below}
 use Rattle.laws.specs.Lists.{all-both, all-flat}
-use Rattle.theory.specs.Tree.{Tree, low, root-kind}
-use Rattle.theory.specs.NameFacts.{done-name-fits}
+use Rattle.accepted.specs.Tree.{Tree, low, root-kind}
+use Rattle.accepted.specs.NameFacts.{done-name-fits}
 use Rattle.theory.specs.Disjoint.{candidate-of, selected-candidate}
 use Rattle.theory.specs.Runs.{not-refused, ChosenEvent, eventless, oldestInternal, oldestExternal, round-cases, run-invariant}
 

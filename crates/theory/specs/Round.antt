@@ -16,18 +16,19 @@ use Rattle.definition.specs.Rows.{from, those, mem, isIn, isEmpty, union, inter
 use Rattle.definition.specs.Names.{Name}
 use Rattle.definition.specs.Chart.{Chart, Names, kind, parent, isRoot, isState, isParallel, isHistory}
 use Rattle.definition.specs.Tree.{isDescendant, descendants, children, isCompound, isDomainKind, defaultTargets}
-use Rattle.definition.specs.Selection.{History, standIns, effectiveTargets, domain, exitSet, selected}
-use Rattle.definition.specs.Microstep.{addExits, exits, wouldStore, stored, storing, pathsBelow, addTargets, targeted, storedIn, staying, historyAfter, entryOf, configurationAfter}
+use Rattle.follower.specs.Selection.{History, standIns, effectiveTargets, domain, exitSet, selected}
+use Rattle.follower.specs.Microstep.{addExits, exits, wouldStore, stored, storing, pathsBelow, addTargets, targeted, storedIn, staying, historyAfter, entryOf, configurationAfter}
 use Rattle.laws.specs.Bools.{no, clash, or-elim, or-left, or-right, bool-case, not-so, eq-case, and-left, and-right, and-true, and-false}
 use Rattle.laws.specs.Sets.{Ascends, mem-those, ascends-those, ascends-ext, mem-union, mem-intersection, mem-minus, ascends-minus, ascends-union, empty-some}
-use Rattle.laws.specs.Lists.{meets-none}
+use Rattle.laws.specs.Lists.{meets-none, length-from}
 use Rattle.laws.specs.Ways.{Way, here, up, eq-way, Below, way-cases, way-trans, way-compare, below-way, below-trans, way-le, below-lt, child-way}
-use Rattle.theory.specs.Tree.{Tree, low, under-below, under-plain, below-under, parent-plain}
-use Rattle.theory.specs.Fork.{live, Partial, Legal, live-up}
+use Rattle.accepted.specs.Tree.{Tree, low, under-below, under-plain, below-under, parent-plain}
+use Rattle.accepted.specs.Fork.{live, Partial, Legal, live-up}
 use Rattle.theory.specs.Entry.{live-of, live-more, way-plain, path-inside, down-facts, down-intro, entry-ascends, Ready, entering-inv, filled-legal}
 use Rattle.theory.specs.EntryOrder.{EntrySet, entry-set}
-use Rattle.theory.specs.Unions.{union-mem, mem-in-union, ascends-fold-union}
-use Rattle.theory.specs.Accepted.{Sound, mem-descendants, descendants-mem, HistOk, Kept, Stand, ini}
+use Rattle.accepted.specs.Unions.{union-mem, mem-in-union, ascends-fold-union}
+use Rattle.accepted.specs.Sound.{Sound, mem-descendants, descendants-mem}
+use Rattle.theory.specs.Accepted.{HistOk, Kept, Stand, ini}
 use Rattle.theory.specs.Disjoint.{Disjoint, candidate-of, candidate-live, selected-apart, selected-candidate}
 use Rattle.theory.specs.Domain.{Dom, dom, target-stand, effective-of, effective-in, effective-full, effective-forks, effective-inside}
 
@@ -53,11 +54,6 @@ unfolding from
 getD-map-from f zero i h l = absurd (not-suc-le-zero l)
 getD-map-from f (suc n) i zero l = ap f (omega arith)
 getD-map-from f (suc n) i (suc h) l = getD-map-from f n (suc i) h (omega arith) ∙ ap f (omega arith)
-
-pub length-from : (n i : ℕ) → length (from n i) ≡ n
-unfolding from
-length-from zero i = refl
-length-from (suc n) i = ap suc (length-from n (suc i))
 
 -- an ascending list of rows is the set of its members
 pub ascends-those-of : (n : ℕ) (xs : List ℕ) → Ascends 0 xs → ((a : ℕ) → mem a xs ≡ true → a < n) → xs ≡ those n (isIn xs)

@@ -18,8 +18,8 @@ use Rattle.definition.specs.declared.Status.{Status}
 use Rattle.definition.specs.declared.Status.the-variants.{More, Idle, Ended as HasEnded, Refused}
 use Rattle.definition.specs.Names.{Name}
 use Rattle.definition.specs.Chart.{Chart, Names}
-use Rattle.definition.specs.Blocks.{Effect}
-use Rattle.definition.specs.Follower.{Follower, mostQueued, Round, idle, over, did, taking, selectedBy, byExternal, byInternal, byEventless, closingRound, roundIn, round, refusalIf, refusal, Ran, stopped, counted, restStatus, unlessRefused, proceed, run}
+use Rattle.follower.specs.Blocks.{Effect}
+use Rattle.follower.specs.Follower.{Follower, mostQueued, Round, idle, over, did, taking, selectedBy, byExternal, byInternal, byEventless, closingRound, roundIn, round, refusalIf, refusal, Ran, stopped, counted, restStatus, unlessRefused, proceed, run}
 
 -- ---- a round or start that is not refused: the internal queue is not too long, and the effects fit the room
 pub record Fits (room : ℕ) (next : Follower) (es : List Effect) : Type 0 where

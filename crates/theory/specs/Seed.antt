@@ -8,15 +8,16 @@ use native.Mathlib.Omega.{arith}
 use Rattle.definition.specs.Rows.{mem, isIn}
 use Rattle.definition.specs.Chart.{Chart, kind, parent, isRoot}
 use Rattle.definition.specs.Tree.{isDescendant, isCompound, isDomainKind, defaultTargets}
-use Rattle.definition.specs.Microstep.{pathsBelow, entrySet}
-use Rattle.definition.specs.Follower.{firstEntry}
-use Rattle.definition.specs.Legal.{isLegal}
+use Rattle.follower.specs.Microstep.{pathsBelow, entrySet}
+use Rattle.follower.specs.Follower.{firstEntry}
+use Rattle.follower.specs.Legal.{isLegal}
 use Rattle.laws.specs.Bools.{no, not-so, or-left}
 use Rattle.laws.specs.Lists.{ascends-set}
 use Rattle.laws.specs.Ways.{Way, here, up, Below, way-cases, way-le}
-use Rattle.theory.specs.Tree.{Tree, low, root-kind, under-below, under-plain, below-under, parent-plain}
-use Rattle.theory.specs.Fork.{live, Partial}
-use Rattle.theory.specs.Accepted.{Sound, ini}
+use Rattle.accepted.specs.Tree.{Tree, low, root-kind, under-below, under-plain, below-under, parent-plain}
+use Rattle.accepted.specs.Fork.{live, Partial}
+use Rattle.accepted.specs.Sound.{Sound}
+use Rattle.theory.specs.Accepted.{ini}
 use Rattle.theory.specs.Entry.{Initial, live-of, down-facts, down-intro, path-inside, path-descends, path-up, ascends-paths, first-child, entry-holds, entry-ascends, entry-inside, Ready, filled-legal}
 use Rattle.theory.specs.EntryOrder.{EntrySet, entry-set}
 use Rattle.theory.specs.LegalTest.{facts-legal}

@@ -9,10 +9,10 @@ use Rattle.definition.specs.declared.Action.the-variants.{Raise, Host}
 use Rattle.definition.specs.Rows.{mem, meets, flat, backwards}
 use Rattle.definition.specs.Names.{Name}
 use Rattle.definition.specs.Chart.{Chart, Names, kind, parent, isRoot, isFinal}
-use Rattle.definition.specs.Selection.{History, exitSet}
-use Rattle.definition.specs.Blocks.{Effect, exited, taken, entered, acted, raised, done, perform, performed}
-use Rattle.definition.specs.Microstep.{exits, exitEffects, exiting, transitionEffects, Entry, initialBlock, defaultBlock, isDoneAbove, doneEffects, activeAt, defaultEffects, entryEffects, entering, storedIn, effects, staying}
-use Rattle.definition.specs.Follower.{Follower, Round, idle, over, did, taking, selectedBy, closingRound, round}
+use Rattle.follower.specs.Selection.{History, exitSet}
+use Rattle.follower.specs.Blocks.{Effect, exited, taken, entered, acted, raised, done, perform, performed}
+use Rattle.follower.specs.Microstep.{exits, exitEffects, exiting, transitionEffects, Entry, initialBlock, defaultBlock, isDoneAbove, doneEffects, activeAt, defaultEffects, entryEffects, entering, storedIn, effects, staying}
+use Rattle.follower.specs.Follower.{Follower, Round, idle, over, did, taking, selectedBy, closingRound, round}
 use Rattle.laws.specs.Bools.{no}
 use Rattle.laws.specs.Sets.{NoTwice}
 use Rattle.laws.specs.Lists.{flat-app}

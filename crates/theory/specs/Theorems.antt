@@ -13,12 +13,12 @@ use Rattle.definition.specs.Names.{Name}
 use Rattle.definition.specs.Tables.{chartOf, nameAt}
 use Rattle.definition.specs.Rules.{keepsRules}
 use Rattle.definition.specs.Tree.{defaultTargets}
-use Rattle.definition.specs.Blocks.{Effect}
-use Rattle.definition.specs.Microstep.{pathsBelow, targeted, storedIn, historyAfter, entryOf}
-use Rattle.definition.specs.Follower.{Follower, endedFollower, isFinalUnderRoot, did, round, refusal, selectedBy, firstEntry, firstFollower, firstEffects, startOr, start, post, run}
-use Rattle.definition.specs.Calls.{Call, starts, posts, runs, Outcome, startedOutcome, ranOutcome, follow, followAll}
-use Rattle.definition.specs.Legal.{isLegal, WellFormed, isWellFormed}
-use Rattle.theory.specs.Accepted.{Sound, accepted-sound, accepted-rule1, accepted-rule2}
+use Rattle.follower.specs.Blocks.{Effect}
+use Rattle.follower.specs.Microstep.{pathsBelow, targeted, storedIn, historyAfter, entryOf}
+use Rattle.follower.specs.Follower.{Follower, endedFollower, isFinalUnderRoot, did, round, refusal, selectedBy, firstEntry, firstFollower, firstEffects, startOr, start, post, run}
+use Rattle.follower.specs.Calls.{Call, starts, posts, runs, Outcome, startedOutcome, ranOutcome, follow, followAll}
+use Rattle.follower.specs.Legal.{isLegal, WellFormed, isWellFormed}
+use Rattle.accepted.specs.Sound.{Sound, accepted-sound, accepted-rule1, accepted-rule2}
 use Rattle.theory.specs.Runs.{refusal-not-done}
 use Rattle.theory.specs.Queues.{Queued, ended-queued, start-queued, post-queued, round-queued, run-queued}
 use Rattle.theory.specs.Shown.{takenIn, DisjointExits}

@@ -14,15 +14,15 @@ use Rattle.definition.specs.Rows.{from, any, all, isEmpty}
 use Rattle.definition.specs.Names.{Name, isName}
 use Rattle.definition.specs.Chart.{Chart, kind, isHistory}
 use Rattle.definition.specs.Tree.{isDomainKind}
-use Rattle.definition.specs.Microstep.{storedIn}
-use Rattle.definition.specs.Follower.{Follower, mostQueued, isFinalUnderRoot, modeOf}
-use Rattle.definition.specs.Legal.{isLegal, isStorable, WellFormed, placeFits, historyFits, queueFits, modeFits, isWellFormed}
+use Rattle.follower.specs.Microstep.{storedIn}
+use Rattle.follower.specs.Follower.{Follower, mostQueued, isFinalUnderRoot, modeOf}
+use Rattle.follower.specs.Legal.{isLegal, isStorable, WellFormed, placeFits, historyFits, queueFits, modeFits, isWellFormed}
 use Rattle.laws.specs.Bools.{no, and3, and4, bool-case, or-elim, or-left, or-right, and-left, and-right, and-true}
 use Rattle.laws.specs.Sets.{empty-some}
 use Rattle.laws.specs.Loops.{each-below}
 use Rattle.laws.specs.Lists.{empty-list, full-list, mem-all}
-use Rattle.theory.specs.Tree.{Tree, root-kind}
-use Rattle.theory.specs.Accepted.{Sound}
+use Rattle.accepted.specs.Tree.{Tree, root-kind}
+use Rattle.accepted.specs.Sound.{Sound}
 use Rattle.theory.specs.LegalTest.{legal-facts}
 use Rattle.theory.specs.Storing.{storable-exact}
 use Rattle.theory.specs.Queues.{Queued}

@@ -1,6 +1,6 @@
 use Rattle.compiler.specs.Writing.{Filling, filling-begin, filling-turn, filling-end}
 use Rattle.definition.specs.Compiled.{words}
-use Rattle.definition.specs.Follower.{nothingAt}
+use Rattle.definition.specs.Rows.{nothingAt}
 use borrow.Author.Needs.{needs}
 use mathlib.Core.Path.{ap}
 use Prim.Native.Nat.{_-_}

@@ -1,7 +1,7 @@
 use Rattle.compiler.specs.Turns.{ancestors-begin, ancestors-turn, ancestors-end}
 use Rattle.compiler.specs.Compilable.{has-parent, parent-low}
 use Rattle.compiler.specs.Writing.{length-over, Filling}
-use Rattle.definition.specs.Follower.{nothingAt}
+use Rattle.definition.specs.Rows.{nothingAt}
 use Rattle.definition.specs.Tree.{ancestors}
 use Rattle.definition.specs.Tables.{rowCount, chartOf}
 use borrow.Author.Needs.{needs}

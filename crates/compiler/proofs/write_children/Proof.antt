@@ -3,7 +3,7 @@ use Rattle.compiler.specs.Compilable.{has-parent, row-in, parent-low}
 use Rattle.compiler.specs.Upward.{childrenBelow}
 use Rattle.compiler.specs.Writing.{length-over, Changing}
 use Rattle.laws.specs.Loops.{told}
-use Rattle.definition.specs.Follower.{nothingAt}
+use Rattle.definition.specs.Rows.{nothingAt}
 use Rattle.definition.specs.Tables.{rowCount, chartOf}
 use Rattle.definition.specs.Chart.{isHistory}
 use borrow.Author.Tests.{not-true, not-false}

@@ -5,7 +5,7 @@ use borrow.Author.Tests.{not-true, not-false}
 use Rattle.compiler.specs.Compilable.{has-parent, row-in, parent-low}
 use Rattle.compiler.specs.Downward.{gathered}
 use Rattle.compiler.specs.Writing.{length-over, Changing}
-use Rattle.definition.specs.Follower.{nothingAt}
+use Rattle.definition.specs.Rows.{nothingAt}
 use Rattle.definition.specs.Tables.{rowCount, chartOf}
 use borrow.Author.Needs.{needs}
 use mathlib.Core.Path.{_≡_, ap, _∙_}

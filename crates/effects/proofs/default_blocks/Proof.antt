@@ -1,7 +1,7 @@
 use Prim.Native.Nat.{_-_}
 use borrow.Author.Needs.{needs}
 use Rattle.definition.specs.Tables.{chartOf}
-use Rattle.definition.specs.Microstep.{defaultEffects}
+use Rattle.follower.specs.Microstep.{defaultEffects}
 use Rattle.rowset.specs.Visits.{found-next, rest-at, rest-end, next-less}
 use Rattle.rowset.specs.Search.{restFrom}
 use Rattle.rowset.specs.Member.{rowsOf}

@@ -3,8 +3,8 @@ use mathlib.Core.Path.{_≡_, refl, sym, subst}
 use native.Mathlib.Omega.{arith}
 use borrow.Author.Tests.{not-true, not-false}
 use borrow.Author.Needs.{needs}
-use Rattle.definition.specs.Blocks.{done}
-use Rattle.definition.specs.Microstep.{doneEffects, activeAt}
+use Rattle.follower.specs.Blocks.{done}
+use Rattle.follower.specs.Microstep.{doneEffects, activeAt}
 use Rattle.definition.specs.Tables.{chartOf}
 use Rattle.definition.specs.Chart.{isFinal, isRoot}
 use Rattle.rowset.specs.Member.{rowsOf}

@@ -1,6 +1,6 @@
 use Prim.Native.Nat.{_-_}
 use borrow.Author.Needs.{needs}
-use Rattle.definition.specs.Microstep.{entryEffects, entering}
+use Rattle.follower.specs.Microstep.{entryEffects, entering}
 use Rattle.definition.specs.Tables.{chartOf}
 use Rattle.rowset.specs.Visits.{found-next, rest-at, rest-end, next-less}
 use Rattle.rowset.specs.Search.{restFrom}

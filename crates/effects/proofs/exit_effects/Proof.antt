@@ -1,6 +1,6 @@
 use native.Mathlib.Omega.{arith}
 use borrow.Author.Needs.{needs}
-use Rattle.definition.specs.Microstep.{exiting, exitEffects}
+use Rattle.follower.specs.Microstep.{exiting, exitEffects}
 use Rattle.definition.specs.Rows.{backwards}
 use Rattle.definition.specs.Tables.{chartOf}
 use Rattle.rowset.specs.Member.{rowsOf}

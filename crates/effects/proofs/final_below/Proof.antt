@@ -4,7 +4,7 @@ use Prim.Native.Nat.{ℕ}
 use native.Mathlib.Omega.{arith}
 use borrow.Author.Needs.{needs}
 use Rattle.definition.specs.Rows.{fold, mem, backwards}
-use Rattle.definition.specs.Microstep.{addInFinal}
+use Rattle.follower.specs.Microstep.{addInFinal}
 use Rattle.definition.specs.Tables.{chartOf}
 use Rattle.rowset.specs.Visits.{VisitedDown, down-begin, down-turn, down-end, found-prev}
 use Rattle.rowset.specs.Member.{rowsOf}

@@ -2,8 +2,8 @@ use mathlib.Core.List.{[], _∷_}
 use mathlib.Core.Path.{refl}
 use native.Mathlib.Omega.{arith}
 use borrow.Author.Needs.{needs}
-use Rattle.definition.specs.Blocks.{taken}
-use Rattle.definition.specs.Microstep.{transitionEffects}
+use Rattle.follower.specs.Blocks.{taken}
+use Rattle.follower.specs.Microstep.{transitionEffects}
 use Rattle.effects.specs.Blocks.{block-asked, block-wrote}
 use Rattle.effects.specs.Trace.{queues, room-first, room-next, wrote-both}
 use Rattle.effects.proofs.take_transition.Statement.{statement}

@@ -3,7 +3,7 @@ use mathlib.Core.Path.{_≡_, refl}
 use Prim.Native.Nat.{_-_, _≤_}
 use native.Mathlib.Omega.{arith}
 use lib.ListN.{length, drop}
-use Rattle.definition.specs.Microstep.{transitionEffects}
+use Rattle.follower.specs.Microstep.{transitionEffects}
 use Rattle.definition.specs.Tables.{chartOf}
 use Rattle.rowset.specs.Member.{rowsOf}
 use Rattle.laws.specs.Passes.{drop-end}

@@ -6,7 +6,7 @@ use borrow.Author.Tests.{not-true, not-false}
 use Rattle.rowset.specs.Member.{rowsOf}
 use Rattle.definition.specs.Rows.{all}
 use Rattle.definition.specs.Tables.{chartOf}
-use Rattle.definition.specs.Legal.{childrenFit}
+use Rattle.follower.specs.Legal.{childrenFit}
 use Rattle.legality.proofs.all_children_fit.Statement.{statement}
 use Rattle.legality.proofs.all_children_fit.Tie as tie
 

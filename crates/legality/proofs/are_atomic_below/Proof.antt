@@ -5,7 +5,7 @@ use Rattle.rowset.specs.Visits.{Remains, found-next, next-less, remain-begin, a
 use borrow.Author.Tests.{not-true, not-false}
 use Rattle.definition.specs.Rows.{all}
 use Rattle.definition.specs.Tables.{chartOf}
-use Rattle.definition.specs.Legal.{isAtomicBelow}
+use Rattle.follower.specs.Legal.{isAtomicBelow}
 use Rattle.legality.proofs.are_atomic_below.Statement.{statement}
 use Rattle.legality.proofs.are_atomic_below.Tie as tie
 

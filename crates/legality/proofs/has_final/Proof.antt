@@ -3,7 +3,7 @@ use Prim.Native.Nat.{_-_}
 use Rattle.legality.specs.Rows.{row-ready, root-ready, part-ready, final-children}
 use Rattle.rowset.specs.Visits.{Remains, found-next, next-less, remain-begin, any-on, any-stop, any-end}
 use Rattle.definition.specs.Rows.{any}
-use Rattle.definition.specs.Follower.{isFinalUnderRoot}
+use Rattle.follower.specs.Follower.{isFinalUnderRoot}
 use Rattle.definition.specs.Tables.{chartOf}
 use Rattle.legality.proofs.has_final.Statement.{statement}
 use Rattle.legality.proofs.has_final.Tie as tie

@@ -7,7 +7,7 @@ use Rattle.rowset.specs.Visits.{Remains, found-next, next-less, remain-begin, a
 use Rattle.laws.specs.Loops.{said-not-yes, said-not-no}
 use Rattle.rowset.specs.Member.{rowsOf}
 use Rattle.definition.specs.Rows.{all, isSet}
-use Rattle.definition.specs.Legal.{rowFits}
+use Rattle.follower.specs.Legal.{rowFits}
 use Rattle.definition.specs.Tables.{rowCount, chartOf}
 use borrow.Author.Tests.{not-true, not-false}
 use Rattle.legality.proofs.is_legal.Statement.{statement}

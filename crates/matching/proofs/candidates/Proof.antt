@@ -6,7 +6,7 @@ use Prim.Native.Nat.{ℕ, _+_, _-_, _≤_, _<_}
 use native.Mathlib.Omega.{arith}
 use lib.ListN.{length, getD}
 use mathlib.Core.List.{[]}
-use Rattle.definition.specs.Selection.{addOnce, choose}
+use Rattle.follower.specs.Selection.{addOnce, choose}
 use Rattle.definition.specs.Tables.{nameAt, chartOf}
 use Rattle.rowset.specs.Visits.{Visited, visit-begin, visit-turn, visit-end, found-next, next-small, next-less}
 use Rattle.rowset.specs.Member.{rowsOf}

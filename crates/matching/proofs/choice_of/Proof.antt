@@ -2,7 +2,7 @@ use mathlib.Core.Path.{_≡_, refl, sym, ap, _∙_}
 use Prim.Native.Nat.{_-_, _≤_, _<_}
 use native.Mathlib.Omega.{arith}
 use borrow.Author.Needs.{needs}
-use Rattle.definition.specs.Selection.{choice}
+use Rattle.follower.specs.Selection.{choice}
 use Rattle.definition.specs.Tables.{rowCount, transitionCount, nameAt, chartOf}
 use Rattle.rowset.specs.Member.{rowsOf}
 use Rattle.matching.specs.Sources.{indexed-transitions}

@@ -2,7 +2,7 @@ use mathlib.Core.Path.{ap, _∙_}
 use native.Mathlib.Omega.{arith}
 use borrow.Author.Needs.{needs}
 use Rattle.definition.specs.Rows.{any}
-use Rattle.definition.specs.Selection.{matchesAt}
+use Rattle.follower.specs.Selection.{matchesAt}
 use Rattle.definition.specs.Tables.{nameAt}
 use Rattle.matching.specs.Ready.{slot-ready}
 use Rattle.matching.specs.Events.{triggered-none, triggered-by, empty-length}

@@ -1,6 +1,6 @@
 use mathlib.Core.Path.{sym, ap, _∙_}
 use borrow.Author.Needs.{needs}
-use Rattle.definition.specs.Selection.{isTrue}
+use Rattle.follower.specs.Selection.{isTrue}
 use Rattle.rowset.specs.Member.{rowsOf}
 use Rattle.tables.specs.Parts.{conditionOf}
 use Rattle.tables.specs.declared.Condition.{Condition}

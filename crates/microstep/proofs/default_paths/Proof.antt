@@ -1,6 +1,6 @@
 use mathlib.Core.Path.{ap, _∙_}
 use borrow.Author.Needs.{needs}
-use Rattle.definition.specs.Microstep.{pathsBelow}
+use Rattle.follower.specs.Microstep.{pathsBelow}
 use Rattle.definition.specs.Tables.{chartOf}
 use Rattle.microstep.specs.Targets.{paths-set, default-within}
 use Rattle.microstep.proofs.default_paths.Statement.{statement}

@@ -4,8 +4,8 @@ use Prim.Native.Nat.{_-_}
 use lib.ListN.{length}
 use borrow.Author.Needs.{needs}
 use Rattle.definition.specs.Rows.{fold}
-use Rattle.definition.specs.Microstep.{stored}
-use Rattle.definition.specs.Selection.{addStandIns, effectiveTargets}
+use Rattle.follower.specs.Microstep.{stored}
+use Rattle.follower.specs.Selection.{addStandIns, effectiveTargets}
 use Rattle.definition.specs.Tables.{chartOf}
 use Rattle.laws.specs.Passes.{Passed, pass-begin, pass-turn, pass-done}
 use Rattle.rowset.specs.Member.{rowsOf}

@@ -4,7 +4,7 @@ use mathlib.Core.Path.{_≡_, refl}
 use Prim.Native.Nat.{_-_}
 use native.Mathlib.Omega.{arith}
 use lib.ListN.{length}
-use Rattle.definition.specs.Microstep.{stored, addFallen, fallen}
+use Rattle.follower.specs.Microstep.{stored, addFallen, fallen}
 use Rattle.definition.specs.Tables.{chartOf}
 use Rattle.laws.specs.Passes.{Passed, pass-begin, pass-turn, pass-done}
 use Rattle.rowset.specs.Member.{rowsOf}

@@ -1,7 +1,7 @@
 -- `fixed_aim`: the only target, where it is a child of the domain; else the anchors and their ancestors below it.
 use borrow.Author.Needs.{needs}
 use mathlib.Core.Path.{ap, _∙_}
-use Rattle.definition.specs.Microstep.{pathsBelow}
+use Rattle.follower.specs.Microstep.{pathsBelow}
 use Rattle.microstep.specs.Targets.{child-aim, anchors-within}
 use Rattle.microstep.proofs.fixed_aim.Statement.{statement}
 use Rattle.microstep.proofs.fixed_aim.Tie as tie

@@ -3,7 +3,7 @@ use mathlib.Core.Path.{ap, _∙_}
 use Prim.Native.Nat.{ℕ, _-_}
 use borrow.Author.Needs.{needs}
 use Rattle.definition.specs.Rows.{fold, intersection}
-use Rattle.definition.specs.Microstep.{addPath, pathsBelow}
+use Rattle.follower.specs.Microstep.{addPath, pathsBelow}
 use Rattle.definition.specs.Tables.{chartOf}
 use Rattle.rowset.specs.Visits.{Visited, visit-begin, visit-turn, visit-end, found-next, next-less}
 use Rattle.rowset.specs.Member.{rowsOf}

@@ -4,7 +4,7 @@ use Prim.Native.Nat.{_-_}
 use native.Mathlib.Omega.{arith}
 use lib.ListN.{length}
 use Rattle.definition.specs.Tables.{chartOf}
-use Rattle.definition.specs.Selection.{keepBeside}
+use Rattle.follower.specs.Selection.{keepBeside}
 use Rattle.rowset.specs.Member.{rowsOf}
 use Rattle.selection.specs.History.{storedAt}
 use Rattle.selection.specs.Kept.{Sifted, sift-begin, sift-turn, sift-done, sift-low}

@@ -2,7 +2,7 @@ use mathlib.Core.Path.{_≡_, refl}
 use Prim.Native.Nat.{_≤_, _<_}
 use native.Mathlib.Omega.{arith}
 use borrow.Author.Needs.{needs}
-use Rattle.definition.specs.Selection.{holdsAll}
+use Rattle.follower.specs.Selection.{holdsAll}
 use Rattle.definition.specs.Tables.{rowCount, chartOf}
 use Rattle.rowset.specs.Member.{rowsOf}
 use Rattle.selection.specs.Domain.{nearest, nearest-on, domain-own, domain-top, domain-here}

@@ -3,7 +3,7 @@ use mathlib.Core.Path.{ap, _∙_}
 use Prim.Native.Nat.{_-_}
 use lib.ListN.{length}
 use borrow.Author.Needs.{needs}
-use Rattle.definition.specs.Selection.{addStandIns, effectiveTargets}
+use Rattle.follower.specs.Selection.{addStandIns, effectiveTargets}
 use Rattle.definition.specs.Tables.{chartOf}
 use Rattle.definition.specs.Rows.{fold}
 use Rattle.laws.specs.Passes.{Passed, pass-begin, pass-turn, pass-done}

@@ -3,7 +3,7 @@ use mathlib.Core.Path.{_≡_, refl}
 use Prim.Native.Nat.{_-_}
 use lib.ListN.{length}
 use Rattle.definition.specs.Tables.{chartOf}
-use Rattle.definition.specs.Selection.{isInTheWay}
+use Rattle.follower.specs.Selection.{isInTheWay}
 use Rattle.laws.specs.Loops.{Failing, failing-begin, failing-read-turn, failing-read-leave, failing-done}
 use Rattle.rowset.specs.Member.{rowsOf}
 use Rattle.matching.specs.Chosen.{within-low}

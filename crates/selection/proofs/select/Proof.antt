@@ -1,5 +1,5 @@
 use mathlib.Core.Path.{_≡_, sym, ap, _∙_}
-use Rattle.definition.specs.Selection.{withoutConflicts, selected}
+use Rattle.follower.specs.Selection.{withoutConflicts, selected}
 use Rattle.selection.specs.Kept.{selected-as}
 use Rattle.selection.proofs.select.Statement.{statement}
 use Rattle.selection.proofs.select.Tie as tie

@@ -1,11 +1,11 @@
 -- Whole lists of calls.
 use mathlib.Core.List.{List, [], _∷_, map}
 use Prim.Native.Nat.{ℕ}
 use Rattle.definition.specs.Names.{Name}
 use Rattle.definition.specs.Chart.{Chart, Names as NameTable}
 use Rattle.definition.specs.Answers.{answerNo, statusNo}
-use Rattle.definition.specs.Blocks.{traceNo}
-use Rattle.definition.specs.Follower.{Follower, Started, start, postAnswer, post, Ran, run}
+use Rattle.follower.specs.Blocks.{traceNo}
+use Rattle.follower.specs.Follower.{Follower, Started, start, postAnswer, post, Ran, run}
 
 -- ---- whole lists of calls (89, 90): each call with its arguments and the trace room left
 

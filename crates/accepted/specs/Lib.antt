@@ -1,0 +1,5 @@
+pub mod Tree
+pub mod Fork
+pub mod Unions
+pub mod NameFacts
+pub mod Sound

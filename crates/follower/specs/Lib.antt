@@ -1,0 +1,9 @@
+pub mod Selection
+pub mod Blocks
+pub mod Microstep
+pub mod Follower
+pub mod Legal
+pub mod Calls
+pub mod Marked
+pub mod Open
+pub mod MarkedRuns
