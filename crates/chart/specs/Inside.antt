@@ -10,7 +10,7 @@ use Rattle.definition.specs.Tree.{ancestors, descendants, children, isDomainKin
 use Rattle.laws.specs.Bools.{no, bool-case}
 use Rattle.laws.specs.Sets.{mem-head, mem-union}
 use Rattle.laws.specs.Lists.{mem-cases, mem-tail}
-use Rattle.tables.specs.Stands.{root-no-history}
+use Rattle.kinds.specs.Stands.{root-no-history}
 use Rattle.accepted.specs.Tree.{ancestor-low, low, root-kind, mem-children}
 use Rattle.accepted.specs.Fork.{anchor-self, anchor-parent}
 use Rattle.accepted.specs.Sound.{Sound, mem-descendants}

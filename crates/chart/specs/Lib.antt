@@ -1,4 +1,5 @@
 pub mod Ready
+pub mod Within
 pub mod Columns
 pub mod Inside
 pub mod Agree

@@ -7,16 +7,14 @@ ghost use Rattle.definition.specs.Tables.{rowCount, tablesSize, chartOf};
 ghost use Rattle.definition.specs.Tree.{ancestors, descendants, children, isCompound, isAtomic, isDomainKind, defaultTargets, anchors};
 ghost use Rattle.rowset.specs.Member.{rowsOf};
 ghost use Rattle.chart.specs.Ready.{setAt, RowReady, BelowRoot, TransitionReady, ParentRow, SetInside};
+use kinds::is_final;
+pub use kinds::is_history;
+use kinds::is_root;
+use kinds::is_state;
 use numbers::Row;
 use numbers::Transition;
 use rowset::RowSet;
 use tables::columns;
-pub use tables::is_final;
-pub use tables::is_history;
-pub use tables::is_parallel;
-pub use tables::is_root;
-pub use tables::is_shallow;
-pub use tables::is_state;
 pub use tables::set_at;
 
 // ---- the sets

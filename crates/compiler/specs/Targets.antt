@@ -15,7 +15,7 @@ use Rattle.accepted.specs.Tree.{root-kind}
 use Rattle.tables.specs.Ranges.{HasParent}
 use Rattle.rowset.specs.declared.RowSet.{RowSet}
 use Rattle.rowset.specs.Member.{rowsOf}
-use Rattle.tables.specs.Stands.{root-no-history}
+use Rattle.kinds.specs.Stands.{root-no-history}
 use Rattle.compiler.specs.Compilable.{Compilable, has-parent}
 
 -- a row of numbers that keep the rules, and its children

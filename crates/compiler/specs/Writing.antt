@@ -2,11 +2,11 @@
 use mathlib.Core.Path.{_≡_, refl, sym, ap, _∙_}
 use mathlib.Core.Bool.{true, _&&_}
 use mathlib.Core.List.{List, [], _∷_, _++_, append-assoc}
-use Prim.Native.Nat.{ℕ, suc, _+_, _*_, _-_, _≤_, _<_}
+use Prim.Native.Nat.{ℕ, _+_, _*_, _-_, _≤_, _<_}
 use native.Mathlib.Nat.{zero-add}
 use native.Mathlib.Omega.{arith}
-use lib.ListN.{length, set, take, drop, length-append, length-take, length-drop, take-append-drop}
-use lib.Seq.{take-at, drop-at, drop-append-add, drop-drop, length-take-le, sets-eq}
+use lib.ListN.{length, take, drop, length-append, length-take, length-drop, take-append-drop}
+use lib.Seq.{take-at, drop-at, drop-append-add, drop-drop, length-take-le}
 use borrow.Author.Tests.{leb-true, ltb-true}
 use lib.Dec.{leb, ltb}
 use Rattle.definition.specs.Rows.{from, flat, union, mem}
@@ -15,14 +15,10 @@ use Rattle.laws.specs.Bools.{and-left, and-right}
 use Rattle.laws.specs.Sets.{mem-from, mem-head, union-set}
 use Rattle.laws.specs.Lists.{mem-tail}
 use Rattle.rowset.specs.declared.RowSet.{RowSet}
-use Rattle.rowset.specs.Member.{rowsOf, Fitting}
-use Rattle.rowset.specs.Rows.{words-of-rows}
+use Rattle.rowset.specs.Member.{rowsOf}
+unfoldable pub use Rattle.tables.specs.Sets.{putAt}
 use Rattle.chart.specs.Ready.{setAt}
 use Rattle.chart.specs.Columns.{rows-set-of, length-column, column-none, column-more, column-at, set-in-column}
-
--- the place with the set of a list from w on
-unfoldable pub putAt : List ℕ → ℕ → List ℕ → List ℕ
-putAt sets w xs = take w sets ++ (words xs ++ drop (w + 4) sets)
 
 -- a list that was made a set has the same words
 pub words-set : (xs : List ℕ) → words (union [] xs) ≡ words xs
@@ -38,16 +34,6 @@ unfolding putAt
 put-behind p a q w xs e f =
     let d : drop (w + 4) (p ++ (a ++ q)) ≡ q = rw (← e) (drop-append-add p (a ++ q) 4 ∙ drop-at a q 4 f) in
     rw (take-at p (a ++ q) w e, d)
-
--- four words written one after the other
-pub set-words : (sets : List ℕ) (w : ℕ) (s : RowSet) → Fitting s → w + 4 ≤ length sets →
-    set (set (set (set sets w (s .w0)) (w + 1) (s .w1)) (w + 2) (s .w2)) (w + 3) (s .w3) ≡ putAt sets w (rowsOf s)
-unfolding putAt
-set-words sets w s f l =
-    let e1 : w + 1 ≡ suc w = omega arith in
-    let e2 : w + 2 ≡ suc (suc w) = omega arith in
-    let e3 : w + 3 ≡ suc (suc (suc w)) = omega arith in
-    rw (words-of-rows s f, e1, e2, e3) (sets-eq (s .w0 ∷ s .w1 ∷ s .w2 ∷ s .w3 ∷ []) sets w l ∙ append-assoc (take w sets) (s .w0 ∷ s .w1 ∷ s .w2 ∷ s .w3 ∷ []) (drop (w + 4) sets))
 
 pub length-put : (sets : List ℕ) (w : ℕ) (xs : List ℕ) → w + 4 ≤ length sets → length (putAt sets w xs) ≡ length sets
 unfolding putAt words

@@ -26,6 +26,7 @@ use tables::columns::DEFAULT_TARGETS;
 use tables::columns::DESCENDANTS;
 use tables::columns::SET_WIDTH;
 use tables::limits;
+use tables::put_set;
 
 // ---- the sizes that a chart's counts ask of the two places; 0 where the counts break rule 1
 
@@ -48,17 +49,6 @@ pub fn names_size(numbers: &[u64]) -> usize
 }
 
 // ---- the columns
-
-// The set's four words from w on.
-fn put_set(sets: &mut [u64], w: usize, s: RowSet)
-    requires { ⌜ w + 4 ≤ length (now sets) ⌝ }
-    ensures { λ _. ⌜ now (sets .exit) ≡ putAt (now (sets .entry)) w (rowsOf s) ⌝ }
-{
-    sets[w] = s.w0;
-    sets[w + 1] = s.w1;
-    sets[w + 2] = s.w2;
-    sets[w + 3] = s.w3;
-}
 
 // Empty sets for the numbers below n.
 fn clear(sets: &mut [u64], n: usize)

@@ -31,7 +31,7 @@ use Rattle.accepted.specs.Sound.{Sound}
 use Rattle.rowset.specs.Rows.{rows-low}
 use Rattle.effects.specs.declared.Tally.{Tally}
 use Rattle.effects.specs.Trace.{Places, Wrote, Room, wrote-both, room-first, room-next}
-use Rattle.matching.specs.Chosen.{Within}
+use Rattle.chart.specs.Within.{Within}
 use Rattle.effects.specs.Blocks.{performed-any}
 
 -- ---- the active rows at hand

@@ -18,7 +18,7 @@ fn children_fit(chart: &[u64], set: RowSet, r: Row) -> bool
     ensures { λ b. ⌜ b ≡ childrenFit (chartOf (now (chart .entry))) (rowsOf set) (r .0) ⌝ }
 {
     let children = chart::children_of(chart, r);
-    if chart::is_parallel(tables::kind_of(chart, r)) {
+    if kinds::is_parallel(tables::kind_of(chart, r)) {
         return children.subset(set);
     }
     if !chart::is_domain_kind(chart, r) {
@@ -33,7 +33,7 @@ fn is_held(chart: &[u64], conf: RowSet, r: Row) -> bool
     ensures { λ b. ⌜ b ≡ isHeld (chartOf (now (chart .entry))) (rowsOf conf) (r .0) ⌝ }
 {
     let p = chart::parent_row(chart, r);
-    if chart::is_root(tables::kind_of(chart, p)) {
+    if kinds::is_root(tables::kind_of(chart, p)) {
         return true;
     }
     conf.has(p)
@@ -45,10 +45,10 @@ fn row_fits(chart: &[u64], conf: RowSet, r: Row) -> bool
     ensures { λ b. ⌜ b ≡ rowFits (chartOf (now (chart .entry))) (rowsOf conf) (r .0) ⌝ }
 {
     let k = tables::kind_of(chart, r);
-    if chart::is_root(k) {
+    if kinds::is_root(k) {
         return false;
     }
-    if chart::is_history(k) {
+    if kinds::is_history(k) {
         return false;
     }
     if !is_held(chart, conf, r) {
@@ -88,10 +88,10 @@ fn is_final_under_root(chart: &[u64], r: Row) -> bool
     requires { ⌜ RowReady (now chart) (r .0) ⌝ }
     ensures { λ b. ⌜ b ≡ isFinalUnderRoot (chartOf (now (chart .entry))) (r .0) ⌝ }
 {
-    if !chart::is_final(tables::kind_of(chart, r)) {
+    if !kinds::is_final(tables::kind_of(chart, r)) {
         return false;
     }
-    chart::is_root(tables::kind_of(chart, chart::parent_row(chart, r)))
+    kinds::is_root(tables::kind_of(chart, chart::parent_row(chart, r)))
 }
 
 // "A final under root sets closing."
@@ -123,7 +123,7 @@ fn shallow_fits(chart: &[u64], p: Row, set: RowSet) -> bool
     if !set.subset(kids) {
         return false;
     }
-    if chart::is_parallel(tables::kind_of(chart, p)) {
+    if kinds::is_parallel(tables::kind_of(chart, p)) {
         return kids.subset(set);
     }
     set.is_single()
@@ -180,7 +180,7 @@ fn deep_fits(chart: &[u64], p: Row, set: RowSet) -> bool
     if !are_atomic_below(chart, p, set) {
         return false;
     }
-    let paths = microstep::paths_below(chart, p, set);
+    let paths = paths::paths_below(chart, p, set);
     if !children_fit(chart, paths, p) {
         return false;
     }
@@ -196,7 +196,7 @@ pub fn is_storable(chart: &[u64], h: Row, set: RowSet) -> bool
         return false;
     }
     let p = chart::parent_row(chart, h);
-    if chart::is_shallow(tables::kind_of(chart, h)) {
+    if kinds::is_shallow(tables::kind_of(chart, h)) {
         return shallow_fits(chart, p, set);
     }
     deep_fits(chart, p, set)

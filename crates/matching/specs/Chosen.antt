@@ -15,24 +15,16 @@ use Rattle.definition.specs.Names.{Name}
 use Rattle.definition.specs.Chart.{Chart, Names}
 use Rattle.definition.specs.Tree.{isAtomic}
 use Rattle.follower.specs.Selection.{addOnce, choose, atomicStates, candidates}
-use Rattle.laws.specs.Bools.{no, and-left, or-elim}
-use Rattle.laws.specs.Sets.{mem-those, mem-head, mem-one, mem-intersection}
-use Rattle.laws.specs.Lists.{keep-cong, mem-app, mem-cases, mem-tail}
+use Rattle.laws.specs.Bools.{no, and-left}
+use Rattle.laws.specs.Sets.{mem-those, mem-head, mem-intersection}
+use Rattle.laws.specs.Lists.{keep-cong, mem-cases, mem-tail}
 use Rattle.accepted.specs.Sound.{Sound}
 use Rattle.theory.specs.Disjoint.{candidate-of}
+pub use Rattle.chart.specs.Within.{Within, Taken, within-low, within-none, within-append}
 
 -- the first n items
 unfoldable pub listOf : List ℕ → ℕ → List ℕ
 listOf items n = take n items
-
--- every number of the list is below n
-pub record Within (n : ℕ) (xs : List ℕ) : Type 0 where
-  pub at : (i : ℕ) → mem i xs ≡ true → i < n
-
--- at most 256, each the number of one of so many transitions
-pub record Taken (transitions : ℕ) (ts : List ℕ) : Type 0 where
-  pub most : length ts ≤ 256
-  pub inside : Within transitions ts
 
 -- the first n of 256 items are such
 pub record ChosenIn (transitions : ℕ) (items : List ℕ) (n : ℕ) : Type 0 where
@@ -63,22 +55,13 @@ pub list-push : (items : List ℕ) (n x : ℕ) → n < length items → listOf (
 unfolding listOf append
 list-push items n x l = rw (add-one n) (take-suc-set items n x l)
 
--- an element that is read by its place is in the list
-at-mem : (xs : List ℕ) (i : ℕ) → i < length xs → mem (getD xs i 0) xs ≡ true
-at-mem [] i l = absurd (omega arith)
-at-mem (x ∷ xs) zero l = mem-head x xs
-at-mem (x ∷ xs) (suc i) l = mem-tail x (getD xs i 0) xs (at-mem xs i (omega arith))
-
 pub chosen-length : (k : ℕ) (items : List ℕ) (n : ℕ) → ChosenIn k items n → length (listOf items n) ≡ n
 chosen-length k items n h = let s = h .room in let m = h .most in list-length items n (omega arith)
 
 pub chosen-low : (k : ℕ) (items : List ℕ) (n i : ℕ) → ChosenIn k items n → i < n → getD items i 0 < k
 chosen-low k items n i h l =
     let s = chosen-length k items n h in
-    rw (list-at items n i l) (h .inside .at (getD (listOf items n) i 0) (at-mem (listOf items n) i (omega arith)))
-
-pub within-low : (k : ℕ) (ts : List ℕ) (i : ℕ) → Within k ts → i < length ts → getD ts i 0 < k
-within-low k ts i h l = h .at (getD ts i 0) (at-mem ts i l)
+    rw (list-at items n i l) (within-low k (listOf items n) i (h .inside) (omega arith))
 
 -- ---- "A transition chosen twice counts once, at its first place." (51)
 
@@ -134,17 +117,7 @@ candidates-done c g names conf event atoms active items n w e f h l m = record {
         unfold candidates in
         h ∙ ap (fold (choose c names conf event) []) (f ∙ ap (intersection conf) e ∙ atomic-states c conf w)
 
--- ---- parts of a list, and one more
-
-pub within-none : (n : ℕ) → Within n []
-unfolding mem
-within-none n = record { at = λ i m. absurd (no m) }
-
-pub within-append : (n : ℕ) (xs : List ℕ) (t : ℕ) → Within n xs → t < n → Within n (append xs t)
-unfolding append
-within-append n xs t w l = record {
-  at = λ i m. or-elim (mem i xs) (mem i (t ∷ [])) (λ k. w .at i k) (λ k. rw (mem-one i t k) l) (sym (mem-app i xs (t ∷ [])) ∙ m);
-}
+-- ---- parts of a list
 
 mem-front : (i n x : ℕ) (xs : List ℕ) → i ≤ n → mem x (take i xs) ≡ true → mem x (take n xs) ≡ true
 unfolding mem

@@ -22,7 +22,7 @@ use Rattle.accepted.specs.Sound.{Sound, descendants-mem}
 use Rattle.accepted.specs.Tree.{below-anc}
 use Rattle.accepted.specs.Unions.{mem-in-union}
 use Rattle.theory.specs.Disjoint.{candidate-choice, choice-facts}
-use Rattle.matching.specs.Chosen.{Within}
+use Rattle.chart.specs.Within.{Within}
 
 unfoldable pub eventlessAt : Chart → ℕ → List ℕ
 eventlessAt c t = cond (isEmpty ((c .transition) t .descriptors)) ((c .transition) t .source ∷ descendants c ((c .transition) t .source)) []

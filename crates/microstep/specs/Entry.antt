@@ -20,7 +20,8 @@ use Rattle.rowset.specs.declared.Found.{Found}
 use Rattle.rowset.specs.declared.Found.the-variants.{At, Nothing}
 use Rattle.rowset.specs.Member.{rowsOf, nextIn}
 use Rattle.rowset.specs.Visits.{found-next, skip-turn, skip-end}
-use Rattle.matching.specs.Chosen.{Within, atomicRows}
+use Rattle.chart.specs.Within.{Within}
+use Rattle.matching.specs.Chosen.{atomicRows}
 use Rattle.effects.specs.Entering.{entryIs}
 use Rattle.microstep.specs.declared.Entered.{Entered}
 

@@ -20,7 +20,7 @@ use Rattle.accepted.specs.Sound.{Sound}
 use Rattle.theory.specs.Entry.{path-inside, entry-inside}
 use Rattle.rowset.specs.Member.{rowsOf}
 use Rattle.chart.specs.Ready.{Ready}
-use Rattle.matching.specs.Chosen.{Within, Taken, within-none}
+use Rattle.chart.specs.Within.{Within, Taken, within-none}
 use Rattle.effects.specs.declared.Tally.{Tally}
 use Rattle.effects.specs.Trace.{Places, Wrote, Room, wrote-both, room-first, room-next}
 use Rattle.effects.specs.Entering.{entryIs, HistoryRows}

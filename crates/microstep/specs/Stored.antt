@@ -16,10 +16,12 @@ use Rattle.theory.specs.Storing.{stored-mem}
 use Rattle.rowset.specs.declared.RowSet.{RowSet}
 use Rattle.rowset.specs.Member.{rowsOf}
 use Rattle.chart.specs.Ready.{Ready, setAt}
-use Rattle.matching.specs.Chosen.{Within, atomicRows, atomic-states}
+use Rattle.chart.specs.Within.{Within}
+use Rattle.matching.specs.Chosen.{atomicRows, atomic-states}
 use Rattle.selection.specs.declared.Stored.{Stored}
 use Rattle.selection.specs.declared.Stored.the-variants as kept
-use Rattle.selection.specs.History.{storedAt, storedOf, asStored, rowsIn, as-rows, as-some, standsFor, add-stand-ins}
+use Rattle.paths.specs.History.{storedAt}
+use Rattle.selection.specs.History.{storedOf, asStored, rowsIn, as-rows, as-some, standsFor, add-stand-ins}
 
 -- ---- what is given: the atomic rows of the chart, the configuration before the round, and stored history whose rows are the chart's
 

@@ -11,9 +11,9 @@ use Rattle.definition.specs.Rows.{fold, keep, any, mem, isEmpty, insert, union,
 use Rattle.definition.specs.Chart.{Chart, Transition, kind, parent, isRoot, isHistory}
 use Rattle.definition.specs.Tree.{ancestors, isDescendant, descendants, listed, defaultTargets, anchor, anchors}
 use Rattle.follower.specs.Selection.{History, orDefault, standIns, addStandIns, effectiveTargets, domain}
-use Rattle.follower.specs.Microstep.{addPath, pathsBelow, addTargets, targeted, fellToDefault, addFallen, fallen}
+use Rattle.follower.specs.Microstep.{pathsBelow, addTargets, targeted, fellToDefault, addFallen, fallen}
 use Rattle.laws.specs.Bools.{no, clash, not-so, or-left, or-right, or-elim, or-false, and-left, and-right, and-true, both-ways}
-use Rattle.laws.specs.Sets.{Ascends, ascends-ext, ascends-insert, mem-union, mem-one, union-set}
+use Rattle.laws.specs.Sets.{ascends-ext, mem-union, mem-one}
 use Rattle.laws.specs.Lists.{keep-cong}
 use Rattle.laws.specs.Folds.{fold-same, fold-kept, any-same}
 use Rattle.accepted.specs.Sound.{Sound, mem-descendants, descendants-mem}
@@ -22,7 +22,7 @@ use Rattle.accepted.specs.Tree.{root-kind, low, ancestors-on, ancestor-low}
 use Rattle.theory.specs.Domain.{effective-of}
 use Rattle.theory.specs.Entry.{isOnPath, mem-paths, ascends-paths}
 use Rattle.chart.specs.Inside.{default-inside, anchors-inside}
-use Rattle.matching.specs.Chosen.{Within}
+use Rattle.chart.specs.Within.{Within}
 use Rattle.selection.specs.FixedDomains.{hasFixedTargets, isHistoryRow, FixedDomain, none-history, anchors-stand, fixed-targets, fixed-is-domain}
 
 -- the order of the list does not matter
@@ -35,11 +35,6 @@ paths-same c d xs ys h =
 pub paths-set : (c : Chart) (d : ℕ) (xs : List ℕ) → pathsBelow c d (union [] xs) ≡ pathsBelow c d xs
 unfolding mem
 paths-set c d xs = paths-same c d (union [] xs) xs (λ a. mem-union a [] xs)
-
--- one row more, by the set of its ancestors
-pub path-added : (c : Chart) (set above : List ℕ) (x : ℕ) → Ascends 0 set → above ≡ union [] (ancestors c x) → union (insert x set) above ≡ addPath c set x
-unfolding addPath
-path-added c set above x a e = ap (union (insert x set)) e ∙ union-set (insert x set) (ancestors c x) (ascends-insert x set a)
 
 -- ---- two histories that agree on the targets of a transition
 

@@ -1,32 +1,37 @@
 -- Storing history in its words: four for each row.
 use mathlib.Core.Path.{_≡_, refl, ap, sym, _∙_, subst}
 use mathlib.Core.Bool.{Bool, true, false, _&&_}
-use mathlib.Core.List.{List}
+use mathlib.Core.List.{List, append-assoc}
 use mathlib.Core.Logic.{_⊎_, inl, inr, ⊎-elim}
-use Prim.Native.Nat.{ℕ, _+_, _*_, _/_, _<_, _≤_}
+use Prim.Native.Nat.{ℕ, suc, _+_, _*_, _/_, _<_, _≤_}
 use native.Mathlib.Omega.{arith}
 use lib.Dec.{ltb}
-use lib.ListN.{length, getD, set, length-set}
-use lib.Seq.{getD-set-same, getD-set-other}
+use lib.ListN.{length, getD, set, take, drop, length-set}
+use lib.Seq.{getD-set-same, getD-set-other, sets-eq}
 use borrow.Author.Tests.{lt-ltb, ltb-true, ltb-false}
 use Rattle.definition.specs.Rows.{those, mem}
 use Rattle.definition.specs.Chart.{Chart, kind, isHistory}
 use Rattle.definition.specs.Tables.{rowCount, kindAt, parentAt, chartOf}
+use Rattle.definition.specs.Compiled.{words}
 use Rattle.follower.specs.Selection.{History}
 use Rattle.follower.specs.Microstep.{wouldStore, stored, exits, historyAfter, storedIn}
 use Rattle.laws.specs.Bools.{clash, bool-case, eq-case, and-true, and-left, and-right, not-so}
+use Rattle.laws.specs.Orders.{union-none}
 use Rattle.laws.specs.Sets.{mem-those}
 use Rattle.numbers.specs.declared.Row.{Row}
 use Rattle.rowset.specs.declared.RowSet.{RowSet}
 use Rattle.rowset.specs.declared.Found.{Found}
 use Rattle.rowset.specs.declared.Found.the-variants.{At, Nothing}
 use Rattle.rowset.specs.Member.{rowsOf, nextIn}
+use Rattle.rowset.specs.Rows.{ascends-rows, rows-low}
 use Rattle.rowset.specs.Search.{NextAt}
 use Rattle.rowset.specs.Visits.{found-next, no-next}
+use Rattle.tables.specs.Sets.{putAt}
 use Rattle.chart.specs.Ready.{Ready, setAt}
-use Rattle.selection.specs.History.{storedAt}
+use Rattle.chart.specs.Columns.{setOf, rows-set-of}
+use Rattle.paths.specs.History.{storedAt}
 use Rattle.effects.specs.Entering.{HistoryRow}
-use Rattle.matching.specs.Chosen.{Within}
+use Rattle.chart.specs.Within.{Within}
 use Rattle.microstep.specs.Stored.{RoundReady, after-stored, stored-within, stored-new, stored-old, stored-plain}
 
 -- the histories of the chart
@@ -93,7 +98,7 @@ set-is : (words : List ℕ) (w : ℕ) (s : RowSet) → getD words w 0 ≡ s .w0 
 unfolding setAt
 set-is words w s e0 e1 e2 e3 i = record { w0 = e0 i; w1 = e1 i; w2 = e2 i; w3 = e3 i }
 
-pub put-words : (old : List ℕ) (w : ℕ) (s : RowSet) → w + 4 ≤ length old → Put old (set (set (set (set old w (s .w0)) (w + 1) (s .w1)) (w + 2) (s .w2)) (w + 3) (s .w3)) w s
+put-words : (old : List ℕ) (w : ℕ) (s : RowSet) → w + 4 ≤ length old → Put old (set (set (set (set old w (s .w0)) (w + 1) (s .w1)) (w + 2) (s .w2)) (w + 3) (s .w3)) w s
 put-words old w s l = record {
   room = four-length old w (s .w0) (s .w1) (s .w2) (s .w3);
   at = set-is (four old w (s .w0) (s .w1) (s .w2) (s .w3)) w s (at0 old w (s .w0) (s .w1) (s .w2) (s .w3) l) (at1 old w (s .w0) (s .w1) (s .w2) (s .w3) l) (at2 old w (s .w0) (s .w1) (s .w2) (s .w3) l) (at3 old w (s .w0) (s .w1) (s .w2) (s .w3) l);
@@ -101,6 +106,22 @@ put-words old w s l = record {
       (λ m. apart old w (s .w0) (s .w1) (s .w2) (s .w3) v (λ e. omega arith) (λ e. omega arith) (λ e. omega arith) (λ e. omega arith))
       (λ m. apart old w (s .w0) (s .w1) (s .w2) (s .w3) v (λ e. omega arith) (λ e. omega arith) (λ e. omega arith) (λ e. omega arith)) a;
 }
+
+-- the set that the four words hold, of a set's rows, has these rows
+pub rows-of-set : (s : RowSet) → rowsOf (setOf (rowsOf s)) ≡ rowsOf s
+rows-of-set s = rows-set-of (rowsOf s) (rows-low s) ∙ union-none 0 (rowsOf s) (ascends-rows s)
+
+-- as put_set puts it
+pub put-at : (old new : List ℕ) (w : ℕ) (s : RowSet) → w + 4 ≤ length old → new ≡ putAt old w (rowsOf s) → Put old new w (setOf (rowsOf s))
+unfolding putAt setOf words
+put-at old new w s l e =
+    let e1 : w + 1 ≡ suc w = omega arith in
+    let e2 : w + 2 ≡ suc (suc w) = omega arith in
+    let e3 : w + 3 ≡ suc (suc (suc w)) = omega arith in
+    let t : RowSet = setOf (rowsOf s) in
+    let is : set (set (set (set old w (t .w0)) (w + 1) (t .w1)) (w + 2) (t .w2)) (w + 3) (t .w3) ≡ putAt old w (rowsOf s) =
+    rw (e1, e2, e3) (sets-eq (words (rowsOf s)) old w l ∙ append-assoc (take w old) (words (rowsOf s)) (drop (w + 4) old)) in
+    subst (λ (ws : List ℕ). Put old ws w t) (is ∙ sym e) (put-words old w t l)
 
 -- the words of a row that did not change
 stored-same : (old new : List ℕ) (h : ℕ) → ((v : ℕ) → h * 4 ≤ v → v < h * 4 + 4 → getD new v 0 ≡ getD old v 0) → storedAt new h ≡ storedAt old h

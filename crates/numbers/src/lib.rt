@@ -1,5 +1,6 @@
 // The numbers by which the tables are read, each a type of its own, so that none stands where another is wanted.
 ghost use mathlib.Core.Path.{_≡_};
+ghost use Prim.Native.Nat.{_+_};
 ghost use lib.Dec.{eqb};
 ghost use Rattle.numbers.specs.Numbers.{rowNo, transitionNo, nameNo};
 
@@ -15,6 +16,13 @@ pub fn row_index(r: Row) -> usize
     ensures { λ i. ⌜ i ≡ rowNo r ⌝ }
 {
     r.0 as usize
+}
+
+// The number after a row's: where the search for the next row starts.
+pub fn row_after(r: Row) -> u16
+    ensures { λ k. ⌜ k ≡ r .0 + 1 ⌝ }
+{
+    r.0 as u16 + 1
 }
 
 pub fn transition_index(t: Transition) -> usize

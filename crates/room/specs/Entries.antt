@@ -1,24 +1,24 @@
 -- The entries of a round, of a start and of a closing round are no more than roomFor says.
 use mathlib.Core.Path.{_≡_, refl, ap, sym, _∙_, subst}
-use mathlib.Core.Bool.{Bool, true, false, not, _&&_, cond}
+use mathlib.Core.Bool.{Bool, true, false, cond}
 use mathlib.Core.List.{List, [], _∷_, _++_}
 use mathlib.Core.Option.{Option}
 use Prim.Native.Nat.{ℕ, _+_, _≤_, _<_}
 use native.Mathlib.Omega.{arith}
 use lib.Dec.{eqb, ltb}
-use lib.ListN.{length, length-append, length-map}
+use lib.ListN.{length, length-append}
 use borrow.Author.Tests.{ltb-true, ltb-false}
 use Rattle.definition.specs.declared.Kind.{Kind}
 use Rattle.definition.specs.declared.Kind.the-variants.{Root, State, Parallel, Final, Shallow, Deep}
 use Rattle.definition.specs.declared.Mode.the-variants.{Closing}
 use Rattle.definition.specs.declared.Action.{Action}
-use Rattle.definition.specs.Rows.{fold, from, keep, mem, isIn, isEmpty, isSet, union, flat, backwards, intersection}
+use Rattle.definition.specs.Rows.{fold, from, keep, mem, isIn, isEmpty, isSet, flat, backwards, intersection}
 use Rattle.definition.specs.Names.{Name}
-use Rattle.definition.specs.Chart.{Chart, Names, kind, parent, isRoot, isState, isFinal, isHistory}
+use Rattle.definition.specs.Chart.{Chart, Names, kind, parent, isState, isHistory}
 use Rattle.definition.specs.Tree.{descendants, isCompound, defaultTargets}
 use Rattle.follower.specs.Selection.{History, domain, effectiveTargets, exitSet, selected}
-use Rattle.follower.specs.Blocks.{Effect, done, performed}
-use Rattle.follower.specs.Microstep.{addExits, exits, exitEffects, exiting, transitionEffects, pathsBelow, addTargets, targeted, Entry, entrySet, fellToDefault, addFallen, fallen, initialBlock, defaultBlock, isDoneAbove, doneEffects, activeLeaving, activeAt, defaultEffects, entryEffects, entering, storedIn, staying, historyAfter, entryOf, effects}
+use Rattle.follower.specs.Blocks.{Effect, performed}
+use Rattle.follower.specs.Microstep.{addExits, exits, exitEffects, exiting, transitionEffects, pathsBelow, addTargets, targeted, Entry, entrySet, fellToDefault, addFallen, fallen, initialBlock, defaultBlock, activeLeaving, activeAt, defaultEffects, entryEffects, entering, storedIn, staying, historyAfter, entryOf, effects}
 use Rattle.follower.specs.Follower.{Follower, Round, idle, over, did, taking, selectedBy, closingRound, round, firstEntry, firstEffects}
 use Rattle.laws.specs.Bools.{no, or-elim, bool-case, and-left, and-right}
 use Rattle.laws.specs.Sets.{Ascends, NoTwice, no-twice, mem-one, mem-insert-one, mem-intersection}
@@ -30,12 +30,9 @@ use Rattle.accepted.specs.Sound.{mem-descendants}
 use Rattle.theory.specs.Disjoint.{candidate-of, selected-once, selected-candidate, no-twice-subsequence, subsequence-keep}
 use Rattle.theory.specs.Round.{exits-ascends}
 use Rattle.theory.specs.Runs.{round-cases}
+use Rattle.paths.specs.Lengths.{performed-length, done-few}
 use Rattle.room.specs.Sums.{total, fold-total, total-zero, total-more, total-add, total-app, length-flat, total-keep, total-below, no-twice-both, total-backwards, total-one}
 use Rattle.room.specs.Room.{rowRoom, transitionRoom, addRow, addTransition, rowsRoom, transitionsRoom, roomFor}
-
-performed-length : (conf : List ℕ) (block : List Action) → length (performed conf block) ≡ length block
-unfolding performed
-performed-length conf block = length-map block _
 
 -- ---- the parts of a row
 
@@ -81,15 +78,6 @@ taken-few c stay ts t h =
     omega arith
 
 -- ---- entries
-
-done-few : (c : Chart) (conf : List ℕ) (i : ℕ) → length (doneEffects c conf i) ≤ 2
-unfolding doneEffects
-done-few c conf i = go (isFinal (kind c i) && not (isRoot (kind c (parent c i)))) (isDoneAbove c conf (parent c (parent c i)))
-  where
-    go : (a b : Bool) → length (cond a (done (parent c i) ∷ cond b (done (parent c (parent c i)) ∷ []) []) []) ≤ 2
-    go true true = omega arith
-    go true false = omega arith
-    go false b = omega arith
 
 cond-length : (b : Bool) (block : List Action) → length (cond b block []) ≡ cond b (length block) 0
 cond-length true block = refl

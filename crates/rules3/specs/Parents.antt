@@ -18,7 +18,7 @@ use Rattle.laws.specs.Loops.{from-last, any-append, each-below, below-each}
 use Rattle.accepted.specs.Tree.{ancestors-on, ancestors-top, ancestor-low}
 use Rattle.rowset.specs.declared.RowSet.{RowSet}
 use Rattle.rowset.specs.Member.{rowsOf}
-use Rattle.tables.specs.Stands.{root-no-history}
+use Rattle.kinds.specs.Stands.{root-no-history}
 use Rattle.tables.specs.Ranges.{InTables, RowIn}
 
 -- ---- the climb from row i to p, by the number in the parent's column, q

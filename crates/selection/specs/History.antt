@@ -1,4 +1,4 @@
--- Stored history: four words for each of 256 rows; and what stands in for a target.
+-- What a history has stored, as the code hands it on; and what stands in for a target.
 use mathlib.Core.Path.{_≡_, refl, sym, ap, _∙_}
 use mathlib.Core.Bool.{Bool, true, false, not, cond}
 use mathlib.Core.List.{List, [], _∷_}
@@ -13,12 +13,9 @@ use Rattle.laws.specs.Bools.{no}
 use Rattle.rowset.specs.declared.RowSet.{RowSet}
 use Rattle.rowset.specs.Member.{rowsOf}
 use Rattle.chart.specs.Ready.{setAt}
+unfoldable pub use Rattle.paths.specs.History.{storedAt}
 use Rattle.selection.specs.declared.Stored.{Stored}
 use Rattle.selection.specs.declared.Stored.the-variants as stored
-
--- what history h has stored
-unfoldable pub storedAt : List ℕ → History
-storedAt history h = rowsOf (setAt history (h * 4))
 
 -- a set that a history may have stored: the empty one says that nothing is
 unfoldable pub asStored : RowSet → Stored

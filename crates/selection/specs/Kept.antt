@@ -12,7 +12,8 @@ use Rattle.follower.specs.Microstep.{exits}
 use Rattle.laws.specs.Passes.{Walked, walk-begin, walk-turn, walk-done}
 use Rattle.rowset.specs.declared.RowSet.{RowSet}
 use Rattle.rowset.specs.Member.{rowsOf}
-use Rattle.matching.specs.Chosen.{listOf, list-at, list-begin, list-push, chosen-length, chosen-low, Within, within-none, within-append, ChosenIn}
+use Rattle.chart.specs.Within.{Within, within-none, within-append}
+use Rattle.matching.specs.Chosen.{listOf, list-at, list-begin, list-push, chosen-length, chosen-low, ChosenIn}
 use Rattle.selection.specs.declared.Selected.{Selected}
 use Rattle.selection.specs.Conflicts.{exits-append, exits-none}
 use Rattle.selection.specs.Ready.{IsSelected, Selects, Joined, Admits, Leaves}

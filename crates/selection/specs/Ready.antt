@@ -11,10 +11,11 @@ use Rattle.follower.specs.Microstep.{exits}
 use Rattle.rowset.specs.declared.RowSet.{RowSet}
 use Rattle.rowset.specs.Member.{rowsOf}
 use Rattle.chart.specs.Ready.{Ready, RowReady}
-use Rattle.matching.specs.Chosen.{listOf, Within, ChosenIn}
+use Rattle.chart.specs.Within.{Within}
+use Rattle.matching.specs.Chosen.{listOf, ChosenIn}
 use Rattle.matching.specs.Ready.{Prepared}
 use Rattle.selection.specs.declared.Selected.{Selected}
-use Rattle.selection.specs.History.{storedAt}
+use Rattle.paths.specs.History.{storedAt}
 use Rattle.selection.specs.FixedDomains.{DomainsFixed}
 
 -- stored history has four words for each of 256 rows

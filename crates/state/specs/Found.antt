@@ -21,7 +21,7 @@ use Rattle.laws.specs.Bools.{bool-case, and3, and-true}
 use Rattle.laws.specs.Lists.{set-ascends, set-below, ascends-set, empty-list, full-list}
 use Rattle.accepted.specs.Tree.{Tree}
 use Rattle.theory.specs.Storing.{stored-mem, ascends-stored}
-use Rattle.selection.specs.History.{storedAt}
+use Rattle.paths.specs.History.{storedAt}
 use Rattle.queue.specs.Queues.{queueBytes, queueOf, names-again}
 use Rattle.state.specs.State.{historyWords, rowsAt, modeFrom}
 use Rattle.state.specs.Words.{none-set, rows-again, stored-again}

@@ -13,7 +13,7 @@ use Rattle.follower.specs.Legal.{WellFormed}
 use Rattle.definition.specs.Compiled.{words}
 use Rattle.rowset.specs.Member.{rowsOf}
 use Rattle.chart.specs.Ready.{setAt}
-use Rattle.selection.specs.History.{storedAt}
+use Rattle.paths.specs.History.{storedAt}
 use Rattle.queue.specs.Queues.{queueBytes, queueOf}
 use Rattle.state.specs.declared.State.{State}
 

@@ -21,7 +21,7 @@ use Rattle.rowset.specs.declared.RowSet.{RowSet}
 use Rattle.rowset.specs.Member.{rowsOf, Fitting}
 use Rattle.rowset.specs.Rows.{rows-read, words-of-rows, rows-empty, rows-set}
 use Rattle.chart.specs.Ready.{setAt}
-use Rattle.selection.specs.History.{storedAt}
+use Rattle.paths.specs.History.{storedAt}
 use Rattle.state.specs.State.{historyWords, rowsAt}
 
 -- ---- one set

@@ -15,11 +15,12 @@ pub struct State {
     pub mode: Mode,
 }
 
-const ENDED: u64 = 0;
+// The numbers of the modes.
+pub const ENDED: u64 = 0;
 
-const RUNNING: u64 = 1;
+pub const RUNNING: u64 = 1;
 
-const CLOSING: u64 = 2;
+pub const CLOSING: u64 = 2;
 
 pub fn mode_from(n: u64) -> Mode
     ensures { λ m. ⌜ m ≡ modeFrom n ⌝ }

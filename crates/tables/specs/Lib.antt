@@ -1,3 +1,3 @@
 pub mod Ranges
 pub mod Parts
-pub mod Stands
+pub mod Sets

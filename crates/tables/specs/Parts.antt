@@ -9,14 +9,13 @@ use native.Mathlib.Omega.{arith}
 use lib.ListN.{length, getD, take, drop, length-take, length-drop}
 use lib.Seq.{drop-cons, getD-take, getD-drop, length-take-le, take-add, drop-drop}
 use borrow.Author.Tests.{ltb-true, ne-eqb}
-use Rattle.definition.specs.declared.Kind.the-variants.{Deep}
 use Rattle.definition.specs.declared.Action.{Action}
 use Rattle.definition.specs.declared.Action.the-variants.{Host}
 use Rattle.numbers.specs.declared.Row.{Row}
 use Rattle.rowset.specs.declared.RowSet.{RowSet}
 use Rattle.definition.specs.Rows.{from, all, insert, with}
 use Rattle.laws.specs.Maps.{map-length, each-map}
-use Rattle.definition.specs.Tables.{mostActions, slotSize, noNumber, rowCount, nameCount, referenceBase, descriptorBase, actionBase, referenceCell, descriptorCell, transitionCell, part, referencesAt, descriptorsAt, blockAt, idAt, conditionAt, slotAt, kindOf, actionCell, actionAt, actionOf}
+use Rattle.definition.specs.Tables.{mostActions, slotSize, noNumber, rowCount, nameCount, referenceBase, descriptorBase, actionBase, referenceCell, descriptorCell, transitionCell, part, referencesAt, descriptorsAt, blockAt, idAt, conditionAt, slotAt, actionCell, actionAt, actionOf}
 use Rattle.definition.specs.Rules.{optionalBelow, referenceInRange, descriptorInRange, argumentFits}
 use Rattle.tables.specs.declared.Condition.{Condition}
 use Rattle.tables.specs.declared.Condition.the-variants.{Always, In}
@@ -74,15 +73,6 @@ pub record ConditionIn (numbers : List ℕ) (t : ℕ) (c : Condition) : Type 0 w
 pub record SlotOf (names : List ℕ) (n : ℕ) (slot : List ℕ) : Type 0 where
   pub is : slot ≡ slotAt names n
   pub size : length slot ≡ slotSize
-
--- every kind number past the last is read as the last
-pub kind-past : (x : ℕ) → 5 ≤ x → kindOf x ≡ Deep
-kind-past zero h = absurd (omega arith)
-kind-past (suc zero) h = absurd (omega arith)
-kind-past (suc (suc zero)) h = absurd (omega arith)
-kind-past (suc (suc (suc zero))) h = absurd (omega arith)
-kind-past (suc (suc (suc (suc zero)))) h = absurd (omega arith)
-kind-past (suc (suc (suc (suc (suc n))))) h = refl
 
 -- count numbers of a table from start on, where its cells are all below n
 part-listed : (Within : List ℕ → Type 0) (numbers : List ℕ) (base b start count n : ℕ) → ((l : List ℕ) → ((k : ℕ) → k < length l → getD l k 0 < n) → Within l) →

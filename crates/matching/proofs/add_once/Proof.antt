@@ -13,7 +13,7 @@ use Rattle.matching.proofs.add_once.Reads as reads
 use Rattle.matching.proofs.add_once.Lts as lts
 use Rattle.rowset.proofs.RowSet.has.Reads as has-reads
 use Rattle.rowset.proofs.RowSet.with.Reads as with-reads
-use Rattle.tables.proofs.source_of.Reads as source-of-reads
+use Rattle.tables.proofs.transitions.source_of.Reads as source-of-reads
 
 -- src/lib.rt:183:20
 enum-known-choice : tie.Need-enum-known-choice

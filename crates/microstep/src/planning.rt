@@ -1,0 +1,123 @@
+// The plan of a round and its effects; the effects of the first entry and of the last exit.
+ghost use mathlib.Core.Path.{_≡_};
+ghost use mathlib.Core.List.{[]};
+ghost use Rattle.definition.specs.Rows.{union};
+ghost use Rattle.definition.specs.Tables.{rowCount, transitionCount, chartOf};
+ghost use Rattle.follower.specs.Microstep.{exits, exiting, entering};
+ghost use Rattle.rowset.specs.Member.{rowsOf};
+ghost use Rattle.chart.specs.Ready.{Ready};
+ghost use Rattle.chart.specs.Within.{Within, Taken};
+ghost use Rattle.paths.specs.History.{storedAt};
+ghost use Rattle.selection.specs.FixedDomains.{DomainsFixed};
+ghost use Rattle.effects.specs.Trace.{places, Wrote};
+ghost use Rattle.microstep.specs.Stored.{RoundReady};
+ghost use Rattle.microstep.specs.Entry.{enteredAs};
+ghost use Rattle.microstep.specs.Plan.{Planned, PlanReady, Small, planEffects};
+use crate::Entered;
+use crate::Plan;
+use crate::entry::entry_set;
+use crate::targets::fallen_of;
+use crate::targets::targeted;
+use effects::Tally;
+use effects::entry_effects;
+use effects::exit_effects;
+use effects::transition_effects;
+use rowset::RowSet;
+
+// The chosen transitions, taken together from the configuration: out are the rows that they exit.
+pub fn plan_round(
+    chart: &[u64],
+    domains: &[u16],
+    atoms: RowSet,
+    conf: RowSet,
+    history: &[u64],
+    chosen: &[u16],
+    out: RowSet,
+) -> Plan
+    requires { ⌜ DomainsFixed (chartOf (now chart)) (now domains) × RoundReady (now chart) (now history) atoms conf × Taken (transitionCount (now chart)) (now chosen) × (rowsOf out ≡ exits (chartOf (now chart)) (rowsOf conf) (storedAt (now history)) (now chosen)) ⌝ }
+    ensures { λ p. ⌜ Planned (chartOf (now (chart .entry))) (rowsOf conf) (storedAt (now (history .entry))) (now (chosen .entry)) p × PlanReady (now (chart .entry)) p ⌝ }
+{
+    let stay = conf.minus(out);
+    let aim = targeted(chart, domains, atoms, conf, history, out, chosen);
+    let e = entry_set(chart, atoms, aim);
+    let set = e.set;
+    let by_default = e.by_default;
+    Plan {
+        conf: conf,
+        stay: stay,
+        out: out,
+        set: set,
+        by_default: by_default,
+        fallen: fallen_of(chart, domains, atoms, conf, history, out, chosen),
+    }
+}
+
+// The configuration after the round.
+pub fn next_configuration(plan: Plan) -> RowSet
+    ensures { λ s. ⌜ rowsOf s ≡ union (rowsOf (plan .stay)) (rowsOf (plan .set)) ⌝ }
+{
+    let stay = plan.stay;
+    let set = plan.set;
+    stay.union(set)
+}
+
+// The effects of the round: exits, then the transitions, then entries.
+pub fn plan_effects(
+    chart: &[u64],
+    plan: Plan,
+    chosen: &[u16],
+    trace: &mut [u32],
+    joins: &mut [u32],
+    tally: Tally,
+) -> Tally
+    requires { ⌜ PlanReady (now chart) plan × Taken (transitionCount (now chart)) (now chosen) × Small tally ⌝ }
+    ensures { λ s. ⌜ Wrote (places (now (trace .entry)) (now (joins .entry))) (places (now (trace .exit)) (now (joins .exit))) tally s (planEffects (chartOf (now (chart .entry))) plan (now (chosen .entry))) ⌝ }
+{
+    let conf = plan.conf;
+    let out = plan.out;
+    let stay = plan.stay;
+    let set = plan.set;
+    let by_default = plan.by_default;
+    let fallen = plan.fallen;
+    let left = exit_effects(chart, conf, out, trace, joins, tally);
+    let taken = transition_effects(chart, stay, chosen, trace, joins, left);
+    entry_effects(chart, stay, set, by_default, fallen, trace, joins, taken)
+}
+
+pub fn first_effects(
+    chart: &[u64],
+    e: Entered,
+    trace: &mut [u32],
+    joins: &mut [u32],
+    tally: Tally,
+) -> Tally
+    requires { ⌜ Ready (now chart) × Within (rowCount (now chart)) (rowsOf (e .set)) × Small tally ⌝ }
+    ensures { λ s. ⌜ Wrote (places (now (trace .entry)) (now (joins .entry))) (places (now (trace .exit)) (now (joins .exit))) tally s (entering (chartOf (now (chart .entry))) [] (enteredAs e) []) ⌝ }
+{
+    let set = e.set;
+    let by_default = e.by_default;
+    entry_effects(
+        chart,
+        RowSet::empty(),
+        set,
+        by_default,
+        RowSet::empty(),
+        trace,
+        joins,
+        tally,
+    )
+}
+
+// "A closing session's next round exits all that is active in exit order".
+pub fn closing_effects(
+    chart: &[u64],
+    conf: RowSet,
+    trace: &mut [u32],
+    joins: &mut [u32],
+    tally: Tally,
+) -> Tally
+    requires { ⌜ Ready (now chart) × Within (rowCount (now chart)) (rowsOf conf) × Small tally ⌝ }
+    ensures { λ s. ⌜ Wrote (places (now (trace .entry)) (now (joins .entry))) (places (now (trace .exit)) (now (joins .exit))) tally s (exiting (chartOf (now (chart .entry))) (rowsOf conf) (rowsOf conf)) ⌝ }
+{
+    exit_effects(chart, conf, conf, trace, joins, tally)
+}
