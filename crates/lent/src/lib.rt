@@ -15,6 +15,7 @@ ghost use Rattle.lent.specs.Lent.{stateIn, numbersOf, refusedIn};
 use definition::Answer;
 use definition::Status;
 use rowset::RowSet;
+use state::ENDED;
 use state::State;
 
 // What a start hands back; count entries of the trace are its own.
@@ -57,8 +58,6 @@ const INNER: usize = 1028;
 const OUTER: usize = 1029;
 
 const MODE: usize = 1030;
-
-const ENDED: u64 = 0;
 
 pub fn lengths_fit(numbers: usize, internal: usize, external: usize) -> bool
     ensures { λ r. ⌜ r ≡ lengthsFit numbers internal external ⌝ }

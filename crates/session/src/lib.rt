@@ -18,6 +18,9 @@ use definition::Answer;
 use definition::Status;
 use numbers::Row;
 use rowset::RowSet;
+use state::CLOSING;
+use state::ENDED;
+use state::RUNNING;
 use state::State;
 
 #[repr(C)]
@@ -53,12 +56,6 @@ pub struct Ran {
 }
 
 // ---- "a session is not well formed": the test behind refusal 9
-
-const ENDED: u64 = 0;
-
-const RUNNING: u64 = 1;
-
-const CLOSING: u64 = 2;
 
 const SET_WIDTH: usize = 4;
 
