@@ -18,8 +18,8 @@ use Rattle.laws.specs.Bools.{no, both-ways, bool-case, or-elim, and4, and7, and
 use Rattle.laws.specs.Lists.{same-eq, same-self, empty-list}
 use Rattle.laws.specs.Loops.{each-below, below-each}
 use Rattle.laws.specs.Maps.{map-length, map-at}
-use Rattle.theory.specs.Tree.{Tree}
-use Rattle.chart.specs.History.{storedAt}
+use Rattle.accepted.specs.Tree.{Tree}
+use Rattle.paths.specs.History.{storedAt}
 use Rattle.queue.specs.Queues.{queueBytes, queueOf, isQueue, names-length}
 use Rattle.session.specs.declared.Session.{Session}
 use Rattle.state.specs.State.{historyWords, rowsAt, modeFrom}

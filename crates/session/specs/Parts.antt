@@ -25,7 +25,7 @@ use Rattle.rowset.specs.Member.{rowsOf}
 use Rattle.rowset.specs.Rows.{rows-empty}
 use Rattle.chart.specs.Ready.{setAt, Ready}
 use Rattle.legality.specs.Rows.{RowsReady, rows-ready}
-use Rattle.chart.specs.History.{storedAt}
+use Rattle.paths.specs.History.{storedAt}
 use Rattle.queue.specs.Queues.{isQueue}
 use Rattle.state.specs.State.{rowsAt}
 use Rattle.session.specs.Sessions.{session, isSession}

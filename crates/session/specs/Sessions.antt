@@ -18,7 +18,7 @@ use Rattle.definition.specs.Answers.{modeNo, answerNo}
 use Rattle.follower.specs.Follower.{Follower, postAnswer, post, startOr, start, run}
 use Rattle.follower.specs.Legal.{isWellFormed}
 use Rattle.definition.specs.Compiled.{words, ownNumbers, isCompiled}
-use Rattle.chart.specs.History.{storedAt}
+use Rattle.paths.specs.History.{storedAt}
 use Rattle.queue.specs.Queues.{queueBytes, queueOf}
 use Rattle.state.specs.State.{historyWords, rowsAt, modeFrom}
 use Rattle.session.specs.declared.Session.{Session}

@@ -16,7 +16,7 @@ use Rattle.laws.specs.Maps.{map-reads}
 use Rattle.accepted.specs.Tree.{Tree}
 use Rattle.accepted.specs.Sound.{Sound}
 use Rattle.theory.specs.WellFormed.{well-formed-exact}
-use Rattle.chart.specs.History.{storedAt}
+use Rattle.paths.specs.History.{storedAt}
 use Rattle.queue.specs.Queues.{queue-none}
 use Rattle.session.specs.declared.Session.{Session}
 use Rattle.state.specs.State.{historyWords}
