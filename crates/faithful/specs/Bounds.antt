@@ -17,6 +17,7 @@ use Rattle.theory.specs.Runs.{run-more}
 use Rattle.chart.specs.Own.{own-chart, compiled-ready}
 use Rattle.room.specs.Rounds.{waiting, run-spent, run-bounded, well-formed-closes, well-formed-waiting}
 use Rattle.room.specs.Room.{roomFor, roomOf}
+use Rattle.room.specs.Most as most
 use Rattle.room.specs.Enough.{start-enough, run-enough, first-round-enough}
 use Rattle.session.specs.declared.Session.{Session}
 use Rattle.session.specs.declared.Ran.{Ran}
@@ -34,6 +35,10 @@ module _ (chart names : List ℕ) (k : isCompiled chart names ≡ true) where
   room-is : roomOf chart names ≡ roomFor (chartOf (ownNumbers chart))
   unfolding roomOf
   room-is = rw k
+
+-- places of trace that suffice for every chart
+pub room-most : (chart names : List ℕ) → roomOf chart names ≤ 12288
+room-most chart names = most.room-most chart names
 
 -- ---- runs
 

@@ -4,3 +4,4 @@ pub mod Room
 pub mod Entries
 pub mod Enough
 pub mod Adding
+pub mod Most
