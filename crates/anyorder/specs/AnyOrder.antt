@@ -30,7 +30,7 @@ use Rattle.theory.specs.Shown.{takenIn, taken-effects}
 use Rattle.theory.specs.Runs.{round-cases}
 use Rattle.theory.specs.Round.{selected-taken, Taken}
 use Rattle.anyorder.specs.EntryUnion.{Part, Joins, entry-union}
-use Rattle.anyorder.specs.OneByOne.{Place, applyOne, oneByOne, Reordered, AnyOrder}
+use Rattle.anyorder.specs.OneByOne.{Snapshot, applyOne, oneByOne, Reordered, AnyOrder}
 use Rattle.anyorder.specs.OneMore.{together, mem-append, apply-more}
 
 -- ---- passes and whole lists
@@ -114,7 +114,7 @@ module _ (c : Chart) (g : Sound c) (conf : List ℕ) (ord : conf ≡ those (c .r
   unfolding fold append
   go done [] tk n f = rw (append-nil done)
   go done (x ∷ xs) tk n f =
-      ap (λ (p : Place). fold (applyOne c kept) p xs) (apply-more c g conf ord lc (storedIn history) ok done x (f x (mem-head x xs)) first) ∙
+      ap (λ (p : Snapshot). fold (applyOne c kept) p xs) (apply-more c g conf ord lc (storedIn history) ok done x (f x (mem-head x xs)) first) ∙
       go (append done x) xs (rw (append-assoc done (x ∷ []) xs) tk) (n .1) later ∙ ap (together c conf (storedIn history)) (append-assoc done (x ∷ []) xs)
     where
       into : (u : ℕ) → mem u (append done x) ≡ true → mem u (done ++ (x ∷ xs)) ≡ true
@@ -136,7 +136,7 @@ module _ (c : Chart) (g : Sound c) (conf : List ℕ) (ord : conf ≡ those (c .r
       oneByOne c (λ t. domain c (storedIn history) ((c .transition) t)) (record { configuration = conf; history = history }) us ≡ together c conf (storedIn history) ts
   unfolding oneByOne mem
   order us ts tk r =
-      ap (λ (p : Place). fold (applyOne c kept) p us) (sym begin) ∙ go [] us mine (r .once) (λ x m. refl) ∙ same-together c conf (storedIn history) us ts (r .same)
+      ap (λ (p : Snapshot). fold (applyOne c kept) p us) (sym begin) ∙ go [] us mine (r .once) (λ x m. refl) ∙ same-together c conf (storedIn history) us ts (r .same)
     where
       mine : Taken c conf (storedIn history) us
       mine = record { inside = λ u m. tk .inside u (sym (r .same u) ∙ m); active = λ u m. tk .active u (sym (r .same u) ∙ m); disjoint = λ u v m k. tk .disjoint u v (sym (r .same u) ∙ m) (sym (r .same v) ∙ k) }

@@ -12,12 +12,12 @@ use Rattle.follower.specs.Follower.{Follower}
 use Rattle.laws.specs.Sets.{NoTwice}
 
 -- "the configuration and stored history"
-pub record Place : Type 0 where
+pub record Snapshot : Type 0 where
   pub configuration : List ℕ
   pub history : List (List ℕ)
 
-abbrev pub placeOf : Follower → Place
-placeOf s = record { configuration = s .configuration; history = s .history }
+abbrev pub snapshotOf : Follower → Snapshot
+snapshotOf s = record { configuration = s .configuration; history = s .history }
 
 -- "each kept with the domain it was selected with": "Domain and exit set use the history stored before the round."
 abbrev pub keptDomain : Chart → Follower → ℕ → ℕ
@@ -33,16 +33,16 @@ unfoldable pub entersUnder : Chart → History → ℕ → ℕ → List ℕ
 entersUnder c after d t = (entrySet c (defaultTargets c) (pathsBelow c d (effectiveTargets c after ((c .transition) t)))) .set
 
 -- exits first: "Before any is removed, each exited owner of a history stores"
-unfoldable pub applied : Chart → List ℕ → History → ℕ → ℕ → List ℕ → Place
+unfoldable pub applied : Chart → List ℕ → History → ℕ → ℕ → List ℕ → Snapshot
 applied c conf hist d t out =
     record { configuration = union (minus conf out) (entersUnder c (storedIn (storing c conf hist out)) d t); history = storing c conf hist out }
 
 -- "their exits and entries applied": of one, where those before it led
-unfoldable pub applyOne : Chart → (ℕ → ℕ) → Place → ℕ → Place
+unfoldable pub applyOne : Chart → (ℕ → ℕ) → Snapshot → ℕ → Snapshot
 applyOne c d p t = applied c (p .configuration) (storedIn (p .history)) (d t) t (exitsUnder c (p .configuration) (d t) t)
 
 -- "one by one"
-unfoldable pub oneByOne : Chart → (ℕ → ℕ) → Place → List ℕ → Place
+unfoldable pub oneByOne : Chart → (ℕ → ℕ) → Snapshot → List ℕ → Snapshot
 oneByOne c d p ts = fold (applyOne c d) p ts
 
 -- "in any order": each once, and the same ones
@@ -52,4 +52,4 @@ pub record Reordered (us ts : List ℕ) : Type 0 where
 
 -- "end in the configuration and stored history that the round gives": ts are the transitions taken in a round from s to next
 pub record AnyOrder (c : Chart) (s next : Follower) (ts : List ℕ) : Type 0 where
-  pub ends : (us : List ℕ) → Reordered us ts → oneByOne c (keptDomain c s) (placeOf s) us ≡ placeOf next
+  pub ends : (us : List ℕ) → Reordered us ts → oneByOne c (keptDomain c s) (snapshotOf s) us ≡ snapshotOf next

@@ -26,10 +26,10 @@ use Rattle.theory.specs.Domain.{dom, target-stand, effective-of, effective-in}
 use Rattle.theory.specs.Round.{Taken, Moves, exits-of, domains-apart, after-at, next-ascends}
 use Rattle.theory.specs.Storing.{isStoredBy, stored-mem, mem-stored}
 use Rattle.anyorder.specs.EntryUnion.{Part, Joins, entry-union}
-use Rattle.anyorder.specs.OneByOne.{Place, exitsUnder, entersUnder, applied, applyOne}
+use Rattle.anyorder.specs.OneByOne.{Snapshot, exitsUnder, entersUnder, applied, applyOne}
 
 -- what the transitions give together, in one round
-unfoldable pub together : Chart → List ℕ → History → List ℕ → Place
+unfoldable pub together : Chart → List ℕ → History → List ℕ → Snapshot
 together c conf hist ts = record { configuration = configurationAfter c conf hist ts; history = historyAfter c conf hist ts }
 
 -- ---- lists
