@@ -11,7 +11,7 @@ from pathlib import Path
 
 
 def is_counted(line):
-    return bool(line.strip()) and not re.match(r"\s*(--|//|/\*|\*|((ghost|unfoldable|pub) )*use )", line)
+    return bool(line.strip()) and not re.match(r"\s*(--|//|((ghost|unfoldable|pub) )*use )", line)
 
 
 def margin(line):
