@@ -208,7 +208,27 @@ static void enough_room(void)
     }
 }
 
-/* Eventless transitions that go round, which the rules do not refuse: a run ends all the same, after at most room + 64 rounds. */
+/* room + 64, and the most that can be asked for where that is more. */
+static void most_rounds(void)
+{
+    CHECK(auttervil_most_rounds(0) == 64 && auttervil_most_rounds(1) == 65 && auttervil_most_rounds(AUTTERVIL_MOST_ROOM) == 12352);
+    CHECK(auttervil_most_rounds(UINT32_MAX - 65) == UINT32_MAX - 1 && auttervil_most_rounds(UINT32_MAX - 64) == UINT32_MAX);
+    CHECK(auttervil_most_rounds(UINT32_MAX - 63) == UINT32_MAX && auttervil_most_rounds(UINT32_MAX) == UINT32_MAX && auttervil_most_rounds(SIZE_MAX) == UINT32_MAX);
+}
+
+/* Names that wait and select nothing: rounds without any entry, one for each. */
+static void rounds_without_room(void)
+{
+    auttervil_ran ran;
+    int i;
+    start(&a);
+    for (i = 0; i < AUTTERVIL_MOST_QUEUED; i++)
+        CHECK(auttervil_post_text(&a.session, &a.chart, "nothing") == AUTTERVIL_DONE);
+    ran = auttervil_run(&a.session, &a.chart, UINT32_MAX, NULL, 0);
+    CHECK(ran.status == AUTTERVIL_IDLE && ran.rounds == AUTTERVIL_MOST_QUEUED && ran.rounds <= auttervil_most_rounds(0));
+}
+
+/* Eventless transitions that go round, which the rules do not refuse: a run ends all the same, after at most auttervil_most_rounds(). */
 static void endless_loop(void)
 {
     static lent loop;
@@ -224,7 +244,7 @@ static void endless_loop(void)
     start(&loop);
     for (room = 0; room <= COUNT(loop.trace); room++) {
         ran = auttervil_run(&loop.session, &loop.chart, UINT32_MAX, loop.trace, room);
-        CHECK(ran.status == AUTTERVIL_NO_ROOM && ran.rounds == room / 3 && ran.rounds <= room + 64);
+        CHECK(ran.status == AUTTERVIL_NO_ROOM && ran.rounds == room / 3 && ran.rounds <= auttervil_most_rounds(room));
     }
 }
 
@@ -356,6 +376,8 @@ int main(void)
     small_rooms();
     unwritten();
     enough_room();
+    most_rounds();
+    rounds_without_room();
     endless_loop();
     versions();
     fingerprints();
