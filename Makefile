@@ -5,7 +5,8 @@
 # make test-c  the tests in C alone
 # make chart-a   plays chart A by the second program and prints its trace in words
 # make bench   how long the library takes, beside the second program, an ordinary engine and where it is installed Qt 6 SCXML (docs/bench.md)
-# make bench-host   an event as a host sends it, alone; bench-qt installs Qt 6 SCXML first (Debian), bench-instructions counts instructions
+# make bench-host   an event as a host sends it, alone, and which wanted ratios are missed (OPTIONS=--strict: fails then); bench-qt installs Qt 6 SCXML first
+#                   (Debian), bench-instructions counts instructions, bench-worst measures the dearest calls by rows, bench-matching prints the table of matching alone
 # make examples   writes the computed examples anew (crates/examples)
 # make cases   writes what the programs over the crates read and print anew
 # make expected   writes what the life cycle prints anew
@@ -22,7 +23,7 @@ VERSION = $(shell sed -n 's/^\#define AUTTERVIL_VERSION "\(.*\)"/\1/p' include/a
 LIFECYCLE = examples/lifecycle
 
 .DEFAULT_GOAL := lib
-.PHONY: test demo lib bench bench-host bench-qt bench-instructions agree examples cases second linked clean lifecycle picture chart-a test-c expected absolute install uninstall
+.PHONY: test demo lib bench bench-matching bench-host bench-worst bench-qt bench-instructions agree examples cases second linked clean lifecycle picture chart-a test-c expected absolute install uninstall
 
 test:
 	@bash tests/run
@@ -83,15 +84,17 @@ build/libmatch_bench.a: crates.txt $(shell find crates/match_bench crates/onepas
 	@mkdir -p build
 	@cp target/staticlib/libmatch_bench.a build/libmatch_bench.a
 
-bench: lib build/libmatch_bench.a
+bench-matching: lib build/libmatch_bench.a
 	@AUTTERVIL_LIBRARY=$(CURDIR)/build $(CARGO) $(BENCH) --bin matches
 	@build/bench/release/matches
+
+bench: bench-matching
 	@$(CARGO) --profile measured $(LINKED) --bin bench
 	@build/linked/measured/bench
 	@AUTTERVIL_LIBRARY=$(CURDIR)/build $(CARGO) $(BENCH) --bin rounds
 	@mkdir -p build/rounds
 	@build/bench/release/rounds build/rounds
-	@$(MAKE) --no-print-directory bench-host
+	@$(MAKE) --no-print-directory bench-host bench-worst
 
 # An event as a host sends it: the library, the engine of bench/, a switch, and Qt 6 SCXML if pkg-config knows it.
 HOST = build/host
@@ -99,12 +102,20 @@ QT = $(shell pkg-config --exists Qt6Scxml 2> /dev/null && echo Qt6Scxml)
 QT_CFLAGS = $(if $(QT),-DWITH_QT $(shell pkg-config --cflags $(QT)))
 QT_LIBS = $(if $(QT),$(shell pkg-config --libs $(QT)))
 
-$(HOST)/host: $(LIB) include/auttervil.h $(wildcard bench/host/*.?pp) $(shell find bench/src bench/host/engine -name '*.rs')
+$(HOST)/host: $(LIB) include/auttervil.h bench/host/host.cpp $(wildcard bench/host/*.hpp) $(shell find bench/src bench/host/engine -name '*.rs')
 	@$(CARGO) --release --manifest-path bench/host/engine/Cargo.toml --target-dir $(HOST)/engine
 	@$(CXX) -std=c++17 -O2 -Wall -Wextra -fPIC $(QT_CFLAGS) -Iinclude bench/host/host.cpp -o $@ $(QT_LIBS) $(HOST)/engine/release/libengine.a $(LIB)
 
 bench-host: $(HOST)/host
-	@$(HOST)/host
+	@$(HOST)/host $(OPTIONS)
+
+# The dearest calls that we know of, by rows.
+$(HOST)/worst: $(LIB) include/auttervil.h bench/host/worst.cpp $(wildcard bench/host/*.hpp)
+	@mkdir -p $(HOST)
+	@$(CXX) -std=c++17 -O2 -Wall -Wextra -Iinclude bench/host/worst.cpp -o $@ $(LIB)
+
+bench-worst: $(HOST)/worst
+	@$(HOST)/worst
 
 # Built anew, so that it has Qt in it.
 bench-qt:
@@ -112,8 +123,8 @@ bench-qt:
 	@rm -f $(HOST)/host
 	@$(MAKE) --no-print-directory bench-host
 
-bench-instructions: $(HOST)/host
-	@bench/host/instructions $(HOST)/host
+bench-instructions: $(HOST)/host $(HOST)/worst
+	@bench/host/instructions $(HOST)/host $(HOST)/worst
 
 agree: lib
 	@AUTTERVIL_LIBRARY=$(CURDIR)/build $(CARGO) $(BENCH) --bin agree

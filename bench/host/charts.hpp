@@ -17,8 +17,9 @@ struct Row {
     std::string parent, id;
 };
 
+// The descriptors stand in one text; without a target there is none, and an event that is raised is all that the block does.
 struct Transition {
-    std::string source, event, target;
+    std::string source, event, target, raised = {};
 };
 
 // The first row is the first child of the root; a parent without an id is the root.
@@ -39,29 +40,40 @@ inline Description chart_a()
              {"S22", "e2", "S2Final"}, {"someOtherState", "again", "p"}}};
 }
 
-// A parallel of so many regions with two states each: on "all" every region changes its state, on "one" the first alone. The rows left over stand in a
+// How the ids and events of such a chart are spelt; a number follows those of which there are several.
+struct Words {
+    const char *parallel, *region, *first, *second, *all, *one, *resting, *child;
+};
+
+const Words SHORT = {"p", "r", "a", "b", "all", "one", "resting", "x"};
+// About 20 bytes each, which begin alike, as those of real charts do.
+const Words LONG = {"container.supervisor", "health.check.region", "health.check.passed", "health.check.failed",
+                    "health.check.all.due", "health.check.one.due", "health.check.resting", "health.check.unused"};
+
+// A parallel of so many regions with two states each: on one event every region changes its state, on another the first alone. The rows left over stand in a
 // state that is never active (as in src/charts.rs).
-inline Description regions(size_t rows, size_t count)
+inline Description regions(size_t rows, size_t count, const Words &words)
 {
     Description d;
-    d.rows.push_back({AUTTERVIL_KIND_PARALLEL, "", "p"});
+    d.rows.push_back({AUTTERVIL_KIND_PARALLEL, "", words.parallel});
     for (size_t i = 0; i < count; i++) {
-        const std::string number = std::to_string(i), region = "r" + number, a = "a" + number, b = "b" + number;
-        d.rows.push_back({AUTTERVIL_KIND_STATE, "p", region});
+        const std::string number = std::to_string(i), region = words.region + number, a = words.first + number, b = words.second + number;
+        d.rows.push_back({AUTTERVIL_KIND_STATE, words.parallel, region});
         d.rows.push_back({AUTTERVIL_KIND_STATE, region, a});
         d.rows.push_back({AUTTERVIL_KIND_STATE, region, b});
-        for (const char *event : {"all", "one"})
-            if (i == 0 || event[0] == 'a') {
-                d.transitions.push_back({a, event, b});
-                d.transitions.push_back({b, event, a});
-            }
+        d.transitions.push_back({a, words.all, b});
+        d.transitions.push_back({b, words.all, a});
+        if (i == 0) {
+            d.transitions.push_back({a, words.one, b});
+            d.transitions.push_back({b, words.one, a});
+        }
     }
     if (d.row_count() < rows)
-        d.rows.push_back({AUTTERVIL_KIND_STATE, "", "resting"});
+        d.rows.push_back({AUTTERVIL_KIND_STATE, "", words.resting});
     for (size_t i = 1; d.row_count() < rows; i++) {
-        const std::string id = "x" + std::to_string(i);
-        d.rows.push_back({AUTTERVIL_KIND_STATE, "resting", id});
-        d.transitions.push_back({id, "all", "x1"});
+        const std::string id = words.child + std::to_string(i);
+        d.rows.push_back({AUTTERVIL_KIND_STATE, words.resting, id});
+        d.transitions.push_back({id, words.all, words.child + std::string("1")});
     }
     return d;
 }
@@ -99,15 +111,18 @@ class Compiled
 public:
     explicit Compiled(const Description &d)
     {
-        const size_t rows = d.row_count(), transitions = d.transitions.size(), most_names = rows + transitions;
-        std::vector<uint64_t> cells(AUTTERVIL_NUMBERS_CELLS(rows, transitions, transitions, transitions, 1));
-        std::vector<uint8_t> bytes(AUTTERVIL_NAMES_BYTES(most_names));
+        const size_t rows = d.row_count(), transitions = d.transitions.size(), descriptors = AUTTERVIL_DESCRIPTORS_EACH * transitions;
+        std::vector<uint64_t> cells(AUTTERVIL_NUMBERS_CELLS(rows, transitions, transitions, descriptors, transitions));
+        std::vector<uint8_t> bytes(AUTTERVIL_NAMES_BYTES(AUTTERVIL_MOST_NAMES));
         auttervil_builder b;
-        auttervil_begin(&b, {rows, transitions, transitions, transitions, 1, most_names}, cells.data(), cells.size(), bytes.data(), bytes.size());
+        auttervil_begin(&b, {rows, transitions, transitions, descriptors, transitions, AUTTERVIL_MOST_NAMES}, cells.data(), cells.size(), bytes.data(), bytes.size());
         for (const Row &row : d.rows)
             auttervil_add_row(&b, row.kind, row.parent.c_str(), row.id.c_str());
-        for (const Transition &t : d.transitions)
+        for (const Transition &t : d.transitions) {
             auttervil_add_transition(&b, t.source.c_str(), t.event.c_str(), t.target.c_str());
+            if (!t.raised.empty())
+                auttervil_add_raise(&b, t.raised.c_str());
+        }
         auttervil_tables tables;
         if (auttervil_finish(&b, &tables) != AUTTERVIL_FAULT_NONE)
             fail(auttervil_strfault(b.fault));

@@ -177,7 +177,7 @@ private:
 class SwitchRegions : public Contender
 {
 public:
-    explicit SwitchRegions(size_t count) : second(count) {}
+    SwitchRegions(size_t count, const Words &spelt) : words(spelt), second(count) {}
     std::string name() const override { return "switch"; }
 
     void play(const Events &events, size_t count) override
@@ -189,19 +189,20 @@ public:
     {
         States found;
         for (size_t i = 0; i < second.size(); i++)
-            found.insert((second[i] ? "b" : "a") + std::to_string(i));
+            found.insert((second[i] ? words.second : words.first) + std::to_string(i));
         return found;
     }
 
 private:
     void take(const char *event)
     {
-        if (std::strcmp(event, "all") == 0)
+        if (std::strcmp(event, words.all) == 0)
             for (unsigned char &region : second)
                 region ^= 1;
-        else if (std::strcmp(event, "one") == 0)
+        else if (std::strcmp(event, words.one) == 0)
             second[0] ^= 1;
     }
 
+    const Words words;
     std::vector<unsigned char> second;
 };

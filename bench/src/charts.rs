@@ -63,43 +63,85 @@ impl Moving {
     }
 }
 
+/// How the ids and events of a chart are spelt; a number follows those of which there are several.
+#[derive(Clone, Copy)]
+pub struct Words {
+    pub about: &'static str,
+    parallel: &'static str,
+    region: &'static str,
+    first: &'static str,
+    second: &'static str,
+    all: &'static str,
+    one: &'static str,
+    resting: &'static str,
+    child: &'static str,
+}
+
+pub const SHORT: Words = Words {
+    about: "",
+    parallel: "p",
+    region: "r",
+    first: "a",
+    second: "b",
+    all: "all",
+    one: "one",
+    resting: "resting",
+    child: "x",
+};
+
+/// About 20 bytes each, which begin alike, as those of real charts do.
+pub const LONG: Words = Words {
+    about: ", names of 20 bytes",
+    parallel: "container.supervisor",
+    region: "health.check.region",
+    first: "health.check.passed",
+    second: "health.check.failed",
+    all: "health.check.all.due",
+    one: "health.check.one.due",
+    resting: "health.check.resting",
+    child: "health.check.unused",
+};
+
 /// A parallel with so many regions of two states each; the rows that are left over stand in a
-/// state that is never active. On "all" every region changes its state, on "one" the first alone,
-/// and the first raises the same event again.
-pub fn regions(rows: usize, regions: usize, moving: Moving) -> Case {
+/// state that is never active. On one event every region changes its state, on another the first
+/// alone, and the first raises the same event again.
+pub fn regions(rows: usize, regions: usize, moving: Moving, words: Words) -> Case {
+    let Words { all, one, .. } = words;
     let mut b = Builder::new();
-    b.parallel("", "p");
+    b.parallel("", words.parallel);
     for region in 0..regions {
-        let (id, first, second) = (format!("r{region}"), format!("a{region}"), format!("b{region}"));
-        b.state("p", &id).state(&id, &first).state(&id, &second);
+        let [id, first, second] =
+            [words.region, words.first, words.second].map(|word| format!("{word}{region}"));
+        b.state(words.parallel, &id).state(&id, &first).state(&id, &second);
         for (from, to) in [(&first, &second), (&second, &first)] {
-            b.on(from, "all", to);
+            b.on(from, all, to);
             if region == 0 {
-                b.doing(&[Do::Raise("all")]).on(from, "one", to).doing(&[Do::Raise("one")]);
+                b.doing(&[Do::Raise(all)]).on(from, one, to).doing(&[Do::Raise(one)]);
             }
         }
     }
-    add_resting(&mut b, rows - 2 - 3 * regions);
+    add_resting(&mut b, rows - 2 - 3 * regions, words);
     let event = match moving {
-        Moving::All => "all",
-        Moving::One => "one",
+        Moving::All => all,
+        Moving::One => one,
     };
-    let about = format!("{rows} rows, {regions} regions, {}", moving.text());
+    let about = format!("{rows} rows, {regions} regions{}, {}", words.about, moving.text());
     let case = Case::new(about, event, &b.chart(), regions, 1 + 2 * regions);
     assert_eq!(case.rows, rows);
     case
 }
 
 /// So many rows that are never active: a state and its children, each with a transition.
-fn add_resting(b: &mut Builder, rows: usize) {
+fn add_resting(b: &mut Builder, rows: usize, words: Words) {
     if rows == 0 {
         return;
     }
-    b.state("", "resting");
+    let id = |child: usize| format!("{}{child}", words.child);
+    b.state("", words.resting);
     for child in 1..rows {
-        b.state("resting", &format!("x{child}"));
+        b.state(words.resting, &id(child));
     }
     for child in 1..rows {
-        b.on(&format!("x{child}"), "all", "x1");
+        b.on(&id(child), words.all, &id(1));
     }
 }

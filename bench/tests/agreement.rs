@@ -1,7 +1,7 @@
 //! The engine answers as the second program does.
 
 use bench::agreement::try_seed;
-use bench::charts::{chart_a, regions, Case, Moving};
+use bench::charts::{chart_a, regions, Case, Moving, LONG, SHORT};
 use bench::contenders::{Engine, Follower};
 use bench::measure::Bench;
 use second::coverage::Coverage;
@@ -20,8 +20,15 @@ fn generated_charts_agree() {
 /// A measurement begins with both doing the same, or fails.
 #[test]
 fn measured_charts_agree() {
-    let great = |moving| regions(62, 20, moving);
-    let cases: [Case; 4] = [chart_a(), great(Moving::All), great(Moving::One), regions(64, 1, Moving::One)];
+    let great = |moving, words| regions(62, 20, moving, words);
+    let cases: [Case; 6] = [
+        chart_a(),
+        great(Moving::All, SHORT),
+        great(Moving::One, SHORT),
+        great(Moving::All, LONG),
+        great(Moving::One, LONG),
+        regions(256, 1, Moving::One, SHORT),
+    ];
     for case in cases {
         Bench::new(&Follower, &Engine, 70, 1).rounds(&case);
     }

@@ -1,7 +1,7 @@
 //! rounds [folder] [rounds] [repetitions]: measures and prints tables in Markdown; writes the
 //! points as rounds.csv and a plot as rounds.svg into the folder.
 
-use bench::charts::{chart_a, regions, Case, Moving};
+use bench::charts::{chart_a, regions, Case, Moving, LONG, SHORT};
 use bench::contenders::{measured, Calls, Engine};
 use bench::measure::{Bench, Point};
 use bench::plot::{svg, Line, Panel};
@@ -18,7 +18,7 @@ const CALLS: u32 = if cfg!(feature = "linked") { 1_000 } else { 100 };
 const GREAT_ROWS: usize = 62;
 const GREAT_REGIONS: usize = 20;
 const REGIONS: [usize; 4] = [1, 5, 10, 20];
-const ROWS: [usize; 4] = [8, 16, 32, 64];
+const ROWS: [usize; 6] = [8, 16, 32, 64, 128, 256];
 
 fn main() -> io::Result<()> {
     let arguments: Vec<String> = std::env::args().skip(1).collect();
@@ -86,9 +86,10 @@ impl Report<'_> {
             self.bench.rounds, self.bench.repetitions, self.first
         );
         self.heading(&title, &["chart", "entries a round"]);
-        let all = regions(GREAT_ROWS, GREAT_REGIONS, Moving::All);
-        let one = regions(GREAT_ROWS, GREAT_REGIONS, Moving::One);
-        for case in [chart_a(), all, one] {
+        let great = |moving, words| regions(GREAT_ROWS, GREAT_REGIONS, moving, words);
+        let [all, one] = Moving::BOTH.map(|moving| great(moving, SHORT));
+        let [all_long, one_long] = Moving::BOTH.map(|moving| great(moving, LONG));
+        for case in [chart_a(), all, one, all_long, one_long] {
             self.measure("rounds", &case, std::slice::from_ref(&case.about));
         }
     }
@@ -100,7 +101,7 @@ impl Report<'_> {
         for moving in Moving::BOTH {
             let mut found = Vec::new();
             for count in REGIONS {
-                let case = regions(GREAT_ROWS, count, moving);
+                let case = regions(GREAT_ROWS, count, moving, SHORT);
                 let cells = [moving.text().to_string(), count.to_string(), case.active.to_string()];
                 let point = self.measure("active states", &case, &cells);
                 found.push((case.active as f64, point));
@@ -118,7 +119,7 @@ impl Report<'_> {
         self.heading("A round and the rows; one region, which moves.", &["rows", "entries a round"]);
         let mut found = Vec::new();
         for rows in ROWS {
-            let case = regions(rows, 1, Moving::One);
+            let case = regions(rows, 1, Moving::One, SHORT);
             let point = self.measure("rows", &case, &[rows.to_string()]);
             found.push((rows as f64, point));
         }
@@ -132,7 +133,8 @@ impl Report<'_> {
     /// Runs of no rounds: both check the chart and the session at every call.
     fn calls(&mut self) {
         self.heading("A call before its rounds: a run of 0, with all checks.", &["chart", "rows"]);
-        for case in [chart_a(), regions(GREAT_ROWS, GREAT_REGIONS, Moving::One)] {
+        let great = |words| regions(GREAT_ROWS, GREAT_REGIONS, Moving::One, words);
+        for case in [chart_a(), great(SHORT), great(LONG)] {
             let point = self.bench.calls(&case, CALLS);
             let cells = [case.about.replace(", one moving", ""), case.rows.to_string()];
             self.line("calls", &case, &cells, point, 0);

@@ -1,5 +1,5 @@
-//! bench: how long the library and the second program take to compile and to check charts of 8, 16,
-//! 32 and 64 rows, for a post and for the test of a session, in one run. Prints the tables of
+//! bench: how long the library and the second program take to compile and to check charts of 8 to
+//! 256 rows, for a post and for the test of a session, in one run. Prints the tables of
 //! docs/bench.md.
 
 use linked::library::{self, Compiled};
@@ -14,7 +14,7 @@ use second::session::{Session, ACCEPTED, BAD_SESSION};
 use std::hint::black_box;
 use std::time::{Duration, Instant};
 
-const SIZES: [usize; 4] = [8, 16, 32, 64];
+const SIZES: [usize; 6] = [8, 16, 32, 64, 128, 256];
 /// The first seed of the charts of each size, and how many charts there are.
 const FIRST_SEED: u64 = 1;
 const CHARTS: usize = 50;
