@@ -25,7 +25,6 @@ use Rattle.laws.specs.Ways.{Way, eq-way, Below, below-way, below-trans, sibling
 use Rattle.accepted.specs.Tree.{low, root-kind, way-zero, has-child, under-below, under-plain, below-under, child-facts, mem-children}
 use Rattle.accepted.specs.Fork.{Legal, Forks, part-forks, list-forks, anchor-self, anchor-parent}
 use Rattle.theory.specs.Entry.{Ini, live-of}
-
 use Rattle.accepted.specs.Sound.{Sound, mem-descendants}
 
 -- ---- what rules 4 and 5 say of a row and a transition
