@@ -10,7 +10,7 @@ use borrow.Author.Tests.{lt-ltb, le-ltb, ltb-true}
 use Rattle.definition.specs.Rows.{all, mem, isEmpty, same, insert, union, fold}
 use Rattle.definition.specs.Chart.{Chart, kind, parent, isHistory}
 use Rattle.definition.specs.Tables.{rowCount, chartOf}
-use Rattle.definition.specs.Tree.{isChild, children, defaultTargets, anchors}
+use Rattle.definition.specs.Tree.{isChild, children, isDomainKind, defaultTargets, anchors}
 use Rattle.laws.specs.Bools.{and-left}
 use Rattle.laws.specs.Lists.{all-mem, empty-list}
 use Rattle.rowset.specs.declared.RowSet.{RowSet}
@@ -41,9 +41,9 @@ module _ (c : Chart) (sets : List ℕ) (i : ℕ) (own : RowSet) (is : own ≡ se
       go zero h z q = absurd (z refl)
       go (suc j) h z q = e ∙ rw (m, o, h, q)
 
-  pub aimed-same : (aim : RowSet) → rowsOf aim ≡ union [] (defaultTargets c i) → (b : Bool) → b ≡ same (rowsOf own) (rowsOf aim) → b ≡ isAimed c sets i
+  pub aimed-same : (b : Bool) → b ≡ same (rowsOf own) (union [] (defaultTargets c i)) → b ≡ isAimed c sets i
   unfolding isAimed
-  aimed-same aim f b e = e ∙ rw (here, f)
+  aimed-same b e = e ∙ rw here
 
   pub anchored-same : (set : RowSet) → rowsOf set ≡ anchors c i → (b : Bool) → b ≡ same (rowsOf own) (rowsOf set) → b ≡ isAnchored c sets i
   unfolding isAnchored
@@ -95,6 +95,10 @@ same-none : (xs : List ℕ) → isEmpty xs ≡ same xs []
 unfolding isEmpty same
 same-none [] = refl
 same-none (x ∷ xs) = refl
+
+pub aim-none : (c : Chart) (i : ℕ) (own : RowSet) (b : Bool) → isDomainKind c i ≡ false → b ≡ isEmpty (rowsOf own) → b ≡ same (rowsOf own) (union [] (defaultTargets c i))
+unfolding defaultTargets union fold
+aim-none c i own b d e = e ∙ rw d (same-none (rowsOf own))
 
 module _ (c : Chart) (below kids : List ℕ) (i : ℕ) (own set : RowSet) (is : own ≡ setAt below (i * 4)) (of : set ≡ setAt kids (i * 4)) where
   abbrev mine : rowsOf own ≡ rowsIn below i

@@ -394,6 +394,17 @@ fn all_down(numbers: &[u64], below: &[u64], kids: &[u64]) -> bool
     true
 }
 
+// Most rows have no default targets: for these no set is made.
+fn aim_holds(numbers: &[u64], own: RowSet, r: Row, kids: RowSet) -> bool
+    requires { ⌜ WithChildren (now numbers) (r .0) kids ⌝ }
+    ensures { λ b. ⌜ b ≡ same (rowsOf own) (union [] (defaultTargets (chartOf (now (numbers .entry))) (r .0))) ⌝ }
+{
+    if !has_initial(numbers, r, kids) {
+        return own.is_empty();
+    }
+    own.same(default_targets(numbers, r, kids))
+}
+
 // The default targets need no other set than the children.
 fn all_aimed(numbers: &[u64], kids: &[u64], targets: &[u64]) -> bool
     requires { ⌜ KidsKnown (now numbers) (now kids) × RowRoom (now numbers) (now targets) ⌝ }
@@ -404,7 +415,7 @@ fn all_aimed(numbers: &[u64], kids: &[u64], targets: &[u64]) -> bool
     while i < rows {
         let set = chart::set_at(kids, i * SET_WIDTH);
         let own = chart::set_at(targets, i * SET_WIDTH);
-        if !own.same(default_targets(numbers, Row(i as u8), set)) {
+        if !aim_holds(numbers, own, Row(i as u8), set) {
             return false;
         }
         i += 1;

@@ -4,6 +4,7 @@ use mathlib.Core.Bool.{Bool, true, false, _&&_}
 use mathlib.Core.List.{List, [], _∷_, _++_}
 use Prim.Native.Nat.{ℕ, _+_, _<_, _≤_}
 use native.Mathlib.Numerals.{add-one}
+use native.Mathlib.Omega.{arith}
 use lib.ListN.{length, getD, take, drop, take-append-drop}
 use lib.Seq.{take-suc, take-all}
 use Rattle.definition.specs.Rows.{all}
@@ -59,6 +60,16 @@ module _ (c : Chart) where
       (apart-start xs ys (and-right (all (isApart c x) (xs ++ ys)) _ h))
 
   module _ (xs : List ℕ) where
+    -- a list that was read, l
+    pub few-apart : (l : List ℕ) → l ≡ xs → length l < 2 → areApart c xs ≡ true
+    unfolding areApart all
+    few-apart l e h = rw (← e) (go l h)
+      where
+        go : (ys : List ℕ) → length ys < 2 → areApart c ys ≡ true
+        go [] h = refl
+        go (y ∷ []) h = refl
+        go (y ∷ z ∷ ys) h = absurd (omega arith)
+
     pub apart-begin : areApart c (take 0 xs) ≡ true
     unfolding areApart
     apart-begin = refl

@@ -4,3 +4,4 @@ pub mod Lists
 pub mod Nearest
 pub mod Transitions
 pub mod Verdict
+pub mod Initial

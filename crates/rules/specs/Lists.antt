@@ -9,15 +9,12 @@ use lib.ListN.{length}
 use borrow.Author.Tests.{eq-eqb, ne-eqb}
 use Rattle.definition.specs.declared.Action.{Action}
 use Rattle.definition.specs.Rows.{all, mem, from, isEmpty}
-use Rattle.definition.specs.Chart.{Chart, kind, isRoot, isState, isShallow, isHistory}
+use Rattle.definition.specs.Chart.{Chart, kind, isRoot, isShallow, isHistory}
 use Rattle.definition.specs.Tables.{kindAt, parentAt, listAt, listBlockAt, chartOf}
-use Rattle.definition.specs.Tree.{isDescendant, isChild, isCompound, isDomainKind, ancestors}
+use Rattle.definition.specs.Tree.{isDescendant, isChild, isDomainKind, ancestors}
 use Rattle.definition.specs.Rules.{areApart, initialFits, defaultFits, listFits, blocksFit, rowListsFit, isNoRoot, targetsFit, rule4}
 use Rattle.laws.specs.Lists.{empty-list}
-use Rattle.rowset.specs.declared.RowSet.{RowSet}
-use Rattle.rowset.specs.Member.{rowsOf}
 use Rattle.tables.specs.Parts.{BlockOf}
-use Rattle.rules3.specs.Parents.{Marks, marks-children}
 
 -- ---- empty lists and blocks
 
@@ -44,10 +41,6 @@ pub descendant-is : (c : Chart) (a i : ℕ) (xs : List ℕ) (h m : Bool) → h �
 unfolding isDescendant
 descendant-is c a i xs h m e f g = rw (e, f, g a)
 
-pub domain-is : (c : Chart) (s : RowSet) (i : ℕ) (b : Bool) → Marks (isChild c) (c .rows) s → b ≡ mem i (rowsOf s) → (isRoot (kind c i) || (isState (kind c i) && b)) ≡ isDomainKind c i
-unfolding isDomainKind isCompound
-domain-is c s i b m e = rw (e, marks-children c s m i)
-
 module _ (numbers : List ℕ) (i : ℕ) (l : List ℕ) (e : l ≡ listAt numbers i) where
   abbrev chart : Chart
   chart = chartOf numbers
@@ -63,9 +56,6 @@ module _ (numbers : List ℕ) (i : ℕ) (l : List ℕ) (e : l ≡ listAt numbers
       and-yes : (x : Bool) → (x && true) ≡ x
       and-yes true = refl
       and-yes false = refl
-
-  pub unused-is : (b : List ℕ) → BlockOf numbers (listBlockAt numbers i) b → (eqb (length l) 0 && eqb (length b) 0) ≡ (isEmpty (listAt numbers i) && isEmpty (listBlockAt numbers i))
-  unused-is b k = rw (block-none numbers (listBlockAt numbers i) b k, length-empty l, e)
 
   pub default-none : length l ≡ 0 → false ≡ defaultFits chart i
   unfolding defaultFits
@@ -97,13 +87,9 @@ module _ (c : Chart) (i : ℕ) where
   unfolding rowListsFit
   row-apart-no h = sym (rw h)
 
-  pub row-list-no : areApart c ((c .row) i .list) ≡ true → listFits c i ≡ false → false ≡ rowListsFit c i
+  pub row-rest : (t : Bool) → areApart c ((c .row) i .list) ≡ true → t ≡ (listFits c i && blocksFit c i) → t ≡ rowListsFit c i
   unfolding rowListsFit
-  row-list-no h k = sym (rw (h, k))
-
-  pub row-blocks : (t : Bool) → areApart c ((c .row) i .list) ≡ true → listFits c i ≡ true → t ≡ blocksFit c i → t ≡ rowListsFit c i
-  unfolding rowListsFit
-  row-blocks t h k e = e ∙ sym (rw (h, k))
+  row-rest t h e = e ∙ sym (rw h)
 
   pub targets-apart-no : areApart c ((c .transition) i .targets) ≡ false → false ≡ targetsFit c i
   unfolding targetsFit

@@ -1,15 +1,15 @@
 // Whether a lent chart is well formed: rules 4 and 5, and the verdict over all five.
 ghost use mathlib.Core.Path.{_≡_};
-ghost use mathlib.Core.Bool.{true};
+ghost use mathlib.Core.Bool.{true, _&&_};
 ghost use Rattle.definition.specs.Rows.{all, from, mem};
 ghost use Rattle.definition.specs.Chart.{isHistory};
 ghost use Rattle.definition.specs.Tables.{rowCount, transitionCount, kindAt, sourceAt, conditionAt, transitionAt, chartOf};
-ghost use Rattle.definition.specs.Tree.{isDescendant, isChild, isDomainKind, anchor};
-ghost use Rattle.definition.specs.Rules.{areApart, initialFits, defaultFits, listFits, blocksFit, rowListsFit, isNoRoot, targetsFit, rule4, isInOrder, isSourceKind, hasUse, conditionFits, spins, transitionFits, rule5, verdict, keepsRules};
+ghost use Rattle.definition.specs.Tree.{isDescendant, isChild, anchor};
+ghost use Rattle.definition.specs.Rules.{areApart, defaultFits, listFits, blocksFit, rowListsFit, isNoRoot, targetsFit, rule4, isInOrder, isSourceKind, hasUse, conditionFits, spins, transitionFits, rule5, verdict, keepsRules};
 ghost use Rattle.rowset.specs.Member.{rowsOf};
 ghost use Rattle.tables.specs.Ranges.{InTables, RowIn, TransitionIn, RowsIn};
 ghost use Rattle.tables.specs.Parts.{RowOf};
-ghost use Rattle.rules3.specs.Parents.{TreeIn, Marks};
+ghost use Rattle.rules3.specs.Parents.{TreeIn};
 ghost use Rattle.rules3.specs.Ancestry.{Climbed};
 ghost use Rattle.rules.specs.Beside.{isBeside, UnderSet};
 ghost use Rattle.rules.specs.Nearest.{highest};
@@ -145,27 +145,6 @@ fn no_roots(numbers: &[u64], list: &[u64]) -> bool
     true
 }
 
-// Whether a row has an initial list: the root and the compounds.
-fn is_domain_kind(numbers: &[u64], children: RowSet, r: Row) -> bool
-    requires { ⌜ RowIn (now numbers) (r .0) × Marks (isChild (chartOf (now numbers))) (rowCount (now numbers)) children ⌝ }
-    ensures { λ b. ⌜ b ≡ isDomainKind (chartOf (now (numbers .entry))) (r .0) ⌝ }
-{
-    let kind = tables::kind_of(numbers, r);
-    tables::is_root(kind) | (tables::is_state(kind) & children.has(r))
-}
-
-fn initial_fits(numbers: &[u64], sets: &[u64], r: Row) -> bool
-    requires { ⌜ Climbed (now numbers) (now sets) × RowIn (now numbers) (r .0) ⌝ }
-    ensures { λ b. ⌜ b ≡ initialFits (chartOf (now (numbers .entry))) (r .0) ⌝ }
-{
-    let list = tables::list_of(numbers, r);
-    if list.len() == 0 {
-        let block = tables::list_block_of(numbers, r);
-        return block.len() == 0;
-    }
-    all_descendants(numbers, sets, r, list)
-}
-
 fn default_fits(numbers: &[u64], sets: &[u64], r: Row) -> bool
     requires { ⌜ Climbed (now numbers) (now sets) × RowIn (now numbers) (r .0) × (isHistory (kindAt (now numbers) (r .0)) ≡ true) ⌝ }
     ensures { λ b. ⌜ b ≡ defaultFits (chartOf (now (numbers .entry))) (r .0) ⌝ }
@@ -181,19 +160,24 @@ fn default_fits(numbers: &[u64], sets: &[u64], r: Row) -> bool
     all_descendants(numbers, sets, p, list)
 }
 
-fn list_fits(numbers: &[u64], sets: &[u64], children: RowSet, r: Row) -> bool
-    requires { ⌜ Climbed (now numbers) (now sets) × Marks (isChild (chartOf (now numbers))) (rowCount (now numbers)) children × RowIn (now numbers) (r .0) ⌝ }
+// Of the rows that are no history the root and the compounds may have a list. It holds descendants: a state that has one is a compound.
+fn list_fits(numbers: &[u64], sets: &[u64], r: Row) -> bool
+    requires { ⌜ Climbed (now numbers) (now sets) × RowIn (now numbers) (r .0) ⌝ }
     ensures { λ b. ⌜ b ≡ listFits (chartOf (now (numbers .entry))) (r .0) ⌝ }
 {
-    if is_domain_kind(numbers, children, r) {
-        return initial_fits(numbers, sets, r);
-    }
-    if tables::is_history(tables::kind_of(numbers, r)) {
+    let kind = tables::kind_of(numbers, r);
+    if tables::is_history(kind) {
         return default_fits(numbers, sets, r);
     }
     let list = tables::list_of(numbers, r);
-    let block = tables::list_block_of(numbers, r);
-    (list.len() == 0) & (block.len() == 0)
+    if list.len() == 0 {
+        let block = tables::list_block_of(numbers, r);
+        return block.len() == 0;
+    }
+    if !(tables::is_root(kind) | tables::is_state(kind)) {
+        return false;
+    }
+    all_descendants(numbers, sets, r, list)
 }
 
 fn blocks_fit(numbers: &[u64], r: Row) -> bool
@@ -209,27 +193,36 @@ fn blocks_fit(numbers: &[u64], r: Row) -> bool
         & (!(root | tables::is_history(kind)) | ((entry.len() == 0) & (exit.len() == 0)))
 }
 
-fn row_lists_fit(numbers: &[u64], sets: &[u64], children: RowSet, r: Row) -> bool
-    requires { ⌜ Climbed (now numbers) (now sets) × Marks (isChild (chartOf (now numbers))) (rowCount (now numbers)) children × RowIn (now numbers) (r .0) ⌝ }
-    ensures { λ b. ⌜ b ≡ rowListsFit (chartOf (now (numbers .entry))) (r .0) ⌝ }
+fn list_and_blocks_fit(numbers: &[u64], sets: &[u64], r: Row) -> bool
+    requires { ⌜ Climbed (now numbers) (now sets) × RowIn (now numbers) (r .0) ⌝ }
+    ensures { λ b. ⌜ b ≡ (listFits (chartOf (now (numbers .entry))) (r .0) && blocksFit (chartOf (now (numbers .entry))) (r .0)) ⌝ }
 {
-    if !are_apart(numbers, sets, tables::list_of(numbers, r)) {
-        return false;
-    }
-    if !list_fits(numbers, sets, children, r) {
-        return false;
-    }
-    blocks_fit(numbers, r)
+    list_fits(numbers, sets, r) & blocks_fit(numbers, r)
 }
 
-fn lists_fit(numbers: &[u64], sets: &[u64], children: RowSet) -> bool
-    requires { ⌜ Climbed (now numbers) (now sets) × Marks (isChild (chartOf (now numbers))) (rowCount (now numbers)) children ⌝ }
+// Most lists have fewer than two rows, which stand apart: for these no call is made, here and for targets.
+fn row_lists_fit(numbers: &[u64], sets: &[u64], r: Row) -> bool
+    requires { ⌜ Climbed (now numbers) (now sets) × RowIn (now numbers) (r .0) ⌝ }
+    ensures { λ b. ⌜ b ≡ rowListsFit (chartOf (now (numbers .entry))) (r .0) ⌝ }
+{
+    let list = tables::list_of(numbers, r);
+    if list.len() < 2 {
+        return list_and_blocks_fit(numbers, sets, r);
+    }
+    if !are_apart(numbers, sets, list) {
+        return false;
+    }
+    list_and_blocks_fit(numbers, sets, r)
+}
+
+fn lists_fit(numbers: &[u64], sets: &[u64]) -> bool
+    requires { ⌜ Climbed (now numbers) (now sets) ⌝ }
     ensures { λ b. ⌜ b ≡ all (rowListsFit (chartOf (now (numbers .entry)))) (from (rowCount (now (numbers .entry))) 0) ⌝ }
 {
     let n = tables::row_count(numbers);
     let mut i = 0;
     while i < n {
-        if !row_lists_fit(numbers, sets, children, Row(i as u8)) {
+        if !row_lists_fit(numbers, sets, Row(i as u8)) {
             return false;
         }
         i += 1;
@@ -242,6 +235,9 @@ fn targets_fit(numbers: &[u64], sets: &[u64], t: Transition) -> bool
     ensures { λ b. ⌜ b ≡ targetsFit (chartOf (now (numbers .entry))) (t .0) ⌝ }
 {
     let targets = tables::targets_of(numbers, t);
+    if targets.len() < 2 {
+        return no_roots(numbers, targets);
+    }
     if !are_apart(numbers, sets, targets) {
         return false;
     }
@@ -268,9 +264,7 @@ pub fn lists_keep(numbers: &[u64], sets: &[u64]) -> bool
     requires { ⌜ Climbed (now numbers) (now sets) ⌝ }
     ensures { λ b. ⌜ b ≡ rule4 (chartOf (now (numbers .entry))) ⌝ }
 {
-    let both = rules3::gather_parents(numbers);
-    let children = both.children;
-    if !lists_fit(numbers, sets, children) {
+    if !lists_fit(numbers, sets) {
         return false;
     }
     all_targets_fit(numbers, sets)

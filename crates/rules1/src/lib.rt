@@ -8,7 +8,7 @@ ghost use Rattle.definition.specs.Names.{isDescriptor, isId};
 ghost use Rattle.definition.specs.Tables.{rowCount, transitionCount, referenceCount, descriptorCount, actionCount, nameCount, rowCell, transitionCell, actionOf};
 ghost use Rattle.definition.specs.Rules.{inside, optionalBelow, countsFit, sizesFit, blockFits, rowInRange, transitionInRange, referenceInRange, descriptorInRange, argumentFits, actionInRange, rule1, slotFits, idFits, raiseFits, actionNamed, rule2};
 ghost use Rattle.tables.specs.Ranges.{Sized, InTables, RowIn, ActionIn, SlotsIn};
-ghost use Rattle.rules1.specs.Inside.{isShortList};
+ghost use Rattle.rules1.specs.Inside.{isShortList, isNothing, hasNoParts};
 ghost use Rattle.rules1.specs.Ids.{Slots, IdTurn, isIdOf, isNewId};
 ghost use Rattle.rules1.specs.Plain.{startsId};
 ghost use Rattle.rules1.specs.Keys.{keyFrom, keyAt};
@@ -68,6 +68,27 @@ fn row_block_fits(numbers: &[u64], r: Row, column: usize) -> bool
     block_fits(numbers, start, count)
 }
 
+// Whether a block or the list of a row, by the column of its start, is nothing at the start of its table.
+fn is_nothing(numbers: &[u64], r: Row, column: usize) -> bool
+    requires { ⌜ Sized (now numbers) × (r .0 < rowCount (now numbers)) × (column < 10) ⌝ }
+    ensures { λ b. ⌜ b ≡ isNothing (rowCell (now (numbers .entry)) (r .0) column) (rowCell (now (numbers .entry)) (r .0) (column + 1)) ⌝ }
+{
+    let start = tables::row_cell(numbers, r, column);
+    let count = tables::row_cell(numbers, r, column + 1);
+    (start == 0) & (count == 0)
+}
+
+fn has_no_parts(numbers: &[u64], r: Row) -> bool
+    requires { ⌜ Sized (now numbers) × (r .0 < rowCount (now numbers)) ⌝ }
+    ensures { λ b. ⌜ b ≡ hasNoParts (now (numbers .entry)) (r .0) ⌝ }
+{
+    is_nothing(numbers, r, columns::ENTRY)
+        & is_nothing(numbers, r, columns::EXIT)
+        & is_nothing(numbers, r, columns::LIST)
+        & is_nothing(numbers, r, columns::LIST_BLOCK)
+}
+
+// Nothing is inside every table: of a row without parts, as most are, only the other cells are judged.
 fn row_in_range(numbers: &[u64], r: Row) -> bool
     requires { ⌜ Sized (now numbers) × (r .0 < rowCount (now numbers)) ⌝ }
     ensures { λ b. ⌜ b ≡ rowInRange (now (numbers .entry)) (r .0) ⌝ }
@@ -75,11 +96,15 @@ fn row_in_range(numbers: &[u64], r: Row) -> bool
     let kind = tables::row_cell(numbers, r, columns::KIND);
     let parent = tables::row_cell(numbers, r, columns::PARENT);
     let id = tables::row_cell(numbers, r, columns::ID);
+    let own = (kind <= LAST_KIND)
+        & is_optional_below(tables::row_count(numbers), parent)
+        & is_optional_below(tables::name_count(numbers), id);
+    if has_no_parts(numbers, r) {
+        return own;
+    }
     let start = tables::row_cell(numbers, r, columns::LIST);
     let count = tables::row_cell(numbers, r, columns::LIST + 1);
-    (kind <= LAST_KIND)
-        & is_optional_below(tables::row_count(numbers), parent)
-        & is_optional_below(tables::name_count(numbers), id)
+    own
         & row_block_fits(numbers, r, columns::ENTRY)
         & row_block_fits(numbers, r, columns::EXIT)
         & is_inside(tables::reference_count(numbers), start, count)

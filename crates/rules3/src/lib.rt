@@ -1,5 +1,5 @@
 // Rule 3: every row under its parent, in document order, and a child for each row that needs one; and what rule 4 reads of such a tree, the
-// rows with children and the ancestors of each row.
+// ancestors of each row.
 ghost use mathlib.Core.Path.{_≡_};
 ghost use mathlib.Core.List.{_∷_};
 ghost use Prim.Native.Nat.{_+_, _*_, _≤_};
@@ -72,12 +72,12 @@ fn parents_fit(numbers: &[u64]) -> bool
 }
 
 // The rows that have a child which is no history, and those that have a history.
-pub struct Parents {
-    pub children: RowSet,
-    pub histories: RowSet,
+struct Parents {
+    children: RowSet,
+    histories: RowSet,
 }
 
-pub fn gather_parents(numbers: &[u64]) -> Parents
+fn gather_parents(numbers: &[u64]) -> Parents
     requires { ⌜ TreeIn (now numbers) ⌝ }
     ensures { λ p. ⌜ Marks (isChild (chartOf (now (numbers .entry)))) (rowCount (now (numbers .entry))) (p .children) × Marks (isHistoryOf (chartOf (now (numbers .entry)))) (rowCount (now (numbers .entry))) (p .histories) ⌝ }
 {

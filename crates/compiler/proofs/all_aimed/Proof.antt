@@ -35,22 +35,19 @@ mul-set-at-2 c = search needs
 set-at-requires-2 : tie.Need-set-at-requires-2 Inv-loop μ-loop
 set-at-requires-2 c κs = let e = c .before .before .loop .inv .0 in let p = c .before .before .before .before .before .before .before .pre .1 .room in record { inside = omega arith }
 
-cast-t12 : tie.Need-cast-t12 Inv-loop μ-loop
-cast-t12 c = search needs
+cast-t11 : tie.Need-cast-t11 Inv-loop μ-loop
+cast-t11 c = search needs
 
-default-targets-requires : tie.Need-default-targets-requires Inv-loop μ-loop
-default-targets-requires c κs =
+aim-holds-requires : tie.Need-aim-holds-requires Inv-loop μ-loop
+aim-holds-requires c κs =
     let e = c .before .before .before .loop .inv .0 in
     let p = c .before .before .before .before .before .before .before .before .pre .0 in
     record { numbersKeep = p .numbersKeep; inside = omega arith; are = kids-read _ _ (c .before .before .before .loop .i) _ p (omega arith) (c .before .set-at .ensures) }
 
-same-requires : tie.Need-same-requires Inv-loop μ-loop
-same-requires c κs = search needs
-
 returns : tie.Need-returns Inv-loop μ-loop
 returns c =
-    let l = c .before .before .before .before .before .before .loop in
-    all-leave _ (l .i) _ _ (omega arith) (l .inv .0) (said-not-yes _ _ (aimed-same _ _ (l .i) _ (c .before .before .before .set-at2 .ensures) _ (c .before .before .default-targets .ensures) _ (c .before .same .ensures)) (c .if1 .taken))
+    let l = c .before .before .before .before .before .loop in
+    all-leave _ (l .i) _ _ (omega arith) (l .inv .0) (said-not-yes _ _ (aimed-same _ _ (l .i) _ (c .before .before .set-at2 .ensures) _ (c .before .aim-holds .ensures)) (c .if1 .taken))
 
 add-i : tie.Need-add-i Inv-loop μ-loop
 add-i c = search needs
@@ -60,8 +57,8 @@ loop-less c = omega arith
 
 loop-again : tie.Need-loop-again Inv-loop μ-loop
 loop-again c =
-    let l = c .before .before .before .before .before .before .loop in
-    (l .inv .0, omega arith, all-turn _ (l .i) (l .inv .2) (said-not-no _ _ (aimed-same _ _ (l .i) _ (c .before .before .before .set-at2 .ensures) _ (c .before .before .default-targets .ensures) _ (c .before .same .ensures)) (c .if1 .left)))
+    let l = c .before .before .before .before .before .loop in
+    (l .inv .0, omega arith, all-turn _ (l .i) (l .inv .2) (said-not-no _ _ (aimed-same _ _ (l .i) _ (c .before .before .set-at2 .ensures) _ (c .before .aim-holds .ensures)) (c .if1 .left)))
 
 returns-2 : tie.Need-returns-2 Inv-loop μ-loop
 returns-2 c = let l = c .before .loop in all-done _ (l .i) _ _ (l .inv .1) (omega arith) (l .inv .0) (l .inv .2)
@@ -78,9 +75,8 @@ all-aimed-spec =
     set-at-requires
     mul-set-at-2
     set-at-requires-2
-    cast-t12
-    default-targets-requires
-    same-requires
+    cast-t11
+    aim-holds-requires
     returns
     add-i
     loop-less

@@ -10,10 +10,10 @@ use Rattle.rules.proofs.lists_fit.Statement.{statement}
 use Rattle.rules.proofs.lists_fit.Tie as tie
 
 abbrev Inv-loop : tie.InvT-loop
-Inv-loop numbers sets children n i₀ i = (i ≤ n) × (all (rowListsFit (chartOf numbers)) (from i 0) ≡ true)
+Inv-loop numbers sets n i₀ i = (i ≤ n) × (all (rowListsFit (chartOf numbers)) (from i 0) ≡ true)
 
 abbrev μ-loop : tie.MeasureT-loop
-μ-loop numbers sets children n i₀ i = n - i
+μ-loop numbers sets n i₀ i = n - i
 
 row-count-requires : tie.Need-row-count-requires Inv-loop μ-loop
 row-count-requires c κs = search needs
@@ -21,8 +21,8 @@ row-count-requires c κs = search needs
 loop-holds : tie.Need-loop-holds Inv-loop μ-loop
 loop-holds c = search (needs, below-laws)
 
-cast-t7 : tie.Need-cast-t7 Inv-loop μ-loop
-cast-t7 c = search needs
+cast-t6 : tie.Need-cast-t6 Inv-loop μ-loop
+cast-t6 c = search needs
 
 row-lists-fit-requires : tie.Need-row-lists-fit-requires Inv-loop μ-loop
 row-lists-fit-requires c κs = search needs
@@ -50,7 +50,7 @@ lists-fit-spec =
     μ-loop
     row-count-requires
     loop-holds
-    cast-t7
+    cast-t6
     row-lists-fit-requires
     returns
     add-i

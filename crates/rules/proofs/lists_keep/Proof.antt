@@ -6,9 +6,6 @@ use borrow.Author.Tests.{not-true, not-false}
 use Rattle.rules.proofs.lists_keep.Statement.{statement}
 use Rattle.rules.proofs.lists_keep.Tie as tie
 
-gather-parents-requires : tie.Need-gather-parents-requires
-gather-parents-requires c κs = search needs
-
 lists-fit-requires : tie.Need-lists-fit-requires
 lists-fit-requires c κs = search needs
 
@@ -23,4 +20,4 @@ returns-2 c = targets-decide (chartOf _) _ (sym (c .before .before .lists-fit .e
 
 pub lists-keep-spec : {M : Type 1} → statement M
 lists-keep-spec =
-    tie.close (tie.spec gather-parents-requires lists-fit-requires returns all-targets-fit-requires returns-2)
+    tie.close (tie.spec lists-fit-requires returns all-targets-fit-requires returns-2)
