@@ -2,7 +2,7 @@
 use mathlib.Core.Path.{_≡_, refl, sym, ap, _∙_}
 use mathlib.Core.Bool.{Bool, true, not, _&&_, _||_}
 use mathlib.Core.List.{List, [], _∷_}
-use Prim.Native.Nat.{ℕ, _+_, _*_, _^_, _-_, _<_, min}
+use Prim.Native.Nat.{ℕ, _+_, _*_, _/_, _%_, _^_, _-_, _<_, min}
 use native.Mathlib.Nat.{zero-add}
 use native.Mathlib.Omega.{arith}
 use borrow.Author.Tests.{eqb-true, eq-eqb, lt-ltb, le-ltb, le-leb, ltb-true}
@@ -26,6 +26,11 @@ unfolding rowsOf
 mem-rows s k =
     mem-those 256 (member s) k ∙
     lt-case k 256 (λ l. ap (λ (x : Bool). x && member s k) (lt-ltb k 256 l)) (λ l. ap (λ (x : Bool). x && member s k) (le-ltb k 256 l) ∙ sym (member-past s k l))
+
+-- row k, where it stands in word q
+pub has-in : (s : RowSet) (k q j : ℕ) → k ≡ q * 64 + j → j < 64 → bit (wordOf s q) j ≡ mem k (rowsOf s)
+unfolding member
+has-in s k q j at low = let e : k / 64 ≡ q = omega arith in let f : k % 64 ≡ j = omega arith in sym (mem-rows s k ∙ rw (e, f))
 
 pub ascends-rows : (s : RowSet) → Ascends 0 (rowsOf s)
 unfolding rowsOf

@@ -6,7 +6,7 @@ ghost use mathlib.Core.List.{[], _∷_};
 ghost use Prim.Native.Nat.{_-_, _^_, _<_, min};
 ghost use Rattle.definition.specs.Rows.{from, mem, isEmpty, isSingle, insert, union, intersection, minus, meets, subset, same};
 ghost use Rattle.definition.specs.Compiled.{word};
-ghost use Rattle.rowset.specs.Member.{wordOf, rowsOf, nextIn, prevIn, LowFrom, HighBelow};
+ghost use Rattle.rowset.specs.Member.{rowsOf, nextIn, prevIn, LowFrom, HighBelow};
 
 // Bit r % 64 of word r / 64 stands for row r.
 pub struct RowSet {
@@ -59,33 +59,24 @@ impl RowSet {
         }
     }
 
-    fn word(self, q: u16) -> u64
-        ensures { λ w. ⌜ w ≡ wordOf self q ⌝ }
-    {
-        if q == 0 {
-            return self.w0;
-        }
-        if q == 1 {
-            return self.w1;
-        }
-        if q == 2 {
-            return self.w2;
-        }
-        if q == 3 {
-            return self.w3;
-        }
-        0
-    }
-
+    // The word is chosen by branches here and in `with`: most rows stand in the first.
     pub fn has(self, r: Row) -> bool
         ensures { λ b. ⌜ b ≡ mem (r .0) (rowsOf self) ⌝ }
     {
         let k = r.0;
-        let w = self.word((k / 64) as u16);
-        (w >> (k % 64)) % 2 == 1
+        if k < 64 {
+            return (self.w0 >> k) % 2 == 1;
+        }
+        if k < 128 {
+            return (self.w1 >> (k - 64)) % 2 == 1;
+        }
+        if k < 192 {
+            return (self.w2 >> (k - 128)) % 2 == 1;
+        }
+        (self.w3 >> (k - 192)) % 2 == 1
     }
 
-    // One word changes: the word is chosen by branches, and no other is touched.
+    // One word changes, and no other is touched.
     pub fn with(self, r: Row) -> RowSet
         ensures { λ s. ⌜ rowsOf s ≡ insert (r .0) (rowsOf self) ⌝ }
     {
