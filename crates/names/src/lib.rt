@@ -18,6 +18,11 @@ const MOST_BYTES: usize = 63;
 
 const SLOT_BYTES: usize = 64;
 
+// The name bytes below 64 and those from 64 to 127, a bit for each: digits, "-" and "."; letters and "_".
+const LOW_NAME_BYTES: u64 = 288054454291267584;
+
+const HIGH_NAME_BYTES: u64 = 576460745995190270;
+
 // "done.state." has so many bytes.
 const DONE_BYTES: usize = 11;
 
@@ -36,7 +41,13 @@ fn is_letter(b: u8) -> bool
 fn is_name_byte(b: u8) -> bool
     ensures { λ r. ⌜ r ≡ isNameByte b ⌝ }
 {
-    is_letter(b) | is_between(b'0', b'9', b) | (b == b'-') | (b == b'_') | (b == b'.')
+    if b < 64 {
+        return (LOW_NAME_BYTES >> b) % 2 == 1;
+    }
+    if b < 128 {
+        return (HIGH_NAME_BYTES >> (b - 64)) % 2 == 1;
+    }
+    false
 }
 
 // One pass. A dot is a name byte; where a token has to begin it is none.
@@ -249,8 +260,8 @@ pub fn zeros_after(slot: &[u8]) -> bool
     ends_blank(slot, name_len(slot))
 }
 
-// A slot of the chart's table: a name or descriptor, then zeros.
-pub fn slot_fits(slot: &[u8]) -> bool
+// The same where the slot has a descriptor with a star, or any other size.
+fn holds_descriptor(slot: &[u8]) -> bool
     ensures { λ r. ⌜ r ≡ (zerosAfter (now (slot .entry)) && isDescriptor (beforeZero (now (slot .entry)))) ⌝ }
 {
     let n = name_len(slot);
@@ -258,6 +269,20 @@ pub fn slot_fits(slot: &[u8]) -> bool
         return false;
     }
     is_descriptor(&slot[..n])
+}
+
+// A slot of the chart's table: a name or descriptor, then zeros. Most hold a name: where as many bytes begin the slot as are filled in it and they are a name,
+// the others are zeros, and its end is not looked for.
+pub fn slot_fits(slot: &[u8]) -> bool
+    ensures { λ r. ⌜ r ≡ (zerosAfter (now (slot .entry)) && isDescriptor (beforeZero (now (slot .entry)))) ⌝ }
+{
+    if slot.len() == SLOT_BYTES {
+        let n = filled(slot) as usize;
+        if is_name(&slot[..n]) {
+            return true;
+        }
+    }
+    holds_descriptor(slot)
 }
 
 // A slot of a queue that a name waits in: the name, then zeros.

@@ -1,39 +1,39 @@
--- `slot_fits`: both tests of a slot.
+-- `slot_fits`: a name that fills its slot alone, or the two tests.
 use borrow.Author.Needs.{needs}
-use borrow.Author.Tests.{not-true, not-false}
-use mathlib.Core.Path.{sym, ap, _∙_}
-use Rattle.definition.specs.Names.{isDescriptor}
-use Rattle.names.specs.Slots.{front-length, front-before}
+use mathlib.Core.Path.{sym, _∙_}
+use Rattle.names.specs.Bytes.{filled-front, name-fills}
 use Rattle.names.proofs.slot_fits.Statement.{statement}
 use Rattle.names.proofs.slot_fits.Tie as tie
 
-name-len-requires : tie.Need-name-len-requires
-name-len-requires c κs = search needs
+filled-requires : tie.Need-filled-requires
+filled-requires c κs = search needs
 
-ends-blank-requires : tie.Need-ends-blank-requires
-ends-blank-requires c κs = search needs
+cast-n : tie.Need-cast-n
+cast-n c = search needs
+
+slice-aggregate-is-name : tie.Need-slice-aggregate-is-name
+slice-aggregate-is-name c = filled-front _ _ (c .before .filled .ensures)
+
+is-name-requires : tie.Need-is-name-requires
+is-name-requires c κs = search needs
 
 returns : tie.Need-returns
-returns c = rw (sym (c .before .ends-blank .ensures) ∙ not-true _ (c .if1 .taken))
+returns c = name-fills _ _ (c .before .before .before .filled .ensures) (sym (c .before .is-name .ensures) ∙ c .if2 .taken)
 
-slice-aggregate-is-descriptor : tie.Need-slice-aggregate-is-descriptor
-slice-aggregate-is-descriptor c = front-length _ _ (c .before .before .before .name-len .ensures)
-
-is-descriptor-requires : tie.Need-is-descriptor-requires
-is-descriptor-requires c κs = search needs
+holds-descriptor-requires : tie.Need-holds-descriptor-requires
+holds-descriptor-requires c κs = search needs
 
 returns-2 : tie.Need-returns-2
-returns-2 c =
-    rw (sym (c .before .before .before .ends-blank .ensures) ∙ not-false _ (c .before .before .if1 .left))
-    (c .is-descriptor .ensures ∙ ap isDescriptor (front-before _ _ (c .before .before .before .before .name-len .ensures)))
+returns-2 c = search needs
 
 pub slot-fits-spec : {M : Type 1} → statement M
 slot-fits-spec =
     tie.close
     (tie.spec
-    name-len-requires
-    ends-blank-requires
+    filled-requires
+    cast-n
+    slice-aggregate-is-name
+    is-name-requires
     returns
-    slice-aggregate-is-descriptor
-    is-descriptor-requires
+    holds-descriptor-requires
     returns-2)
