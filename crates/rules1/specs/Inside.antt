@@ -49,6 +49,27 @@ module _ (start count : ℕ) (h : isNothing start count ≡ true) where
   unfolding blockFits
   nothing-fits numbers = and-true _ _ (nothing-inside (actionCount numbers)) (let e = nothing-sum in le-leb count mostActions (omega arith))
 
+-- each part counts nothing
+pub record Bare (numbers : List ℕ) (i : ℕ) : Type 0 where
+  pub entry : rowCell numbers i 4 ≡ 0
+  pub exit : rowCell numbers i 6 ≡ 0
+  pub list : rowCell numbers i 8 ≡ 0
+  pub block : rowCell numbers i 10 ≡ 0
+
+pub bare-row : (numbers : List ℕ) (i : ℕ) → hasNoParts numbers i ≡ true → Bare numbers i
+unfolding hasNoParts
+bare-row numbers i h =
+    let parts = and4 (isNothing (rowCell numbers i 3) (rowCell numbers i 4)) _ _ _ h in
+    record {
+      entry = none (rowCell numbers i 3) (rowCell numbers i 4) (parts .0);
+      exit = none (rowCell numbers i 5) (rowCell numbers i 6) (parts .1);
+      list = none (rowCell numbers i 7) (rowCell numbers i 8) (parts .2);
+      block = none (rowCell numbers i 9) (rowCell numbers i 10) (parts .3);
+    }
+  where
+    none : (start count : ℕ) → isNothing start count ≡ true → count ≡ 0
+    none start count e = eqb-true count 0 (and-right (eqb start 0) (eqb count 0) e)
+
 pub no-parts : (numbers : List ℕ) (i : ℕ) (t : Bool) → hasNoParts numbers i ≡ true →
     t ≡ (leb (rowCell numbers i 0) 5 && optionalBelow (rowCount numbers) (rowCell numbers i 1) && optionalBelow (nameCount numbers) (rowCell numbers i 2)) →
     t ≡ rowInRange numbers i

@@ -11,7 +11,7 @@ ghost use Rattle.tables.specs.Ranges.{Sized, InTables, RowIn, ActionIn, SlotsIn
 ghost use Rattle.rules1.specs.Inside.{isShortList, isNothing, hasNoParts};
 ghost use Rattle.rules1.specs.Ids.{Slots, IdTurn, isIdOf, isNewId};
 ghost use Rattle.rules1.specs.Plain.{startsId};
-ghost use Rattle.rules1.specs.Keys.{keyFrom, keyAt};
+ghost use Rattle.rules1.specs.Keys.{keyFrom, KeyOf};
 use definition::Action;
 use numbers::NameNumber;
 use numbers::Row;
@@ -78,7 +78,8 @@ fn is_nothing(numbers: &[u64], r: Row, column: usize) -> bool
     (start == 0) & (count == 0)
 }
 
-fn has_no_parts(numbers: &[u64], r: Row) -> bool
+// Whether a row has no block and no list, as most rows have none.
+pub fn has_no_parts(numbers: &[u64], r: Row) -> bool
     requires { ⌜ Sized (now numbers) × (r .0 < rowCount (now numbers)) ⌝ }
     ensures { λ b. ⌜ b ≡ hasNoParts (now (numbers .entry)) (r .0) ⌝ }
 {
@@ -88,7 +89,7 @@ fn has_no_parts(numbers: &[u64], r: Row) -> bool
         & is_nothing(numbers, r, columns::LIST_BLOCK)
 }
 
-// Nothing is inside every table: of a row without parts, as most are, only the other cells are judged.
+// Nothing is inside every table: of a row without parts only the other cells are judged.
 fn row_in_range(numbers: &[u64], r: Row) -> bool
     requires { ⌜ Sized (now numbers) × (r .0 < rowCount (now numbers)) ⌝ }
     ensures { λ b. ⌜ b ≡ rowInRange (now (numbers .entry)) (r .0) ⌝ }
@@ -359,7 +360,12 @@ fn is_new_id(numbers: &[u64], names: &[u8], r: Row) -> bool
     true
 }
 
+// A bit for each key, in words: the table is cleared for each chart.
 const KEYS: usize = 4096;
+
+const KEY_WORDS: usize = 64;
+
+const WORD_BITS: usize = 64;
 
 // Any function of the bytes serves: names of different keys differ.
 fn key_of(name: &[u8]) -> usize
@@ -374,16 +380,25 @@ fn key_of(name: &[u8]) -> usize
     key
 }
 
-// The key of a row's id.
-fn row_key(numbers: &[u64], names: &[u8], r: Row) -> usize
-    requires { ⌜ Slots (now numbers) (now names) × (r .0 < rowCount (now numbers)) × (0 < r .0) × (isIdOf (now numbers) (now names) (r .0) ≡ true) ⌝ }
-    ensures { λ k. ⌜ (k ≡ keyAt (now (numbers .entry)) (now (names .entry)) (r .0)) × (k < 4096) ⌝ }
+// The key of a row's id, and KEYS where it has none: the end of its slot is looked for once.
+fn id_key(numbers: &[u64], names: &[u8], r: Row) -> usize
+    requires { ⌜ Slots (now numbers) (now names) × (r .0 < rowCount (now numbers)) × (0 < r .0) ⌝ }
+    ensures { λ k. ⌜ KeyOf (now (numbers .entry)) (now (names .entry)) (r .0) k ⌝ }
 {
-    key_of(names::name_of(tables::slot_of(names, tables::id_of(numbers, r))))
+    let n = tables::id_of(numbers, r);
+    let none = n.0 as u64 == limits::NO_NUMBER;
+    if none {
+        return KEYS;
+    }
+    let name = names::name_of(tables::slot_of(names, n));
+    if !is_id(name) {
+        return KEYS;
+    }
+    key_of(name)
 }
 
 // Whether no row before it has the same id: none has the key, or each is asked.
-fn is_new_key(numbers: &[u64], names: &[u8], r: Row, taken: u8) -> bool
+fn is_new_key(numbers: &[u64], names: &[u8], r: Row, taken: u64) -> bool
     requires { ⌜ IdTurn (now numbers) (now names) (r .0) × (taken ≡ 0 → isNewId (now numbers) (now names) (r .0) ≡ true) ⌝ }
     ensures { λ b. ⌜ b ≡ isNewId (now (numbers .entry)) (now (names .entry)) (r .0) ⌝ }
 {
@@ -404,19 +419,22 @@ fn ids_fit(numbers: &[u64], names: &[u8]) -> bool
     if !is_new_id(numbers, names, Row(0)) {
         return false;
     }
-    let mut seen = [0u8; 4096];
+    let mut seen = [0u64; KEY_WORDS];
     let mut i = 1;
     while i < n {
         let r = Row(i as u8);
-        if !is_id_of(numbers, names, r) {
+        let key = id_key(numbers, names, r);
+        if key == KEYS {
             return false;
         }
-        let key = row_key(numbers, names, r);
-        let taken = seen[key];
+        let at = key / WORD_BITS;
+        let bit = key % WORD_BITS;
+        let word = seen[at];
+        let taken = (word >> bit) % 2;
         if !is_new_key(numbers, names, r, taken) {
             return false;
         }
-        seen[key] = 1;
+        seen[at] = word | (1u64 << bit);
         i += 1;
     }
     true
