@@ -173,17 +173,17 @@ unfoldable pub isFilled : Chart → ℕ → Bool
 isFilled c i = not (needsChild c i) || not (isEmpty (children c i))
 
 module _ (c : Chart) (s t : RowSet) (i : ℕ) (ms : Marks (isChild c) (c .rows) s) (mt : Marks (isHistoryOf c) (c .rows) t) where
-  pub filled-child : (b : Bool) → b ≡ mem i (rowsOf s) → b ≡ true → true ≡ isFilled c i
-  unfolding isFilled
-  filled-child b e h = sym (rw (← marks-children c s ms i, ← e, h) (or-true (not (needsChild c i))))
-    where
-      or-true : (x : Bool) → (x || true) ≡ true
-      or-true true = refl
-      or-true false = refl
+  needs-child : (h n : Bool) → h ≡ mem i (rowsOf t) → (isRoot (kind c i) || isParallel (kind c i) || h) ≡ n → needsChild c i ≡ n
+  unfolding needsChild
+  needs-child h n e q = rw (← mt .at i, ← e) q
 
-  pub filled-other : (b h : Bool) → b ≡ mem i (rowsOf s) → b ≡ false → h ≡ mem i (rowsOf t) → not (isRoot (kind c i) || isParallel (kind c i) || h) ≡ isFilled c i
-  unfolding isFilled needsChild
-  filled-other b h e f g = rw (g, mt .at i, ← marks-children c s ms i, ← e, f) (sym (or-false _))
+  pub filled-child : (h b : Bool) → h ≡ mem i (rowsOf t) → (isRoot (kind c i) || isParallel (kind c i) || h) ≡ true → b ≡ mem i (rowsOf s) → b ≡ isFilled c i
+  unfolding isFilled
+  filled-child h b e q f = f ∙ marks-children c s ms i ∙ sym (rw (needs-child h true e q))
+
+  pub filled-other : (h : Bool) → h ≡ mem i (rowsOf t) → (isRoot (kind c i) || isParallel (kind c i) || h) ≡ false → true ≡ isFilled c i
+  unfolding isFilled
+  filled-other h e q = sym (rw (needs-child h false e q))
 
 -- ---- rule 3: every parent fits, and every row is filled
 

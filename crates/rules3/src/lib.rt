@@ -106,11 +106,11 @@ fn is_filled(numbers: &[u64], children: RowSet, histories: RowSet, r: Row) -> bo
     requires { ⌜ RowIn (now numbers) (r .0) × Marks (isChild (chartOf (now numbers))) (rowCount (now numbers)) children × Marks (isHistoryOf (chartOf (now numbers))) (rowCount (now numbers)) histories ⌝ }
     ensures { λ b. ⌜ b ≡ isFilled (chartOf (now (numbers .entry))) (r .0) ⌝ }
 {
-    if children.has(r) {
-        return true;
-    }
     let kind = tables::kind_of(numbers, r);
-    !(tables::is_root(kind) | tables::is_parallel(kind) | histories.has(r))
+    if tables::is_root(kind) | tables::is_parallel(kind) | histories.has(r) {
+        return children.has(r);
+    }
+    true
 }
 
 fn are_filled(numbers: &[u64]) -> bool

@@ -4,12 +4,6 @@ use Rattle.definition.specs.Tables.{chartOf}
 use Rattle.rules3.proofs.is_filled.Statement.{statement}
 use Rattle.rules3.proofs.is_filled.Tie as tie
 
-has-requires : tie.Need-has-requires
-has-requires c κs = search needs
-
-returns : tie.Need-returns
-returns c = filled-child (chartOf _) _ _ _ (c .before .before .before .pre .1) (c .before .before .before .pre .2) _ (c .before .has .ensures) (c .if1 .taken)
-
 kind-of-requires : tie.Need-kind-of-requires
 kind-of-requires c κs = search needs
 
@@ -19,23 +13,31 @@ is-root-requires c κs = search needs
 is-parallel-requires : tie.Need-is-parallel-requires
 is-parallel-requires c κs = search needs
 
+has-requires : tie.Need-has-requires
+has-requires c κs = search needs
+
 has-requires-2 : tie.Need-has-requires-2
 has-requires-2 c κs = search needs
 
+returns : tie.Need-returns
+returns c =
+    let pre = c .before .before .before .before .before .before .before .pre in
+    filled-child (chartOf _) _ _ _ (pre .1) (pre .2) _ _ (c .before .before .has .ensures) (rw (c .before .before .before .is-parallel .ensures, c .before .before .before .before .is-root .ensures, c .before .before .before .before .before .kind-of .ensures) at (c .before .if1 .taken))
+    (c .has2 .ensures)
+
 returns-2 : tie.Need-returns-2
 returns-2 c =
-    let pre = c .before .before .before .before .before .before .before .pre in
-    rw (c .before .is-parallel .ensures, c .before .before .is-root .ensures, c .before .before .before .kind-of .ensures)
-    (filled-other (chartOf _) _ _ _ (pre .1) (pre .2) _ _ (c .before .before .before .before .before .has .ensures) (c .before .before .before .before .if1 .left) (c .has2 .ensures))
+    let pre = c .before .before .before .before .before .before .pre in
+    filled-other (chartOf _) _ _ _ (pre .1) (pre .2) _ (c .before .has .ensures) (rw (c .before .before .is-parallel .ensures, c .before .before .before .is-root .ensures, c .before .before .before .before .kind-of .ensures) at (c .if1 .left))
 
 pub is-filled-spec : {M : Type 1} → statement M
 is-filled-spec =
     tie.close
     (tie.spec
-    has-requires
-    returns
     kind-of-requires
     is-root-requires
     is-parallel-requires
+    has-requires
     has-requires-2
+    returns
     returns-2)
