@@ -17,7 +17,7 @@ use Rattle.definition.specs.Rules.{mayStand, parentFits, defaultFits, listFits}
 use Rattle.laws.specs.Bools.{no, and3, and-left, and-right, and-true, bool-case, clash}
 use Rattle.laws.specs.Sets.{mem-those, empty-some}
 use Rattle.laws.specs.Lists.{mem-cases}
-use Rattle.theory.specs.Tree.{ancestors-on, ancestors-top}
+use Rattle.accepted.specs.Tree.{ancestors-on, ancestors-top}
 use Rattle.tables.specs.Parts.{BlockOf}
 use Rattle.tables.specs.Ranges.{RowsIn}
 use Rattle.rules3.specs.Parents.{TreeIn, tree-parent, plain-child}
