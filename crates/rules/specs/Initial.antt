@@ -21,7 +21,7 @@ use Rattle.accepted.specs.Tree.{ancestors-on, ancestors-top}
 use Rattle.tables.specs.Parts.{BlockOf}
 use Rattle.tables.specs.Ranges.{RowsIn}
 use Rattle.rules3.specs.Parents.{TreeIn, tree-parent, plain-child}
-use Rattle.rules.specs.Lists.{read-none, read-some, initial-none, initial-some, block-none, list-initial, list-default, list-unused}
+use Rattle.rules.specs.Lists.{history-no-domain, read-none, read-some, initial-none, initial-some, block-none, list-initial, list-default, list-unused}
 
 -- ---- kinds
 
@@ -33,14 +33,6 @@ stand-plain Parallel l h = refl
 stand-plain Final l h = absurd (no h)
 stand-plain Shallow l h = absurd (no h)
 stand-plain Deep l h = absurd (no h)
-
-history-no-domain : (k : Kind) (b : Bool) → isHistory k ≡ true → (isRoot k || (isState k && b)) ≡ false
-history-no-domain Root b h = absurd (no h)
-history-no-domain State b h = absurd (no h)
-history-no-domain Parallel b h = absurd (no h)
-history-no-domain Final b h = absurd (no h)
-history-no-domain Shallow b h = refl
-history-no-domain Deep b h = refl
 
 domain-by-child : (k : Kind) (b : Bool) → (isRoot k || isState k) ≡ true → b ≡ true → (isRoot k || (isState k && b)) ≡ true
 domain-by-child Root b h e = refl
@@ -93,7 +85,7 @@ module _ (numbers : List ℕ) (t : TreeIn numbers) (a : ℕ) where
 
 module _ (c : Chart) (i : ℕ) where
   pub fits-default : (t : Bool) → isHistory (kind c i) ≡ true → t ≡ defaultFits c i → t ≡ listFits c i
-  fits-default t h e = list-default c i t (unfold isDomainKind in unfold isCompound in history-no-domain (kind c i) _ h) h e
+  fits-default t h e = list-default c i t (history-no-domain c i h) h e
 
 module _ (numbers : List ℕ) (i : ℕ) (l : List ℕ) (e : l ≡ listAt numbers i) (h : isHistory (kind (chartOf numbers) i) ≡ false) where
   abbrev owner : Kind

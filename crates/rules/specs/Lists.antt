@@ -8,12 +8,16 @@ use lib.Dec.{eqb}
 use lib.ListN.{length}
 use borrow.Author.Tests.{eq-eqb, ne-eqb}
 use Rattle.definition.specs.declared.Action.{Action}
+use Rattle.definition.specs.declared.Kind.{Kind}
+use Rattle.definition.specs.declared.Kind.the-variants.{Root, State, Parallel, Final, Shallow, Deep}
 use Rattle.definition.specs.Rows.{all, mem, from, isEmpty}
-use Rattle.definition.specs.Chart.{Chart, kind, isRoot, isShallow, isHistory}
-use Rattle.definition.specs.Tables.{kindAt, parentAt, listAt, listBlockAt, chartOf}
-use Rattle.definition.specs.Tree.{isDescendant, isChild, isDomainKind, ancestors}
+use Rattle.definition.specs.Chart.{Chart, kind, isRoot, isState, isShallow, isHistory}
+use Rattle.definition.specs.Tables.{part, referencesAt, blockAt, kindAt, parentAt, entryAt, exitAt, listAt, listBlockAt, chartOf}
+use Rattle.definition.specs.Tree.{isDescendant, isChild, isCompound, isDomainKind, ancestors}
 use Rattle.definition.specs.Rules.{areApart, initialFits, defaultFits, listFits, blocksFit, rowListsFit, isNoRoot, targetsFit, rule4}
+use Rattle.laws.specs.Bools.{no, bool-case}
 use Rattle.laws.specs.Lists.{empty-list}
+use Rattle.rules1.specs.Inside.{Bare}
 use Rattle.tables.specs.Parts.{BlockOf}
 
 -- ---- empty lists and blocks
@@ -36,6 +40,19 @@ module _ (xs l : List ℕ) (e : l ≡ xs) where
   read-some h = ap isEmpty (sym e) ∙ sym (length-empty l) ∙ ne-eqb (length l) 0 h
 
 -- ---- the tests of one row
+
+-- a history has no initial list
+pub history-no-domain : (c : Chart) (i : ℕ) → isHistory (kind c i) ≡ true → isDomainKind c i ≡ false
+unfolding isDomainKind isCompound
+history-no-domain c i h = go (kind c i) _ h
+  where
+    go : (k : Kind) (b : Bool) → isHistory k ≡ true → (isRoot k || (isState k && b)) ≡ false
+    go Root b h = absurd (no h)
+    go State b h = absurd (no h)
+    go Parallel b h = absurd (no h)
+    go Final b h = absurd (no h)
+    go Shallow b h = refl
+    go Deep b h = refl
 
 pub descendant-is : (c : Chart) (a i : ℕ) (xs : List ℕ) (h m : Bool) → h ≡ isHistory (kind c i) → m ≡ mem a xs → ((x : ℕ) → mem x xs ≡ mem x (ancestors c i)) → (not h && m) ≡ isDescendant c a i
 unfolding isDescendant
@@ -98,6 +115,56 @@ module _ (c : Chart) (i : ℕ) where
   pub targets-roots : (t : Bool) → areApart c ((c .transition) i .targets) ≡ true → t ≡ all (isNoRoot c) ((c .transition) i .targets) → t ≡ targetsFit c i
   unfolding targetsFit
   targets-roots t h e = e ∙ sym (rw h)
+
+-- ---- a row without parts
+
+module _ (numbers : List ℕ) (i : ℕ) (b : Bare numbers i) where
+  abbrev own : Chart
+  own = chartOf numbers
+
+  no-list : listAt numbers i ≡ []
+  unfolding listAt referencesAt part
+  no-list = rw (b .list)
+
+  no-entry : entryAt numbers i ≡ []
+  unfolding entryAt blockAt from
+  no-entry = rw (b .entry)
+
+  no-exit : exitAt numbers i ≡ []
+  unfolding exitAt blockAt from
+  no-exit = rw (b .exit)
+
+  no-block : listBlockAt numbers i ≡ []
+  unfolding listBlockAt blockAt from
+  no-block = rw (b .block)
+
+  bare-blocks : blocksFit own i ≡ true
+  unfolding blocksFit isEmpty
+  bare-blocks = rw (no-entry, no-exit, no-block) (go (isRoot (kindAt numbers i)) (isHistory (kindAt numbers i)))
+    where
+      go : (r h : Bool) → ((not r || true) && (not (r || h) || (true && true))) ≡ true
+      go true h = refl
+      go false true = refl
+      go false false = refl
+
+  bare-apart : areApart own (listAt numbers i) ≡ true
+  unfolding areApart
+  bare-apart = rw no-list
+
+  -- its list fits but where a default list has to be
+  bare-list : (k : Bool) → isHistory (kindAt numbers i) ≡ k → listFits own i ≡ not k
+  bare-list true h = sym (list-default own i false (history-no-domain own i h) h (default-none numbers i [] (sym no-list) refl))
+  bare-list false h =
+      bool-case (isDomainKind own i)
+      (λ d. sym (list-initial own i true d (unfold initialFits in unfold all in unfold isEmpty in sym (rw (no-list, no-block)))))
+      (λ d. sym (list-unused own i true d h (unfold isEmpty in sym (rw (no-list, no-block)))))
+
+  pub bare-fits : (h : Bool) → h ≡ isHistory (kindAt numbers i) → not h ≡ rowListsFit own i
+  bare-fits h e = row-rest own i (not h) bare-apart (sym (rw (bare-list h (sym e), bare-blocks) (yes (not h))))
+    where
+      yes : (x : Bool) → (x && true) ≡ x
+      yes true = refl
+      yes false = refl
 
 pub no-root-is : (c : Chart) (i x : ℕ) (r t : Bool) → i ≡ x → r ≡ isRoot (kind c i) → r ≡ t → isNoRoot c x ≡ not t
 unfolding isNoRoot

@@ -201,7 +201,7 @@ fn list_and_blocks_fit(numbers: &[u64], sets: &[u64], r: Row) -> bool
 }
 
 // Most lists have fewer than two rows, which stand apart: for these no call is made, here and for targets.
-fn row_lists_fit(numbers: &[u64], sets: &[u64], r: Row) -> bool
+fn row_parts_fit(numbers: &[u64], sets: &[u64], r: Row) -> bool
     requires { ⌜ Climbed (now numbers) (now sets) × RowIn (now numbers) (r .0) ⌝ }
     ensures { λ b. ⌜ b ≡ rowListsFit (chartOf (now (numbers .entry))) (r .0) ⌝ }
 {
@@ -213,6 +213,17 @@ fn row_lists_fit(numbers: &[u64], sets: &[u64], r: Row) -> bool
         return false;
     }
     list_and_blocks_fit(numbers, sets, r)
+}
+
+// A row without any keeps the rule, unless it is a history: a default list is not empty.
+fn row_lists_fit(numbers: &[u64], sets: &[u64], r: Row) -> bool
+    requires { ⌜ Climbed (now numbers) (now sets) × RowIn (now numbers) (r .0) ⌝ }
+    ensures { λ b. ⌜ b ≡ rowListsFit (chartOf (now (numbers .entry))) (r .0) ⌝ }
+{
+    if rules1::has_no_parts(numbers, r) {
+        return !tables::is_history(tables::kind_of(numbers, r));
+    }
+    row_parts_fit(numbers, sets, r)
 }
 
 fn lists_fit(numbers: &[u64], sets: &[u64]) -> bool
@@ -230,6 +241,17 @@ fn lists_fit(numbers: &[u64], sets: &[u64]) -> bool
     true
 }
 
+fn many_targets_fit(numbers: &[u64], sets: &[u64], t: Transition) -> bool
+    requires { ⌜ Climbed (now numbers) (now sets) × TransitionIn (now numbers) (t .0) ⌝ }
+    ensures { λ b. ⌜ b ≡ targetsFit (chartOf (now (numbers .entry))) (t .0) ⌝ }
+{
+    let targets = tables::targets_of(numbers, t);
+    if !are_apart(numbers, sets, targets) {
+        return false;
+    }
+    no_roots(numbers, targets)
+}
+
 fn targets_fit(numbers: &[u64], sets: &[u64], t: Transition) -> bool
     requires { ⌜ Climbed (now numbers) (now sets) × TransitionIn (now numbers) (t .0) ⌝ }
     ensures { λ b. ⌜ b ≡ targetsFit (chartOf (now (numbers .entry))) (t .0) ⌝ }
@@ -238,10 +260,7 @@ fn targets_fit(numbers: &[u64], sets: &[u64], t: Transition) -> bool
     if targets.len() < 2 {
         return no_roots(numbers, targets);
     }
-    if !are_apart(numbers, sets, targets) {
-        return false;
-    }
-    no_roots(numbers, targets)
+    many_targets_fit(numbers, sets, t)
 }
 
 fn all_targets_fit(numbers: &[u64], sets: &[u64]) -> bool

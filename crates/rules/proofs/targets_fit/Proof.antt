@@ -1,12 +1,10 @@
 use borrow.Author.Needs.{needs}
 use mathlib.Core.Path.{ap, _∙_}
-use Rattle.rules.specs.Apart.{few-apart}
-use Rattle.rules.specs.Lists.{targets-apart-no, targets-roots}
-use Rattle.laws.specs.Loops.{told}
-use Rattle.definition.specs.Rules.{areApart, isNoRoot}
 use Rattle.definition.specs.Rows.{all}
+use Rattle.definition.specs.Rules.{isNoRoot}
 use Rattle.definition.specs.Tables.{chartOf}
-use borrow.Author.Tests.{not-true, not-false}
+use Rattle.rules.specs.Apart.{few-apart}
+use Rattle.rules.specs.Lists.{targets-roots}
 use Rattle.rules.proofs.targets_fit.Statement.{statement}
 use Rattle.rules.proofs.targets_fit.Tie as tie
 
@@ -19,17 +17,11 @@ no-roots-requires c κs = search needs
 returns : tie.Need-returns
 returns c = targets-roots (chartOf _) _ _ (few-apart (chartOf _) _ _ (c .before .before .targets-of .ensures .is) (c .before .if1 .taken)) (c .no-roots .ensures ∙ ap (all (isNoRoot (chartOf _))) (c .before .before .targets-of .ensures .is))
 
-are-apart-requires : tie.Need-are-apart-requires
-are-apart-requires c κs = search needs
+many-targets-fit-requires : tie.Need-many-targets-fit-requires
+many-targets-fit-requires c κs = search needs
 
 returns-2 : tie.Need-returns-2
-returns-2 c = targets-apart-no (chartOf _) _ (told (areApart (chartOf _)) _ _ _ _ (c .before .before .before .targets-of .ensures .is) (c .before .are-apart .ensures) (not-true _ (c .if2 .taken)))
-
-no-roots-requires-2 : tie.Need-no-roots-requires-2
-no-roots-requires-2 c κs = search needs
-
-returns-3 : tie.Need-returns-3
-returns-3 c = targets-roots (chartOf _) _ _ (told (areApart (chartOf _)) _ _ _ _ (c .before .before .before .before .targets-of .ensures .is) (c .before .before .are-apart .ensures) (not-false _ (c .before .if2 .left))) (c .no-roots2 .ensures ∙ ap (all (isNoRoot (chartOf _))) (c .before .before .before .before .targets-of .ensures .is))
+returns-2 c = search needs
 
 pub targets-fit-spec : {M : Type 1} → statement M
 targets-fit-spec =
@@ -38,7 +30,5 @@ targets-fit-spec =
     targets-of-requires
     no-roots-requires
     returns
-    are-apart-requires
-    returns-2
-    no-roots-requires-2
-    returns-3)
+    many-targets-fit-requires
+    returns-2)
