@@ -4,6 +4,7 @@ use mathlib.Core.Bool.{Bool, true, false}
 use mathlib.Core.List.{List, [], _∷_}
 use Prim.Native.Nat.{ℕ, zero, suc, _≤_}
 use native.Mathlib.Omega.{arith}
+use lib.Dec.{ltb}
 use lib.ListN.{getD}
 use Rattle.definition.specs.declared.Kind.{Kind}
 use Rattle.definition.specs.declared.Kind.the-variants.{Root, State, Parallel, Final, Shallow, Deep}
@@ -29,6 +30,15 @@ root-no-history Parallel h = absurd (no h)
 root-no-history Final h = absurd (no h)
 root-no-history Shallow h = absurd (no h)
 root-no-history Deep h = absurd (no h)
+
+-- the kinds of histories are the last two
+pub history-last : (k : Kind) → ltb 3 (kindNo k) ≡ isHistory k
+history-last Root = refl
+history-last State = refl
+history-last Parallel = refl
+history-last Final = refl
+history-last Shallow = refl
+history-last Deep = refl
 
 -- every kind number past the last is read as the last
 pub kind-past : (x : ℕ) → 5 ≤ x → kindOf x ≡ Deep

@@ -85,11 +85,11 @@ pub fn is_shallow(k: Kind) -> bool
     kind_number(k) == SHALLOW
 }
 
+// The kinds of histories are the last two.
 pub fn is_history(k: Kind) -> bool
     ensures { λ b. ⌜ b ≡ isHistory k ⌝ }
 {
-    let n = kind_number(k);
-    (n == SHALLOW) | (n == DEEP)
+    FINAL < kind_number(k)
 }
 
 pub fn may_stand(parent: Kind, child: Kind) -> bool

@@ -50,28 +50,27 @@ fn is_name_byte(b: u8) -> bool
     false
 }
 
-// One pass. A dot is a name byte; where a token has to begin it is none.
+// One pass. A dot is a name byte; where a token has to begin, first or behind a dot, it is none.
 pub fn is_name(s: &[u8]) -> bool
     ensures { λ r. ⌜ r ≡ isName (now (s .entry)) ⌝ }
 {
     if MOST_BYTES < s.len() {
         return false;
     }
-    let mut fresh = true;
+    let mut last = b'.';
     let mut i = 0;
     while i < s.len() {
         let b = s[i];
-        let dot = b == b'.';
         if !is_name_byte(b) {
             return false;
         }
-        if dot & fresh {
+        if (b == b'.') & (last == b'.') {
             return false;
         }
-        fresh = dot;
+        last = b;
         i += 1;
     }
-    !fresh
+    last != b'.'
 }
 
 pub fn equal(a: &[u8], b: &[u8]) -> bool

@@ -37,10 +37,10 @@ module _ (s : List ℕ) (i : ℕ) (fresh : Bool) (short : length s ≤ 63) (pass
   ended h = sym (rest ∙ rw (drop-end i s h))
 
 abbrev Inv-loop : tie.InvT-loop
-Inv-loop s fresh₀ i₀ fresh i = (i ≤ length s) × (length s ≤ 63) × (spelt true s ≡ spelt fresh (drop i s))
+Inv-loop s last₀ i₀ last i = (i ≤ length s) × (length s ≤ 63) × (spelt true s ≡ spelt (eqb last 46) (drop i s))
 
 abbrev μ-loop : tie.MeasureT-loop
-μ-loop s fresh₀ i₀ fresh i = length s - i
+μ-loop s last₀ i₀ last i = length s - i
 
 returns : tie.Need-returns Inv-loop μ-loop
 returns c = too-long _ (omega arith)
@@ -57,12 +57,12 @@ is-name-byte-requires c κs = search needs
 returns-2 : tie.Need-returns-2 Inv-loop μ-loop
 returns-2 c =
     let l = c .before .before .before .before .loop in
-    other-byte _ (l .i) (l .fresh) (l .inv .1) (l .inv .2) (omega arith) (sym (c .before .is-name-byte .ensures) ∙ not-true _ (c .if2 .taken))
+    other-byte _ (l .i) (eqb (l .last) 46) (l .inv .1) (l .inv .2) (omega arith) (sym (c .before .is-name-byte .ensures) ∙ not-true _ (c .if2 .taken))
 
 returns-3 : tie.Need-returns-3 Inv-loop μ-loop
 returns-3 c =
     let l = c .before .before .before .before .before .loop in
-    empty-token _ (l .i) (l .fresh) (l .inv .1) (l .inv .2) (omega arith) (sym (c .before .before .is-name-byte .ensures) ∙ not-false _ (c .before .if2 .left)) (c .if3 .taken)
+    empty-token _ (l .i) (eqb (l .last) 46) (l .inv .1) (l .inv .2) (omega arith) (sym (c .before .before .is-name-byte .ensures) ∙ not-false _ (c .before .if2 .left)) (c .if3 .taken)
 
 add-i : tie.Need-add-i Inv-loop μ-loop
 add-i c = search needs
@@ -75,11 +75,11 @@ loop-again c =
     let l = c .before .before .before .before .before .loop in (
       omega arith,
       l .inv .1,
-      further _ (l .i) (l .fresh) (l .inv .1) (l .inv .2) (omega arith) (sym (c .before .before .is-name-byte .ensures) ∙ not-false _ (c .before .if2 .left)) (c .if3 .left),
+      further _ (l .i) (eqb (l .last) 46) (l .inv .1) (l .inv .2) (omega arith) (sym (c .before .before .is-name-byte .ensures) ∙ not-false _ (c .before .if2 .left)) (c .if3 .left),
     )
 
 returns-4 : tie.Need-returns-4 Inv-loop μ-loop
-returns-4 c = let l = c .before .loop in ended _ (l .i) (l .fresh) (l .inv .1) (l .inv .2) (omega arith)
+returns-4 c = let l = c .before .loop in ended _ (l .i) (eqb (l .last) 46) (l .inv .1) (l .inv .2) (omega arith)
 
 pub is-name-spec : {M : Type 1} → statement M
 is-name-spec =
