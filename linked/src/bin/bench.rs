@@ -2,15 +2,14 @@
 //! 256 rows, for a post and for the test of a session, in one run. Prints the tables of
 //! docs/bench.md.
 
-use linked::library::{self, Compiled};
+use linked::library::{self, Compiled, Parts};
 use second::compiled::{compile, CompiledChart, Places};
 use second::encode::Layout;
 use second::generate::{self, Flavour};
-use second::limits::{HISTORY_PLACES, QUEUE_NAMES};
+use second::limits::QUEUE_NAMES;
 use second::near_misses::Lent;
-use second::numbers::RowNumber;
 use second::random::Random;
-use second::session::{Session, ACCEPTED, BAD_SESSION};
+use second::session::{Session, ACCEPTED, BAD_NAME, BAD_SESSION};
 use std::hint::black_box;
 use std::time::{Duration, Instant};
 
@@ -24,8 +23,9 @@ const TURNS: usize = 200;
 /// A turn does each call so often: so little that other work on the machine seldom falls into it.
 const TIMES: usize = 4;
 
-/// The name that is posted.
+/// The name that is posted, and what is no name.
 const NAME: &[u8] = b"event.of.some.length";
+const NO_NAME: &[u8] = b".";
 
 /// A session as each of the two takes it.
 struct Both {
@@ -43,10 +43,7 @@ struct Bench {
     lent: Lent,
     places: Places,
     compiled: CompiledChart,
-    /// Takes a post.
     session: Both,
-    /// Fails the test in the very last place, so that all of it is done, and nothing behind it.
-    wrong: Both,
 }
 
 /// A well-formed session with room for a post.
@@ -59,21 +56,15 @@ fn session(random: &mut Random, compiled: &CompiledChart) -> Session {
     }
 }
 
-fn with_last_place_wrong(mut session: Session) -> Session {
-    session.stored[HISTORY_PLACES - 1] = [RowNumber(0)].into_iter().collect();
-    session
-}
-
 fn bench(lent: Lent, random: &mut Random) -> Bench {
     let places = compile(&lent.spelt.numbers, &lent.spelt.names, lent.place);
     let places = places.expect("a generated chart is accepted");
     let compiled = CompiledChart::open(&places.numbers, &places.names).expect("a compiled chart opens");
     let session = session(random, &compiled);
-    let wrong = Both::of(with_last_place_wrong(session.clone()));
-    let bench = Bench { lent, places, compiled, session: Both::of(session), wrong };
-    for (both, answer) in [(&bench.session, ACCEPTED), (&bench.wrong, BAD_SESSION)] {
-        assert_eq!([u64::from(given(&bench, both)), own(&bench, both)], [answer; 2], "the answers of a post");
-    }
+    let bench = Bench { lent, places, compiled, session: Both::of(session) };
+    assert_eq!([u64::from(given(&bench, NAME)), own(&bench)], [ACCEPTED; 2], "the answers of a post");
+    assert_eq!(u64::from(given(&bench, NO_NAME)), BAD_NAME, "the answer where the name is no name");
+    assert_eq!(u64::from(lent_short(&bench)), BAD_SESSION, "the answer where a place is too short");
     bench
 }
 
@@ -124,41 +115,48 @@ fn second_checks(chart: &mut Bench) {
 }
 
 /// A post of the library; its answer.
-fn given(chart: &Bench, session: &Both) -> u32 {
+fn given(chart: &Bench, name: &[u8]) -> u32 {
     let places = black_box(&chart.places);
-    black_box(session.given.clone()).lend().post(places.into(), NAME)
+    black_box(chart.session.given.clone()).lend().post(places.into(), name)
+}
+
+/// The same where a queue is lent too short: no session, which is told before anything else of it is tested.
+fn lent_short(chart: &Bench) -> u32 {
+    let places = black_box(&chart.places);
+    let mut session = black_box(chart.session.given.clone());
+    let Parts { numbers, internal, external } = session.lend();
+    Parts { numbers, internal, external: &mut external[1..] }.post(places.into(), NO_NAME)
 }
 
 /// A post of the second program, which has to open the chart as the library has to check it.
-fn own(chart: &Bench, session: &Both) -> u64 {
+fn own(chart: &Bench) -> u64 {
     let places = black_box(&chart.places);
     let compiled = CompiledChart::open(&places.numbers, &places.names);
-    black_box(session.own.clone()).post(compiled.as_ref(), NAME).number
+    black_box(chart.session.own.clone()).post(compiled.as_ref(), NAME).number
 }
 
 fn library_posts(chart: &mut Bench) {
-    black_box(given(chart, &chart.session));
+    black_box(given(chart, NAME));
 }
 
 fn second_posts(chart: &mut Bench) {
-    black_box(own(chart, &chart.session));
+    black_box(own(chart));
 }
 
-fn library_refuses(chart: &mut Bench) {
-    black_box(given(chart, &chart.wrong));
+/// Chart and session are checked, and the name is refused at once.
+fn library_refuses_the_name(chart: &mut Bench) {
+    black_box(given(chart, NO_NAME));
+}
+
+/// The chart is checked, and the session refused at once.
+fn library_refuses_the_session(chart: &mut Bench) {
+    black_box(lent_short(chart));
 }
 
 /// The test by itself, the chart once opened.
 fn second_tests(chart: &mut Bench) {
-    let Bench { compiled, wrong, .. } = chart;
-    black_box(black_box(&wrong.own).is_well_formed(compiled));
-}
-
-/// With nothing lent for the chart: the session is copied, so that each call has the same, and nothing else is done.
-fn library_hands_over(chart: &mut Bench) {
-    black_box(
-        black_box(chart.session.given.clone()).lend().post(Compiled { numbers: &[], names: &[] }, NAME),
-    );
+    let Bench { compiled, session, .. } = chart;
+    black_box(black_box(&session.own).is_well_formed(compiled));
 }
 
 const MEASURED: usize = 9;
@@ -169,9 +167,9 @@ const CALLS: [fn(&mut Bench); MEASURED] = [
     second_checks,
     library_posts,
     second_posts,
-    library_refuses,
+    library_refuses_the_name,
     second_tests,
-    library_hands_over,
+    library_refuses_the_session,
 ];
 
 /// The microseconds of each, all charts alike.
@@ -225,13 +223,13 @@ fn print_growth(table: &[Row]) {
     }
 }
 
-/// The library's test is what a post that it refuses takes, less the check of the chart and less what it
-/// takes to copy the session; the second program's is measured by itself.
+/// The library's test is what a post takes whose name is refused behind it, less one whose session is
+/// refused before it; the second program's is measured by itself.
 fn print_sessions(table: &[Row]) {
     println!("| rows | post: library | second | ratio | test for 9: library | second | ratio |");
     println!("|---|---|---|---|---|---|---|");
     for Row { rows, times, .. } in table {
-        let test = pair(times[6] - times[2] - times[8], times[7]);
+        let test = pair(times[6] - times[8], times[7]);
         println!("| {rows} | {} | {test} |", pair(times[4], times[5]));
     }
 }
