@@ -1,9 +1,10 @@
 -- When a step of the program and an outcome of the plain follower are alike.
 use mathlib.Core.Path.{_≡_}
-use mathlib.Core.List.{List, [], _∷_, _++_}
+use mathlib.Core.List.{List, _++_}
 use Prim.Native.Nat.{ℕ}
 use lib.ListN.{length, drop}
 use Rattle.follower.specs.Calls.{Outcome}
+use Rattle.laws.specs.Simulation.{Pairwise}
 use Rattle.session.specs.Sessions.{sessionOf, view}
 use Rattle.faithful.specs.Program.{Step}
 
@@ -20,7 +21,4 @@ pub record Alike (rows : ℕ) (a : Step) (o : Outcome) : Type 0 where
 
 -- step by step, and as many steps as outcomes
 abbrev pub AllAlike : ℕ → List Step → List Outcome → Type 0
-AllAlike rows [] [] = Unit {0}
-AllAlike rows [] (o ∷ os) = ⊥
-AllAlike rows (x ∷ xs) [] = ⊥
-AllAlike rows (x ∷ xs) (o ∷ os) = Alike rows x o × AllAlike rows xs os
+AllAlike rows xs os = Pairwise (Alike rows) xs os

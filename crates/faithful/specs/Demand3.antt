@@ -17,6 +17,7 @@ use Rattle.follower.specs.Follower.{Follower, endedFollower, did, round, refusa
 use Rattle.follower.specs.Calls.{Call, starts, Outcome, startedOutcome, follow, followAll}
 use Rattle.follower.specs.Legal.{WellFormed}
 use Rattle.definition.specs.Compiled.{ownNumbers, isCompiled}
+use Rattle.laws.specs.Simulation.{Every, every-first}
 use Rattle.theory.specs.Shown.{takenIn, DisjointExits}
 use Rattle.theory.specs.Theorems.{EveryAfter, start-keeps, calls-keep, all-calls-keep, round-keeps, round-disjoint}
 use Rattle.chart.specs.Own.{answer-done, compiled-ready}
@@ -26,20 +27,12 @@ use Rattle.session.specs.declared.Session.{Session}
 use Rattle.session.specs.Sessions.{endedSession, runOf}
 use Rattle.faithful.specs.Program.{Step, callAll}
 use Rattle.faithful.specs.Alike.{AllAlike}
-use Rattle.faithful.specs.Faithful.{Means, faithful, faithful-ended}
+use Rattle.faithful.specs.Faithful.{Means, AlikeFormed, formed-from-start, formed-from-zeros, faithful, faithful-ended}
 use Rattle.faithful.specs.Completed.{LegalStep, step-legal, CompletedRound, completed}
 
 -- every step of the program
 abbrev pub EveryStep : (Step → Type 0) → List Step → Type 0
-EveryStep P [] = Unit {0}
-EveryStep P (x ∷ xs) = P x × EveryStep P xs
-
--- steps that are alike to well-formed outcomes are legal
-steps-legal : (c : Chart) (rows : ℕ) (xs : List Step) (os : List Outcome) → AllAlike rows xs os → EveryAfter (WellFormed c) os → EveryStep (LegalStep c) xs
-steps-legal c rows [] [] h w = tt
-steps-legal c rows [] (o ∷ os) h w = absurd h
-steps-legal c rows (x ∷ xs) [] h w = absurd h
-steps-legal c rows (x ∷ xs) (o ∷ os) h w = (step-legal c rows x (o .after) (h .0 .state) (w .0), steps-legal c rows xs os (h .1) (w .1))
+EveryStep P xs = Every P xs
 
 -- what is promised of the numbers and names that were lent, and the chart and slots that compile left
 pub record Demand3 (numbers names chart slots : List ℕ) : Type 0 where
@@ -80,6 +73,10 @@ module _ (numbers names place namePlace chart slots : List ℕ) (a : Answer) (ma
       let e = ap (λ (c : Chart). c .rows) (h .read) in
       record { checks = h .checks; chartIs = h .chart; slotsAre = names-written numbers names place namePlace chart slots a made z; few = omega arith }
 
+  -- a step that is alike to a well-formed outcome is legal
+  steps-legal : (x : Step) (o : Outcome) → AlikeFormed numbers names chart slots accepted means x o → LegalStep (chartOf numbers) x
+  steps-legal x o h = step-legal (chartOf numbers) (rowCount numbers) x (o .after) (h .0 .state) (h .1)
+
   pub demand-3 : Demand3 numbers names chart slots
   unfolding followAll
   demand-3 = record {
@@ -87,8 +84,8 @@ module _ (numbers names place namePlace chart slots : List ℕ) (a : Answer) (ma
     alikeEnded = faithful-ended numbers names chart slots accepted means;
     formed = λ f room calls. (unfold follow startedOutcome in start-keeps numbers names accepted room, unfold follow startedOutcome in calls-keep numbers names accepted calls _ (start-keeps numbers names accepted room));
     formedEnded = all-calls-keep numbers names accepted;
-    legal = λ s room calls. steps-legal (chartOf numbers) (rowCount numbers) (callAll chart slots s (starts room ∷ calls)) (followAll (chartOf numbers) (nameAt names) (endedFollower (chartOf numbers)) (starts room ∷ calls)) (faithful numbers names chart slots accepted means s (endedFollower (chartOf numbers)) room calls) (all-calls-keep numbers names accepted (starts room ∷ calls));
-    legalEnded = λ calls. steps-legal (chartOf numbers) (rowCount numbers) (callAll chart slots endedSession calls) (followAll (chartOf numbers) (nameAt names) (endedFollower (chartOf numbers)) calls) (faithful-ended numbers names chart slots accepted means calls) (all-calls-keep numbers names accepted calls);
+    legal = λ s room calls. every-first _ steps-legal _ _ (formed-from-start numbers names chart slots accepted means s (endedFollower (chartOf numbers)) room calls);
+    legalEnded = λ calls. every-first _ steps-legal _ _ (formed-from-zeros numbers names chart slots accepted means calls);
     completed = completed numbers names chart slots accepted means;
     rounds = round-keeps numbers names accepted;
     disjoint = round-disjoint numbers names accepted;

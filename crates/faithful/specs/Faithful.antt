@@ -12,19 +12,25 @@ use Rattle.definition.specs.Rules.{keepsRules}
 use Rattle.follower.specs.Blocks.{Effect, traceNo}
 use Rattle.definition.specs.Answers.{answerNo}
 use Rattle.follower.specs.Follower.{Follower, endedFollower, Started, Ran, start, post, postAnswer, run}
-use Rattle.follower.specs.Calls.{startedOutcome, ranOutcome, Call, starts, posts, runs, follow, followAll}
+use Rattle.follower.specs.Calls.{Outcome, startedOutcome, ranOutcome, Call, starts, posts, runs, follow, followAll}
 use Rattle.follower.specs.Legal.{WellFormed}
 use Rattle.definition.specs.Compiled.{ownNumbers, isCompiled}
 use Rattle.accepted.specs.Sound.{Sound, accepted-sound}
-use Rattle.theory.specs.Theorems.{start-keeps, follow-keeps, ended-well-formed}
+use Rattle.laws.specs.Simulation.{Pairwise, Answers, simulation, pairwise-map}
+use Rattle.theory.specs.Theorems.{start-keeps, follow-keeps, ended-well-formed, follower-answers}
 use Rattle.state.specs.State.{traceWith}
 use Rattle.session.specs.declared.Session.{Session}
 use Rattle.session.specs.declared.Posted.{Posted}
 use Rattle.session.specs.Sessions.{sessionOf, endedSession, view, startBy, startOf, startEffects, postOf, postChecked, runFrom, ranAs, runOf, runEffects}
 use Rattle.session.specs.Spelling.{view-session, session-passes, ended-spells}
 use Rattle.session.specs.Posting.{post-answers, post-spells}
-use Rattle.faithful.specs.Program.{startStep, postStep, runStep, call, callAll}
+use Rattle.faithful.specs.Program.{Step, startStep, postStep, runStep, call, callAll}
 use Rattle.faithful.specs.Alike.{Alike, AllAlike}
+
+-- the program is a machine of calls
+program-answers : (chart slots : List ℕ) → Answers (call chart slots) (λ (x : Step). x .session) (callAll chart slots)
+unfolding callAll
+program-answers chart slots = record { stop = λ s. refl; go = λ s x xs. refl }
 
 numbered : (es : List Effect) → length es ≡ length (map traceNo es)
 numbered [] = refl
@@ -122,24 +128,42 @@ module _ (numbers names chart slots : List ℕ) (accepted : keepsRules numbers n
 
   -- ---- every list of calls, from the session that spells a well-formed state
 
-  pub calls-alike : (calls : List Call) (f : Follower) → WellFormed c f → AllAlike (rowCount numbers) (callAll chart slots (sessionOf f) calls) (followAll c (nameAt names) f calls)
-  unfolding callAll followAll
-  calls-alike [] f w = tt
-  calls-alike (x ∷ xs) f w =
-      let a = call-alike f w x in
-      (a, rw (a .spelled) (calls-alike xs ((follow c (nameAt names) f x) .after) (follow-keeps numbers names accepted f w x)))
+  -- the program spells the follower's state, which is well formed
+  Spells : Session → Follower → Type 0
+  Spells s f = (s ≡ sessionOf f) × WellFormed c f
+
+  -- a step and an outcome are alike, and the outcome's state is well formed
+  pub AlikeFormed : Step → Outcome → Type 0
+  AlikeFormed x o = Alike (rowCount numbers) x o × WellFormed c (o .after)
+
+  step-spells : (s : Session) (f : Follower) (x : Call) → Spells s f →
+      AlikeFormed (call chart slots s x) (follow c (nameAt names) f x) × Spells ((call chart slots s x) .session) ((follow c (nameAt names) f x) .after)
+  step-spells s f x r =
+      let w = follow-keeps numbers names accepted f (r .1) x in
+      let a : Alike (rowCount numbers) (call chart slots s x) (follow c (nameAt names) f x) = rw (r .0) (call-alike f (r .1) x) in
+      ((a, w), (a .spelled, w))
+
+  pub calls-alike : (calls : List Call) (f : Follower) → WellFormed c f → Pairwise AlikeFormed (callAll chart slots (sessionOf f) calls) (followAll c (nameAt names) f calls)
+  calls-alike calls f w = simulation (program-answers chart slots) (follower-answers c (nameAt names)) Spells AlikeFormed step-spells calls (sessionOf f) f (refl, w)
 
   -- ---- demand 3
 
   -- from a start, refused or not, whatever session it is given and wherever the follower stood
-  pub faithful : (s : Session) (f : Follower) (room : ℕ) (calls : List Call) →
-      AllAlike (rowCount numbers) (callAll chart slots s (starts room ∷ calls)) (followAll c (nameAt names) f (starts room ∷ calls))
+  pub formed-from-start : (s : Session) (f : Follower) (room : ℕ) (calls : List Call) →
+      Pairwise AlikeFormed (callAll chart slots s (starts room ∷ calls)) (followAll c (nameAt names) f (starts room ∷ calls))
   unfolding callAll followAll
-  faithful s f room calls =
+  formed-from-start s f room calls =
       let w : WellFormed c ((follow c (nameAt names) f (starts room)) .after) = unfold follow startedOutcome in start-keeps numbers names accepted room in
       let a = start-alike f s room w in
-      (a, rw (a .spelled) (calls-alike calls ((follow c (nameAt names) f (starts room)) .after) w))
+      ((a, w), rw (a .spelled) (calls-alike calls ((follow c (nameAt names) f (starts room)) .after) w))
+
+  pub faithful : (s : Session) (f : Follower) (room : ℕ) (calls : List Call) →
+      AllAlike (rowCount numbers) (callAll chart slots s (starts room ∷ calls)) (followAll c (nameAt names) f (starts room ∷ calls))
+  faithful s f room calls = pairwise-map _ (λ x o h. h .0) _ _ (formed-from-start s f room calls)
 
   -- and from a session of zeros, before any start
+  pub formed-from-zeros : (calls : List Call) → Pairwise AlikeFormed (callAll chart slots endedSession calls) (followAll c (nameAt names) (endedFollower c) calls)
+  formed-from-zeros calls = rw (ended-spells c) (calls-alike calls (endedFollower c) (ended-well-formed numbers names accepted))
+
   pub faithful-ended : (calls : List Call) → AllAlike (rowCount numbers) (callAll chart slots endedSession calls) (followAll c (nameAt names) (endedFollower c) calls)
-  faithful-ended calls = rw (ended-spells c) (calls-alike calls (endedFollower c) (ended-well-formed numbers names accepted))
+  faithful-ended calls = pairwise-map _ (λ x o h. h .0) _ _ (formed-from-zeros calls)

@@ -10,6 +10,7 @@ use Rattle.definition.specs.declared.Answer.{Answer}
 use Rattle.definition.specs.declared.Answer.the-variants.{Done}
 use Rattle.definition.specs.Rows.{any}
 use Rattle.definition.specs.Names.{Name}
+use Rattle.definition.specs.Chart.{Chart, Names}
 use Rattle.definition.specs.Tables.{chartOf, nameAt}
 use Rattle.definition.specs.Rules.{keepsRules}
 use Rattle.definition.specs.Tree.{defaultTargets}
@@ -18,6 +19,7 @@ use Rattle.follower.specs.Microstep.{pathsBelow, targeted, storedIn, historyAft
 use Rattle.follower.specs.Follower.{Follower, endedFollower, isFinalUnderRoot, did, round, refusal, selectedBy, firstEntry, firstFollower, firstEffects, startOr, start, post, run}
 use Rattle.follower.specs.Calls.{Call, starts, posts, runs, Outcome, startedOutcome, ranOutcome, follow, followAll}
 use Rattle.follower.specs.Legal.{isLegal, WellFormed, isWellFormed}
+use Rattle.laws.specs.Simulation.{Every, Answers, simulation, every-first}
 use Rattle.accepted.specs.Sound.{Sound, accepted-sound, accepted-rule1, accepted-rule2}
 use Rattle.theory.specs.Runs.{refusal-not-done}
 use Rattle.theory.specs.Queues.{Queued, ended-queued, start-queued, post-queued, round-queued, run-queued}
@@ -31,8 +33,12 @@ use Rattle.theory.specs.WellFormed.{parts-well-formed, well-formed-queue
 
 -- every outcome's state
 abbrev pub EveryAfter : (Follower → Type 0) → List Outcome → Type 0
-EveryAfter P [] = Unit {0}
-EveryAfter P (o ∷ os) = P (o .after) × EveryAfter P os
+EveryAfter P os = Every (λ (o : Outcome). P (o .after)) os
+
+-- the follower is a machine of calls
+pub follower-answers : (c : Chart) (names : Names) → Answers (follow c names) (λ (o : Outcome). o .after) (followAll c names)
+unfolding followAll
+follower-answers c names = record { stop = λ s. refl; go = λ s x xs. refl }
 
 module _ (numbers names : List ℕ) (accepted : keepsRules numbers names ≡ Done) where
   sound : Sound (chartOf numbers)
@@ -83,9 +89,11 @@ module _ (numbers names : List ℕ) (accepted : keepsRules numbers names ≡ Don
 
   -- whole lists of calls
   pub calls-keep : (calls : List Call) (s : Follower) → WellFormed (chartOf numbers) s → EveryAfter (WellFormed (chartOf numbers)) (followAll (chartOf numbers) (nameAt names) s calls)
-  unfolding followAll
-  calls-keep [] s w = tt
-  calls-keep (call ∷ calls) s w = (follow-keeps s w call, calls-keep calls ((follow (chartOf numbers) (nameAt names) s call) .after) (follow-keeps s w call))
+  calls-keep calls s w =
+      let m = follower-answers (chartOf numbers) (nameAt names) in
+      every-first (λ (o : Outcome). WellFormed (chartOf numbers) (o .after)) (λ x y k. k) (followAll (chartOf numbers) (nameAt names) s calls) (followAll (chartOf numbers) (nameAt names) s calls)
+      (simulation m m (λ (f g : Follower). WellFormed (chartOf numbers) f) (λ (x y : Outcome). WellFormed (chartOf numbers) (x .after))
+      (λ f g call v. let k = follow-keeps f v call in (k, k)) calls s s w)
 
   -- from nothing on
   pub all-calls-keep : (calls : List Call) → EveryAfter (WellFormed (chartOf numbers)) (followAll (chartOf numbers) (nameAt names) (endedFollower (chartOf numbers)) calls)
