@@ -53,7 +53,7 @@ pub extern "C" fn auttervil_raw2_compile(
     ensures { λ n. ⌜ CompilesTo (now (numbers .entry)) (now (names .entry)) (now (place .entry)) (now («name_place» .entry)) n (now (place .exit)) (now («name_place» .exit)) ⌝ }
 {
     let answer = compiler::compile(numbers, names, place, name_place);
-    calls::answer_number(answer)
+    answers::answer_number(answer)
 }
 
 // 8 where the places hold no compiled chart, else 0.
@@ -62,9 +62,9 @@ pub extern "C" fn auttervil_raw2_check(place: &[u64], name_place: &[u8]) -> u32
     ensures { λ n. ⌜ n ≡ answerNo (chartAnswer (now (place .entry)) (now («name_place» .entry))) ⌝ }
 {
     if compiler::check(place, name_place) {
-        return calls::answer_number(Answer::Done);
+        return answers::answer_number(Answer::Done);
     }
-    calls::answer_number(Answer::BadChart)
+    answers::answer_number(Answer::BadChart)
 }
 
 // One number of a compiled chart's places, by which a host can see that a stored session belongs to them.
@@ -110,7 +110,7 @@ pub extern "C" fn auttervil_raw2_start(
     let answer = started.answer;
     let count = started.count;
     StartResult {
-        answer: calls::answer_number(answer),
+        answer: answers::answer_number(answer),
         count: count,
     }
 }
@@ -128,7 +128,7 @@ pub extern "C" fn auttervil_raw2_post(
     ensures { λ n. ⌜ PostsTo (postOf (sessionIn (now (numbers .entry)) (now (internal .entry)) (now (external .entry))) (now (chart .entry)) (now (names .entry)) (now (name .entry))) (sessionIn (now (numbers .exit)) (now (internal .entry)) (now (external .exit))) n ⌝ }
 {
     let answer = lent::post(numbers, internal, external, chart, names, name);
-    calls::answer_number(answer)
+    answers::answer_number(answer)
 }
 
 // The first count entries of the trace are those of the rounds done.
@@ -157,7 +157,7 @@ pub extern "C" fn auttervil_raw2_run(
     let number = ran.rounds;
     let count = ran.count;
     RunResult {
-        status: calls::status_number(status),
+        status: answers::status_number(status),
         rounds: number,
         count: count,
     }
@@ -200,8 +200,8 @@ pub extern "C" fn auttervil_raw2_step(
     let number = stepped.rounds;
     let count = stepped.count;
     StepResult {
-        answer: calls::answer_number(answer),
-        status: calls::status_number(status),
+        answer: answers::answer_number(answer),
+        status: answers::status_number(status),
         rounds: number,
         count: count,
     }

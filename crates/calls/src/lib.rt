@@ -3,47 +3,14 @@ ghost use mathlib.Core.Path.{_≡_};
 ghost use mathlib.Core.Bool.{true};
 ghost use mathlib.Core.List.{[], _∷_};
 ghost use lib.ListN.{length};
-ghost use Rattle.definition.specs.Answers.{answerNo, statusNo};
 ghost use Rattle.faithful.specs.Program.{call};
 ghost use Rattle.calls.specs.Calls.{isKind, isCall, callOf};
 ghost use Rattle.lent.specs.Places.{sessionIn, lengthsFit, checksOf};
 ghost use Rattle.calls.specs.Kept.{checksAfter};
 ghost use Rattle.calls.specs.Performing.{Did, Performs, callsIn};
-use definition::Answer;
-use definition::Status;
+use answers::answer_number;
+use answers::status_number;
 use lent::Checks;
-
-// ---- answers and statuses in the numbers of document 01
-
-pub fn answer_number(a: Answer) -> u32
-    ensures { λ n. ⌜ n ≡ answerNo a ⌝ }
-{
-    match a {
-        Answer::Done => 0,
-        Answer::Size => 1,
-        Answer::Names => 2,
-        Answer::Tree => 3,
-        Answer::Lists => 4,
-        Answer::Transitions => 5,
-        Answer::NotAName => 6,
-        Answer::Full => 7,
-        Answer::BadChart => 8,
-        Answer::BadSession => 9,
-        Answer::NoRoom => 10,
-        Answer::SessionEnded => 11,
-    }
-}
-
-pub fn status_number(status: Status) -> u32
-    ensures { λ n. ⌜ n ≡ statusNo status ⌝ }
-{
-    match status {
-        Status::More => 100,
-        Status::Idle => 101,
-        Status::Ended => 102,
-        Status::Refused(a) => answer_number(a),
-    }
-}
 
 // ---- one call: four cells, of which the first says what it is
 

@@ -162,7 +162,7 @@ fn run_shown(
     );
     let after = ran.session;
     let status = ran.status;
-    let number = calls::status_number(status) as u64;
+    let number = answers::status_number(status) as u64;
     lines::show(b"run ");
     lines::show_number(number);
     lines::show(b", ");

@@ -52,7 +52,7 @@ fn compile(
         &mut place[begin..end],
         &mut name_place[name_begin..name_end],
     );
-    calls::answer_number(answer)
+    answers::answer_number(answer)
 }
 
 fn check(l: Lent, place: &[u64], name_place: &[u8]) -> u32 {

@@ -1,5 +1,5 @@
 -- The choice of a round, case by case: what the code finds is what the definition's round goes by.
-use mathlib.Core.Path.{_≡_, refl, sym, ap, subst, _∙_}
+use mathlib.Core.Path.{_≡_, refl, sym, ap, subst, _∙_, fun-ext}
 use mathlib.Core.Bool.{Bool, true, not}
 use mathlib.Core.List.{List, [], _∷_}
 use mathlib.Core.Option.{Option, none, some}
@@ -29,13 +29,14 @@ use Rattle.selection.specs.declared.Selected.{Selected}
 use Rattle.selection.specs.History.{storedAt}
 use Rattle.selection.specs.Ready.{IsSelected, Selects}
 use Rattle.selection.specs.Kept.{selected-as, selects-of, selects-none}
-use Rattle.queue.specs.Queues.{queueBytes, first-name, queue-length}
-use Rattle.state.specs.declared.State.{State}
-use Rattle.state.specs.State.{Holds}
-use Rattle.state.specs.Words.{history-length}
-use Rattle.state.specs.Found.{configuration-set, history-is}
+use Rattle.queue.specs.Queues.{queueBytes, first-name}
+use Rattle.state.specs.State.{configurationIn, historyIn, internalIn, externalIn, Holds}
+use Rattle.state.specs.Found.{configuration-set}
+use Rattle.state.specs.Places.{reads-internal, reads-external, reads-configuration, reads-stored, numbers-size}
 use Rattle.events.specs.declared.Source.the-variants.{Nothing, Eventless, Internal, External}
-use Rattle.events.specs.Rounds.{internalAfter, externalAfter, roundBy, Chooses}
+use Rattle.lookup.specs.declared.RowKinds.{RowKinds}
+use Rattle.lookup.specs.Lookup.{Lookup}
+use Rattle.events.specs.Rounds.{internalAfter, externalAfter, roundBy, EventReady, Found, Chooses}
 
 -- ---- the name that has waited longest
 
@@ -77,7 +78,7 @@ module _ (c : Chart) (names : Names) (f : Follower) where
   round-external [] l = absurd (omega arith)
   round-external (e ∷ es) l = refl
 
-module _ (chart slots : List ℕ) (g : CompiledWith chart slots) (f : Follower) (s : State) (history internal external : List ℕ) (h : Holds (chartOf chart) f s history internal external) where
+module _ (chart slots : List ℕ) (g : CompiledWith chart slots) (f : Follower) (numbers internal external : List ℕ) (h : Holds (chartOf chart) f numbers internal external) where
   abbrev c : Chart
   c = chartOf chart
 
@@ -87,41 +88,36 @@ module _ (chart slots : List ℕ) (g : CompiledWith chart slots) (f : Follower) 
   abbrev t : Tree c
   t = g .ready .sound .tree
 
-  pub conf-within : Within (c .rows) (rowsOf (s .configuration))
-  conf-within =
-      record { at = λ i m. set-below (c .rows) (f .configuration) (configuration-set c t f (h .formed)) i (sym (ap (mem i) (h .spells .configuration)) ∙ m) }
+  few : c .rows ≤ 256
+  few = let n = g .ready .tables .sized .counts .rows in omega arith
 
-  pub history-size : length history ≡ 1024
-  history-size = ap length (h .spells .historyIs) ∙ history-length (f .history)
+  pub conf-read : rowsOf (configurationIn numbers) ≡ f .configuration
+  conf-read = reads-configuration c t few f numbers internal external h
 
-  pub internal-size : length internal ≡ 2048
-  internal-size = ap length (h .spells .internalIs) ∙ queue-length (f .internal)
+  pub conf-within : Within (c .rows) (rowsOf (configurationIn numbers))
+  conf-within = record { at = λ i m. set-below (c .rows) (f .configuration) (configuration-set c t f (h .formed)) i (sym (ap (mem i) conf-read) ∙ m) }
 
-  pub external-size : length external ≡ 2048
-  external-size = ap length (h .spells .externalIs) ∙ queue-length (f .external)
+  pub history-read : storedAt (historyIn numbers) ≡ storedIn (f .history)
+  history-read = fun-ext (reads-stored c t few f numbers internal external h)
 
-  pub history-read : storedAt history ≡ storedIn (f .history)
-  history-read = ap storedAt (h .spells .historyIs) ∙ history-is c t (let few = g .ready .tables .sized .counts .rows in omega arith) f (h .formed)
+  abbrev stored : History
+  stored = storedAt (historyIn numbers)
 
-  -- what was selected for the event
-  abbrev Found : Option Name → List ℕ → Selected → Type 0
-  Found event items r = IsSelected c (rowsOf (s .configuration)) (storedAt history) (selected c names (rowsOf (s .configuration)) (storedAt history) event) items r
-
-  found-is : (event : Option Name) (items : List ℕ) (r : Selected) (o : Option Name) → Found event items r → event ≡ o → listOf items (r .len) ≡ selectedBy c names f o
+  found-is : (event : Option Name) (items : List ℕ) (r : Selected) (o : Option Name) → Found chart slots numbers event items r → event ≡ o → listOf items (r .len) ≡ selectedBy c names f o
   unfolding selectedBy
-  found-is event items r o k e = k .is ∙ rw (h .spells .configuration, history-read, e)
+  found-is event items r o k e = k .is ∙ rw (conf-read, history-read, e)
 
-  found-selects : (event : Option Name) (items : List ℕ) (r : Selected) → Found event items r → Selects c (f .configuration) (storedAt history) items r
-  found-selects event items r k = subst (λ (conf : List ℕ). Selects c conf (storedAt history) items r) (h .spells .configuration) (selects-of c _ (storedAt history) _ items r k)
+  found-selects : (event : Option Name) (items : List ℕ) (r : Selected) → Found chart slots numbers event items r → Selects c (f .configuration) stored items r
+  found-selects event items r k = subst (λ (conf : List ℕ). Selects c conf stored items r) conf-read (selects-of c _ stored _ items r k)
 
-  module _ (items : List ℕ) (first : Selected) (k : Found none items first) where
+  module _ (items : List ℕ) (first : Selected) (k : Found chart slots numbers none items first) where
     eventless-is : listOf items (first .len) ≡ selectedBy c names f none
     eventless-is = found-is none items first none k refl
 
     first-length : length (listOf items (first .len)) ≡ first .len
     first-length = chosen-length (c .transitions) items (first .len) (k .fits)
 
-    pub choose-eventless : 0 < first .len → Chooses c names f (storedAt history) items (record { source = Eventless; selected = first })
+    pub choose-eventless : 0 < first .len → Chooses c names f stored items (record { source = Eventless; selected = first })
     unfolding roundIn
     choose-eventless l = record {
       is = ap (byEventless c names f) (sym eventless-is) ∙ round-eventless c names f (listOf items (first .len)) (let e = first-length in omega arith);
@@ -135,10 +131,10 @@ module _ (chart slots : List ℕ) (g : CompiledWith chart slots) (f : Follower) 
       unfolding roundIn byEventless
       not-eventless = ap (byEventless c names f) (sym eventless-is ∙ no-names (listOf items (first .len)) (let e = first-length in omega arith))
 
-      pub choose-internal : 0 < s .internal → (event more : List ℕ) (r : Selected) → event ≡ nameAt internal 0 → Found (eventOf event) more r → Chooses c names f (storedAt history) more (record { source = Internal; selected = r })
+      pub choose-internal : 0 < internalIn numbers → (event more : List ℕ) (r : Selected) → event ≡ nameAt internal 0 → Found chart slots numbers (eventOf event) more r → Chooses c names f stored more (record { source = Internal; selected = r })
       unfolding roundBy internalAfter externalAfter
       choose-internal l event more r q m =
-          let n = h .spells .internalCount in
+          let n = reads-internal f numbers internal external (h .spells) in
           let some-name : 0 < length (f .internal) = omega arith in
           let e = oldest-event (f .internal) internal event (h .spells .internalIs) some-name (h .formed .internalNames) q in
           record {
@@ -148,18 +144,18 @@ module _ (chart slots : List ℕ) (g : CompiledWith chart slots) (f : Follower) 
             external = λ z. absurd (let w : _≡_ {A = ℕ} 0 1 = cc in omega arith);
           }
 
-      module _ (none-in : s .internal ≤ 0) where
+      module _ (none-in : internalIn numbers ≤ 0) where
         internal-none : f .internal ≡ []
-        internal-none = let n = h .spells .internalCount in no-names (f .internal) (omega arith)
+        internal-none = let n = reads-internal f numbers internal external (h .spells) in no-names (f .internal) (omega arith)
 
         not-internal : roundIn Running c names f ≡ byExternal c names f (f .external)
         unfolding byInternal
         not-internal = not-eventless ∙ ap (byInternal c names f) internal-none
 
-        pub choose-external : 0 < s .external → (event more : List ℕ) (r : Selected) → event ≡ nameAt external 0 → Found (eventOf event) more r → Chooses c names f (storedAt history) more (record { source = External; selected = r })
+        pub choose-external : 0 < externalIn numbers → (event more : List ℕ) (r : Selected) → event ≡ nameAt external 0 → Found chart slots numbers (eventOf event) more r → Chooses c names f stored more (record { source = External; selected = r })
         unfolding roundBy internalAfter externalAfter
         choose-external l event more r q m =
-            let n = h .spells .externalCount in
+            let n = reads-external f numbers internal external (h .spells) in
             let some-name : 0 < length (f .external) = omega arith in
             let e = oldest-event (f .external) external event (h .spells .externalIs) some-name (h .formed .externalNames) q in
             record {
@@ -170,22 +166,32 @@ module _ (chart slots : List ℕ) (g : CompiledWith chart slots) (f : Follower) 
               external = λ z y. let w = ap {B = ℕ} length y in absurd (omega arith);
             }
 
-        pub choose-nothing : s .external ≤ 0 → Chooses c names f (storedAt history) items (record { source = Nothing; selected = first })
+        pub choose-nothing : externalIn numbers ≤ 0 → Chooses c names f stored items (record { source = Nothing; selected = first })
         unfolding roundBy byExternal
         choose-nothing l = record {
-          is = not-internal ∙ ap (byExternal c names f) (let n = h .spells .externalCount in no-names (f .external) (omega arith));
+          is = not-internal ∙ ap (byExternal c names f) (let n = reads-external f numbers internal external (h .spells) in no-names (f .external) (omega arith));
           selected = found-selects none items first k;
           internal = λ e. absurd (let z : _≡_ {A = ℕ} 0 1 = cc in omega arith);
           external = λ e. absurd (let z : _≡_ {A = ℕ} 0 1 = cc in omega arith);
         }
 
+-- what a round of a session that is spelled gives to the selection
+pub event-ready : (chart names index : List ℕ) (kinds : RowKinds) (l : Lookup chart names index kinds) (f : Follower) (numbers internal external : List ℕ) (items : List ℕ) →
+    Holds (chartOf chart) f numbers internal external → length items ≡ 256 → EventReady chart names index kinds numbers items
+event-ready chart names index kinds l f numbers internal external items h e = record {
+  looked = l;
+  size = numbers-size f numbers internal external (h .spells);
+  inside = conf-within chart names (l .compiled) f numbers internal external h;
+  places = e;
+}
+
 -- ---- an eventless round where no active row is at or below the source of an eventless transition
 
-pub eventless-none : (c : Chart) → Sound c → (slots : Names) (conf : List ℕ) (hist : History) (items active : List ℕ) (r : Selected) (b : Bool) → Within (c .rows) conf → length items ≡ 256 →
-    active ≡ eventlessRows c → b ≡ meets conf active → not b ≡ true → r .len ≡ 0 → rowsOf (r .exits) ≡ [] → IsSelected c conf hist (selected c slots conf hist none) items r
-eventless-none c g slots conf hist items active r b w s e h n l x =
+pub eventless-none : (c : Chart) → Sound c → (slots : Names) (conf : List ℕ) (hist : History) (items at active : List ℕ) (r : Selected) (b : Bool) → Within (c .rows) conf → length items ≡ 256 → at ≡ conf →
+    active ≡ eventlessRows c → b ≡ meets at active → not b ≡ true → r .len ≡ 0 → rowsOf (r .exits) ≡ [] → IsSelected c conf hist (selected c slots conf hist none) items r
+eventless-none c g slots conf hist items at active r b w s q e h n l x =
     selected-as c conf hist (listOf items (r .len)) (selected c slots conf hist none) items r (selects-none c conf hist items r s l x)
-    (ap (listOf items) l ∙ list-begin items ∙ sym (nothing-eventless c g slots conf w (sym (h ∙ ap (meets conf) e) ∙ not-true b n) hist))
+    (ap (listOf items) l ∙ list-begin items ∙ sym (nothing-eventless c g slots conf w (sym (h ∙ ap (λ (xs : List ℕ). meets xs active) q ∙ ap (meets conf) e) ∙ not-true b n) hist))
 
 pub eventless-found : (c : Chart) (slots : Names) (conf : List ℕ) (hist : History) (event items : List ℕ) (r : Selected) → event ≡ [] →
     IsSelected c conf hist (selected c slots conf hist (eventOf event)) items r → IsSelected c conf hist (selected c slots conf hist none) items r

@@ -11,8 +11,8 @@ use Rattle.definition.specs.Chart.{Chart}
 use Rattle.follower.specs.Follower.{Follower, mostQueued}
 use Rattle.laws.specs.Bools.{and-right}
 use Rattle.queue.specs.Queues.{queueBytes, queueOf, queue-length, queue-rest}
-use Rattle.state.specs.declared.State.{State}
-use Rattle.state.specs.State.{Holds}
+use Rattle.state.specs.State.{internalIn, externalIn, Holds}
+use Rattle.state.specs.Places.{reads-internal, reads-external}
 use Rattle.state.specs.Found.{queue-again}
 use Rattle.events.specs.declared.Source.{Source}
 use Rattle.events.specs.declared.Source.the-variants.{Nothing, Eventless, Internal, External}
@@ -62,9 +62,9 @@ pub record QueueIs (queue : List Name) (xs : List ℕ) (n : ℕ) : Type 0 where
   pub short : n ≤ 32
 
 -- what the queues' bytes xs and ys hold once the event has left
-pub record EventLeft (source : Source) (f : Follower) (s : State) (xs ys : List ℕ) : Type 0 where
-  pub internal : QueueIs (internalAfter source f) (internalBytes source xs) (internalLeft source (s .internal))
-  pub external : QueueIs (externalAfter source f) (externalBytes source ys) (externalLeft source (s .external))
+pub record EventLeft (source : Source) (f : Follower) (numbers xs ys : List ℕ) : Type 0 where
+  pub internal : QueueIs (internalAfter source f) (internalBytes source xs) (internalLeft source (internalIn numbers))
+  pub external : QueueIs (externalAfter source f) (externalBytes source ys) (externalLeft source (externalIn numbers))
 
 queue-is : (queue : List Name) (xs : List ℕ) (n : ℕ) → xs ≡ queueBytes queue → n ≡ length queue → length queue ≤ mostQueued → all isName queue ≡ true → QueueIs queue xs n
 queue-is queue xs n e q l h =
@@ -79,25 +79,25 @@ rest-is (name ∷ names) xs n z e q l h =
     queue-is names _ (n - 1) (queue-rest xs name names e (omega arith)) (omega arith) (omega arith) (and-right (isName name) _ h)
 
 -- from a state that is spelled, where the queue that the event comes from has a name
-pub event-left : (c : Chart) (f : Follower) (s : State) (history internal external : List ℕ) (source : Source) → Holds c f s history internal external →
-    (source ≡ Internal → f .internal ≡ [] → ⊥) → (source ≡ External → f .external ≡ [] → ⊥) → EventLeft source f s internal external
+pub event-left : (c : Chart) (f : Follower) (numbers internal external : List ℕ) (source : Source) → Holds c f numbers internal external →
+    (source ≡ Internal → f .internal ≡ [] → ⊥) → (source ≡ External → f .external ≡ [] → ⊥) → EventLeft source f numbers internal external
 unfolding internalAfter externalAfter internalBytes externalBytes internalLeft externalLeft
-event-left c f s history internal external source h = go source
+event-left c f numbers internal external source h = go source
   where
-    inner : QueueIs (f .internal) internal (s .internal)
-    inner = queue-is (f .internal) internal (s .internal) (h .spells .internalIs) (h .spells .internalCount) (h .formed .internalShort) (h .formed .internalNames)
+    inner : QueueIs (f .internal) internal (internalIn numbers)
+    inner = queue-is (f .internal) internal (internalIn numbers) (h .spells .internalIs) (reads-internal f numbers internal external (h .spells)) (h .formed .internalShort) (h .formed .internalNames)
 
-    outer : QueueIs (f .external) external (s .external)
-    outer = queue-is (f .external) external (s .external) (h .spells .externalIs) (h .spells .externalCount) (h .formed .externalShort) (h .formed .externalNames)
+    outer : QueueIs (f .external) external (externalIn numbers)
+    outer = queue-is (f .external) external (externalIn numbers) (h .spells .externalIs) (reads-external f numbers internal external (h .spells)) (h .formed .externalShort) (h .formed .externalNames)
 
-    go : (source : Source) → (source ≡ Internal → f .internal ≡ [] → ⊥) → (source ≡ External → f .external ≡ [] → ⊥) → EventLeft source f s internal external
+    go : (source : Source) → (source ≡ Internal → f .internal ≡ [] → ⊥) → (source ≡ External → f .external ≡ [] → ⊥) → EventLeft source f numbers internal external
     go Nothing i x = record { internal = inner; external = outer }
     go Eventless i x = record { internal = inner; external = outer }
     go Internal i x = record {
-      internal = rest-is (f .internal) internal (s .internal) (i refl) (h .spells .internalIs) (h .spells .internalCount) (h .formed .internalShort) (h .formed .internalNames);
+      internal = rest-is (f .internal) internal (internalIn numbers) (i refl) (h .spells .internalIs) (reads-internal f numbers internal external (h .spells)) (h .formed .internalShort) (h .formed .internalNames);
       external = outer;
     }
     go External i x = record {
       internal = inner;
-      external = rest-is (f .external) external (s .external) (x refl) (h .spells .externalIs) (h .spells .externalCount) (h .formed .externalShort) (h .formed .externalNames);
+      external = rest-is (f .external) external (externalIn numbers) (x refl) (h .spells .externalIs) (reads-external f numbers internal external (h .spells)) (h .formed .externalShort) (h .formed .externalNames);
     }

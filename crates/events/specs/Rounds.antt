@@ -2,6 +2,7 @@
 use mathlib.Core.Path.{_≡_}
 use mathlib.Core.Bool.{Bool, true, _&&_}
 use mathlib.Core.List.{List, [], _++_, map}
+use mathlib.Core.Option.{Option}
 use Prim.Native.Nat.{ℕ, _+_, _/_, _%_}
 use lib.Dec.{ltb}
 use lib.ListN.{length, drop, replicate}
@@ -9,17 +10,18 @@ use Rattle.definition.specs.declared.Mode.the-variants.{Running}
 use Rattle.definition.specs.Rows.{all, flat}
 use Rattle.definition.specs.Names.{Name}
 use Rattle.definition.specs.Chart.{Chart, Names}
-use Rattle.definition.specs.Tables.{rowCount, nameCount, idAt, chartOf}
-use Rattle.follower.specs.Selection.{History}
+use Rattle.definition.specs.Tables.{rowCount, nameCount, nameAt, idAt, chartOf}
+use Rattle.follower.specs.Selection.{History, selected}
 use Rattle.follower.specs.Blocks.{Effect, exited, taken, entered, acted, raised, done, queued}
 use Rattle.follower.specs.Follower.{Follower, Round, idle, taking, roundIn}
-use Rattle.rowset.specs.declared.RowSet.{RowSet}
 use Rattle.rowset.specs.Member.{rowsOf}
-use Rattle.matching.specs.Chosen.{listOf}
-use Rattle.matching.specs.Eventless.{eventlessRows}
-use Rattle.matching.specs.Ready.{Prepared}
-use Rattle.selection.specs.Ready.{Selects}
-use Rattle.selection.specs.FixedDomains.{DomainsFixed}
+use Rattle.matching.specs.Chosen.{listOf, Within}
+use Rattle.selection.specs.declared.Selected.{Selected}
+use Rattle.selection.specs.History.{storedAt}
+use Rattle.selection.specs.Ready.{IsSelected, Selects}
+use Rattle.lookup.specs.declared.RowKinds.{RowKinds}
+use Rattle.lookup.specs.Lookup.{Lookup}
+use Rattle.state.specs.State.{configurationIn, historyIn}
 use Rattle.effects.specs.Kinds.{effectOf}
 use Rattle.queue.specs.Queues.{queueBytes, Waiting}
 use Rattle.events.specs.declared.Source.{Source}
@@ -45,11 +47,18 @@ roundBy Eventless c names f ts = taking c names f (internalAfter Eventless f) (e
 roundBy Internal c names f ts = taking c names f (internalAfter Internal f) (externalAfter Internal f) ts
 roundBy External c names f ts = taking c names f (internalAfter External f) (externalAfter External f) ts
 
--- what is worked out of a chart once, for all rounds of a call
-pub record Lookup (chart names starts domains : List ℕ) (atoms eventless : RowSet) : Type 0 where
-  pub prepared : Prepared chart names starts atoms
-  pub fixed : DomainsFixed (chartOf chart) domains
-  pub sources : rowsOf eventless ≡ eventlessRows (chartOf chart)
+-- all that the selection for an event is given: what is worked out of the chart, the session's numbers, room for the items
+pub record EventReady (chart names index : List ℕ) (kinds : RowKinds) (numbers items : List ℕ) : Type 0 where
+  pub looked : Lookup chart names index kinds
+  pub size : length numbers ≡ 1031
+  pub inside : Within (rowCount chart) (rowsOf (configurationIn numbers))
+  pub places : length items ≡ 256
+
+-- what was selected for the event
+abbrev pub Found : List ℕ → List ℕ → List ℕ → Option Name → List ℕ → Selected → Type 0
+Found chart names numbers event items r =
+    IsSelected (chartOf chart) (rowsOf (configurationIn numbers)) (storedAt (historyIn numbers))
+    (selected (chartOf chart) (nameAt names) (rowsOf (configurationIn numbers)) (storedAt (historyIn numbers)) event) items r
 
 -- the choice of a running session's next round: hist reads the stored history of f
 pub record Chooses (c : Chart) (names : Names) (f : Follower) (hist : History) (items : List ℕ) (r : Choice) : Type 0 where

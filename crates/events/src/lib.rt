@@ -4,23 +4,21 @@ ghost use mathlib.Core.Bool.{true};
 ghost use mathlib.Core.List.{_++_};
 ghost use Prim.Native.Nat.{_+_, _≤_};
 ghost use lib.ListN.{length};
-ghost use Rattle.definition.specs.Tables.{rowCount, nameAt, chartOf};
+ghost use Rattle.definition.specs.Tables.{nameAt, chartOf};
 ghost use Rattle.follower.specs.Blocks.{queued};
 ghost use Rattle.chart.specs.Ready.{CompiledWith};
-ghost use Rattle.matching.specs.Eventless.{eventlessRows};
-ghost use Rattle.rowset.specs.Member.{rowsOf};
+ghost use Rattle.matching.specs.Events.{eventOf};
 ghost use Rattle.selection.specs.History.{storedAt};
-ghost use Rattle.selection.specs.Ready.{SelectReady, IsSelected};
-ghost use Rattle.follower.specs.Selection.{selected};
+ghost use Rattle.lookup.specs.Lookup.{Lookup};
 ghost use mathlib.Core.Option.{none};
 ghost use Rattle.queue.specs.Queues.{queueBytes, queueOf};
-ghost use Rattle.state.specs.State.{stateOf, Holds};
-ghost use Rattle.events.specs.Rounds.{Lookup, Chooses, internalBytes, externalBytes, Waits, effectAt, queuedNames, isKnown, JoinsIn, Joins};
+ghost use Rattle.state.specs.State.{historyIn, stateAt, HoldsAt};
+ghost use Rattle.events.specs.Rounds.{EventReady, Found, Chooses, internalBytes, externalBytes, Waits, effectAt, queuedNames, isKnown, JoinsIn, Joins};
+use lookup::RowKinds;
 use numbers::NameNumber;
 use numbers::Row;
 use rowset::RowSet;
 use selection::Selected;
-use state::State;
 
 // Where the event of a round comes from: nothing if the session is idle.
 pub enum Source {
@@ -36,38 +34,55 @@ pub struct Choice {
     pub selected: Selected,
 }
 
+// What a round of this event selects in the configuration that the numbers hold.
+fn select_event(
+    chart: &[u64],
+    names: &[u8],
+    index: &[u16],
+    kinds: RowKinds,
+    numbers: &[u64],
+    event: &[u8],
+    items: &mut [u16],
+) -> Selected
+    requires { ⌜ EventReady (now chart) (now names) (now index) kinds (now numbers) (now items) ⌝ }
+    ensures { λ r. ⌜ Found (now (chart .entry)) (now (names .entry)) (now (numbers .entry)) (eventOf (now (event .entry))) (now (items .exit)) r ⌝ }
+{
+    let atomic = kinds.atomic;
+    let conf = chart::set_at(numbers, 0);
+    selection::select(
+        chart,
+        names,
+        &index[..lookup::STARTS],
+        &index[lookup::STARTS..lookup::INDEX],
+        atomic,
+        conf,
+        &numbers[state::HISTORY..state::INTERNAL],
+        event,
+        items,
+    )
+}
+
 // What an eventless round selects: nothing, where no active row is at or below the source of an eventless transition.
 pub fn select_eventless(
     chart: &[u64],
     names: &[u8],
-    starts: &[u16],
-    domains: &[u16],
-    atoms: RowSet,
-    eventless: RowSet,
-    conf: RowSet,
-    history: &[u64],
+    index: &[u16],
+    kinds: RowKinds,
+    numbers: &[u64],
     items: &mut [u16],
 ) -> Selected
-    requires { ⌜ SelectReady (now chart) (now names) (now starts) (now domains) atoms conf (now history) (now items) × (rowsOf eventless ≡ eventlessRows (chartOf (now chart))) ⌝ }
-    ensures { λ r. ⌜ IsSelected (chartOf (now (chart .entry))) (rowsOf conf) (storedAt (now (history .entry))) (selected (chartOf (now (chart .entry))) (nameAt (now (names .entry))) (rowsOf conf) (storedAt (now (history .entry))) none) (now (items .exit)) r ⌝ }
+    requires { ⌜ EventReady (now chart) (now names) (now index) kinds (now numbers) (now items) ⌝ }
+    ensures { λ r. ⌜ Found (now (chart .entry)) (now (names .entry)) (now (numbers .entry)) none (now (items .exit)) r ⌝ }
 {
+    let conf = chart::set_at(numbers, 0);
+    let eventless = kinds.eventless;
     if !conf.meets(eventless) {
         return Selected {
             len: 0,
             exits: RowSet::empty(),
         };
     }
-    selection::select(
-        chart,
-        names,
-        starts,
-        domains,
-        atoms,
-        conf,
-        history,
-        b"",
-        items,
-    )
+    select_event(chart, names, index, kinds, numbers, b"", items)
 }
 
 // "eventless transitions first. If none is selected, the oldest internal event; if there is none, the oldest external event; if there
@@ -75,69 +90,35 @@ pub fn select_eventless(
 pub fn choose(
     chart: &[u64],
     names: &[u8],
-    starts: &[u16],
-    domains: &[u16],
-    atoms: RowSet,
-    eventless: RowSet,
-    state: State,
-    history: &[u64],
+    index: &[u16],
+    kinds: RowKinds,
+    numbers: &[u64],
     internal: &[u8],
     external: &[u8],
     items: &mut [u16],
 ) -> Choice
-    requires { ⌜ Lookup (now chart) (now names) (now starts) (now domains) atoms eventless × Holds (chartOf (now chart)) (stateOf (rowCount (now chart)) state (now history) (now internal) (now external)) state (now history) (now internal) (now external) × (length (now items) ≡ 256) ⌝ }
-    ensures { λ r. ⌜ Chooses (chartOf (now (chart .entry))) (nameAt (now (names .entry))) (stateOf (rowCount (now (chart .entry))) state (now (history .entry)) (now (internal .entry)) (now (external .entry))) (storedAt (now (history .entry))) (now (items .exit)) r ⌝ }
+    requires { ⌜ Lookup (now chart) (now names) (now index) kinds × HoldsAt (now chart) (now numbers) (now internal) (now external) × (length (now items) ≡ 256) ⌝ }
+    ensures { λ r. ⌜ Chooses (chartOf (now (chart .entry))) (nameAt (now (names .entry))) (stateAt (now (chart .entry)) (now (numbers .entry)) (now (internal .entry)) (now (external .entry))) (storedAt (historyIn (now (numbers .entry)))) (now (items .exit)) r ⌝ }
 {
-    let conf = state.configuration;
-    let first = select_eventless(
-        chart,
-        names,
-        starts,
-        domains,
-        atoms,
-        eventless,
-        conf,
-        history,
-        items,
-    );
+    let first = select_eventless(chart, names, index, kinds, numbers, items);
     if 0 < first.len {
         return Choice {
             source: Source::Eventless,
             selected: first,
         };
     }
-    if 0 < state.internal {
+    if 0 < numbers[state::INTERNAL] {
         let event = queue::first_name(internal);
         return Choice {
             source: Source::Internal,
-            selected: selection::select(
-                chart,
-                names,
-                starts,
-                domains,
-                atoms,
-                conf,
-                history,
-                event,
-                items,
-            ),
+            selected: select_event(chart, names, index, kinds, numbers, event, items),
         };
     }
-    if 0 < state.external {
+    if 0 < numbers[state::EXTERNAL] {
         let event = queue::first_name(external);
         return Choice {
             source: Source::External,
-            selected: selection::select(
-                chart,
-                names,
-                starts,
-                domains,
-                atoms,
-                conf,
-                history,
-                event,
-                items,
-            ),
+            selected: select_event(chart, names, index, kinds, numbers, event, items),
         };
     }
     Choice {

@@ -3,40 +3,43 @@ use mathlib.Core.Path.{_≡_, refl, sym, ap, subst, _∙_}
 use mathlib.Core.List.{List, []}
 use mathlib.Core.Option.{none}
 use Prim.Native.Nat.{ℕ, _+_, _≤_}
+use native.Mathlib.Omega.{arith}
 use lib.Dec.{ltb}
 use lib.ListN.{length, replicate}
 use Rattle.definition.specs.declared.Mode.{Mode}
 use Rattle.definition.specs.declared.Mode.the-variants.{Running, Closing, Ended}
+use Rattle.definition.specs.Rows.{mem}
 use Rattle.definition.specs.Tables.{rowCount, nameAt, chartOf}
+use Rattle.definition.specs.Answers.{modeNo}
+use Rattle.definition.specs.Compiled.{words}
+use Rattle.follower.specs.Blocks.{Effect}
 use Rattle.follower.specs.Microstep.{exiting}
 use Rattle.follower.specs.Follower.{Follower, Round, closingRound, roundIn, round, refusalIf, refusal}
+use Rattle.laws.specs.Lists.{set-below}
 use Rattle.theory.specs.Runs.{not-refused}
+use Rattle.rowset.specs.declared.RowSet.{RowSet}
 use Rattle.rowset.specs.Member.{rowsOf}
-use Rattle.chart.specs.Ready.{Ready, CompiledWith}
+use Rattle.chart.specs.Ready.{Ready}
 use Rattle.matching.specs.Chosen.{Within}
 use Rattle.effects.specs.declared.Tally.{Tally}
 use Rattle.queue.specs.Queues.{queueBytes, queue-none}
 use Rattle.state.specs.declared.State.{State}
-use Rattle.state.specs.State.{Spells, Holds}
-use Rattle.events.specs.Choosing.{conf-within, internal-size, external-size}
+use Rattle.state.specs.State.{historyWords, numbersOf, configurationIn, historyIn, modeIn, stateAt, HoldsAt}
+use Rattle.state.specs.Found.{configuration-set}
+use Rattle.state.specs.Places.{internal-size, external-size, reads-history, reads-mode, reads-configuration}
 use Rattle.rounds.specs.declared.Outcome.{Outcome}
 use Rattle.rounds.specs.declared.Outcome.the-variants.{Over, Did}
 use Rattle.rounds.specs.declared.Turn.{Turn}
 use Rattle.rounds.specs.Turns.{judged, judged-none, untouched, Turned, turned-over, turned-refused, turned-did}
 use Rattle.rounds.specs.Traces.{Filled, wrote-entries, wrote-trace}
 use Rattle.rounds.specs.Judging.{Counted}
-use Rattle.rounds.specs.Taking.{spelled, HoldsAt}
 
--- the parts by value of an ended session
+-- the state of an ended session
 pub record IsEnded (s : State) : Type 0 where
   pub configuration : rowsOf (s .configuration) ≡ []
   pub internal : s .internal ≡ 0
   pub external : s .external ≡ 0
   pub mode : s .mode ≡ Ended
-
--- whatever the state and its stored history are that the parts spell
-pub record Closed (chart : List ℕ) (s : State) (t : Turn) (internal external internalNow externalNow old new : List ℕ) : Type 0 where
-  pub turned : (f : Follower) (history : List ℕ) → Spells f s history internal external → Turned (closingRound (chartOf chart) f) f t history internalNow externalNow old new
 
 abbrev closedBy : Follower → Follower
 closedBy f = record { configuration = []; history = f .history; internal = []; external = []; mode = Ended }
@@ -44,70 +47,82 @@ closedBy f = record { configuration = []; history = f .history; internal = []; e
 pub no-names : (xs ys : List ℕ) → ys ≡ replicate (length xs) 0 → length xs ≡ 2048 → ys ≡ queueBytes []
 no-names xs ys e n = e ∙ ap (λ (k : ℕ). replicate k 0) n ∙ sym queue-none
 
-module _ (chart : List ℕ) (s : State) (internal external old : List ℕ) (t : Tally) (k : Counted t (exiting (chartOf chart) (rowsOf (s .configuration)) (rowsOf (s .configuration)))) (o : Outcome)
-    (j : o ≡ judged (refusalIf (ltb 32 (0 + 0)) (ltb (length old) (t .entries)))) where
-  closing-judged : (f : Follower) (history : List ℕ) → Spells f s history internal external → o ≡ judged (refusal (length old) (closedBy f) (exiting (chartOf chart) (f .configuration) (f .configuration)))
-  unfolding refusal
-  closing-judged f history w = j ∙ rw (k .entries, w .configuration)
+-- the numbers of an ended session that keeps its stored history
+pub ended-numbers : (cells history : List ℕ) (s : State) (sets : List (List ℕ)) → cells ≡ numbersOf (words (rowsOf (s .configuration))) history (s .internal) (s .external) (modeNo (s .mode)) → IsEnded s → history ≡ historyWords sets →
+    cells ≡ numbersOf (words []) (historyWords sets) 0 0 (modeNo Ended)
+ended-numbers cells history s sets e i h =
+    let a = i .configuration in
+    let b = i .internal in
+    let d = i .external in
+    let m = i .mode in
+    e ∙ (λ j. numbersOf (words (a j)) (h j) (b j) (d j) (modeNo (m j)))
 
-  pub closed-refused : (u : Turn) → u ≡ untouched s o → (o ≡ Did → ⊥) → Closed chart s u internal external internal external old old
-  closed-refused u y z = record {
-    turned = λ f history w. turned-refused (closingRound (chartOf chart) f) f s u history internal external old w o y (closedBy f) (exiting (chartOf chart) (f .configuration) (f .configuration))
-        (unfold closingRound in refl) (closing-judged f history w) z;
-  }
+module _ (chart numbers internal external : List ℕ) (r : Ready chart) (h : HoldsAt chart numbers internal external) where
+  abbrev f : Follower
+  f = stateAt chart numbers internal external
 
-  pub closed-did : o ≡ Did → (e : State) → IsEnded e → (inner outer new : List ℕ) (r : Tally) → Filled old new r (exiting (chartOf chart) (rowsOf (s .configuration)) (rowsOf (s .configuration))) →
-      inner ≡ replicate (length internal) 0 → outer ≡ replicate (length external) 0 → length internal ≡ 2048 → length external ≡ 2048 →
-      Closed chart s (record { state = e; outcome = Did; count = r .entries }) internal external inner outer old new
-  closed-did q e i inner outer new r w x y m n = record { turned = turn }
-    where
-      turn : (f : Follower) (history : List ℕ) → Spells f s history internal external →
-          Turned (closingRound (chartOf chart) f) f (record { state = e; outcome = Did; count = r .entries }) history inner outer old new
-      turn f history p =
-          let goes : refusal (length old) (closedBy f) (exiting (chartOf chart) (f .configuration) (f .configuration)) ≡ none = judged-none _ (sym (closing-judged f history p) ∙ q) in
-          let roomy : length (exiting (chartOf chart) (f .configuration) (f .configuration)) ≤ length old = not-refused (length old) (closedBy f) (exiting (chartOf chart) (f .configuration) (f .configuration)) goes .roomy in
-          let v : Filled old new r (exiting (chartOf chart) (f .configuration) (f .configuration)) = rw (p .configuration) at w in
-          turned-did (closingRound (chartOf chart) f) f (record { state = e; outcome = Did; count = r .entries }) history inner outer old new (closedBy f) (exiting (chartOf chart) (f .configuration) (f .configuration))
+  few : rowCount chart ≤ 256
+  few = let n = r .tables .sized .counts .rows in omega arith
+
+  conf-is : rowsOf (configurationIn numbers) ≡ f .configuration
+  conf-is = reads-configuration (chartOf chart) (r .sound .tree) few f numbers internal external h
+
+  module _ (conf : RowSet) (at : conf ≡ configurationIn numbers) where
+    rows-are : rowsOf conf ≡ f .configuration
+    rows-are = ap rowsOf at ∙ conf-is
+
+    pub closing-within : Within (rowCount chart) (rowsOf conf)
+    closing-within =
+        record { at = λ i m. set-below (rowCount chart) (f .configuration) (configuration-set (chartOf chart) (r .sound .tree) f (h .formed)) i (sym (ap (mem i) rows-are) ∙ m) }
+
+    abbrev es : List Effect
+    es = exiting (chartOf chart) (f .configuration) (f .configuration)
+
+    module _ (old : List ℕ) (t : Tally) (k : Counted t (exiting (chartOf chart) (rowsOf conf) (rowsOf conf))) (o : Outcome)
+        (j : o ≡ judged (refusalIf (ltb 32 (0 + 0)) (ltb (length old) (t .entries)))) where
+      closing-judged : o ≡ judged (refusal (length old) (closedBy f) es)
+      unfolding refusal
+      closing-judged = j ∙ rw (k .entries, rows-are)
+
+      pub closed-refused : (u : Turn) → u ≡ untouched o → (o ≡ Did → ⊥) → Turned (closingRound (chartOf chart) f) f u numbers internal external old old
+      closed-refused u y z = turned-refused (closingRound (chartOf chart) f) f u numbers internal external old (h .spells) o y (closedBy f) es (unfold closingRound in refl) closing-judged z
+
+      pub closed-did : o ≡ Did → (e : State) → IsEnded e → (cells inner outer new : List ℕ) (w : Tally) → Filled old new w (exiting (chartOf chart) (rowsOf conf) (rowsOf conf)) →
+          inner ≡ replicate (length internal) 0 → outer ≡ replicate (length external) 0 →
+          cells ≡ numbersOf (words (rowsOf (e .configuration))) (historyIn numbers) (e .internal) (e .external) (modeNo (e .mode)) →
+          Turned (closingRound (chartOf chart) f) f (record { outcome = Did; count = w .entries }) cells inner outer old new
+      closed-did q e i cells inner outer new w v x y n =
+          let goes : refusal (length old) (closedBy f) es ≡ none = judged-none _ (sym closing-judged ∙ q) in
+          let roomy : length es ≤ length old = not-refused (length old) (closedBy f) es goes .roomy in
+          let u : Filled old new w es = rw rows-are at v in
+          turned-did (closingRound (chartOf chart) f) f (record { outcome = Did; count = w .entries }) cells inner outer old new (closedBy f) es
           (unfold closingRound in refl) goes refl
           (record {
-            configuration = i .configuration;
-            historyIs = p .historyIs;
-            internalIs = no-names internal inner x m;
-            externalIs = no-names external outer y n;
-            internalCount = i .internal;
-            externalCount = i .external;
-            modeIs = i .mode;
+            numbersAre = ended-numbers cells (historyIn numbers) e (f .history) n i (reads-history f numbers internal external (h .spells));
+            internalIs = no-names internal inner x (internal-size f numbers internal external (h .spells));
+            externalIs = no-names external outer y (external-size f numbers internal external (h .spells));
           })
-          (wrote-entries old new r (exiting (chartOf chart) (f .configuration) (f .configuration)) roomy v) (wrote-trace old new r (exiting (chartOf chart) (f .configuration) (f .configuration)) roomy v)
-
-pub closing-ready : (chart names : List ℕ) (k : CompiledWith chart names) (f : Follower) (s : State) (history internal external : List ℕ) → Holds (chartOf chart) f s history internal external →
-    Ready chart × Within (rowCount chart) (rowsOf (s .configuration)) × (length internal ≡ 2048) × (length external ≡ 2048)
-closing-ready chart names k f s history internal external h = (
-  k .ready,
-  conf-within chart names k f s history internal external h,
-  internal-size chart names k f s history internal external h,
-  external-size chart names k f s history internal external h,
-)
+          (wrote-entries old new w es roomy u) (wrote-trace old new w es roomy u)
 
 -- ---- a round, by the mode
 
-module _ (chart names : List ℕ) (s : State) (history internal external : List ℕ) (h : HoldsAt chart s history internal external) where
-  abbrev f : Follower
-  f = spelled chart s history internal external
+module _ (chart names numbers internal external : List ℕ) (h : HoldsAt chart numbers internal external) where
+  abbrev this : Follower
+  this = stateAt chart numbers internal external
 
-  pub round-mode : (m : Mode) → s .mode ≡ m → roundIn m (chartOf chart) (nameAt names) f ≡ round (chartOf chart) (nameAt names) f
+  pub round-mode : (m : Mode) → modeIn numbers ≡ m → roundIn m (chartOf chart) (nameAt names) this ≡ round (chartOf chart) (nameAt names) this
   unfolding round
-  round-mode m e = ap (λ (x : Mode). roundIn x (chartOf chart) (nameAt names) f) (sym e ∙ h .spells .modeIs)
+  round-mode m e = ap (λ (x : Mode). roundIn x (chartOf chart) (nameAt names) this) (sym e ∙ reads-mode this numbers internal external (h .spells))
 
-  module _ (t : Turn) (stored inner outer old new : List ℕ) where
-    pub round-running : s .mode ≡ Running → Turned (roundIn Running (chartOf chart) (nameAt names) f) f t stored inner outer old new →
-        Turned (round (chartOf chart) (nameAt names) f) f t stored inner outer old new
-    round-running e = subst (λ (r : Round). Turned r f t stored inner outer old new) (round-mode Running e)
+  module _ (t : Turn) (cells inner outer old new : List ℕ) (mode : Mode) (at : mode ≡ modeIn numbers) where
+    pub round-running : mode ≡ Running → Turned (roundIn Running (chartOf chart) (nameAt names) this) this t cells inner outer old new →
+        Turned (round (chartOf chart) (nameAt names) this) this t cells inner outer old new
+    round-running e = subst (λ (r : Round). Turned r this t cells inner outer old new) (round-mode Running (sym at ∙ e))
 
-    pub round-closing : s .mode ≡ Closing → Closed chart s t internal external inner outer old new → Turned (round (chartOf chart) (nameAt names) f) f t history inner outer old new
+    pub round-closing : mode ≡ Closing → Turned (closingRound (chartOf chart) this) this t cells inner outer old new → Turned (round (chartOf chart) (nameAt names) this) this t cells inner outer old new
     unfolding roundIn
-    round-closing e k = subst (λ (r : Round). Turned r f t history inner outer old new) (round-mode Closing e) (k .turned f history (h .spells))
+    round-closing e = subst (λ (r : Round). Turned r this t cells inner outer old new) (round-mode Closing (sym at ∙ e))
 
-  pub round-over : (u : Turn) (old : List ℕ) → u ≡ untouched s Over → s .mode ≡ Ended → Turned (round (chartOf chart) (nameAt names) f) f u history internal external old old
+  pub round-over : (u : Turn) (old : List ℕ) (mode : Mode) → mode ≡ modeIn numbers → u ≡ untouched Over → mode ≡ Ended → Turned (round (chartOf chart) (nameAt names) this) this u numbers internal external old old
   unfolding roundIn
-  round-over u old y e = turned-over (round (chartOf chart) (nameAt names) f) f s u history internal external old (h .spells) y (sym (round-mode Ended e))
+  round-over u old mode at y e = turned-over (round (chartOf chart) (nameAt names) this) this u numbers internal external old (h .spells) y (sym (round-mode Ended (sym at ∙ e)))

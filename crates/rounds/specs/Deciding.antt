@@ -1,108 +1,170 @@
 -- What a round of a running session decides before anything is written: the choice, the plan, and whether it is refused.
 use mathlib.Core.Path.{_≡_, refl, sym, ap, subst, _∙_}
 use mathlib.Core.List.{List}
+use mathlib.Core.Option.{none}
 use Prim.Native.Nat.{ℕ, _+_, _≤_}
+use native.Mathlib.Omega.{arith}
 use lib.Dec.{ltb}
-use lib.ListN.{length}
+use lib.ListN.{length, take, length-append}
 use Rattle.definition.specs.declared.Mode.the-variants.{Running}
-use Rattle.definition.specs.Tables.{transitionCount, nameAt, chartOf}
-use Rattle.follower.specs.Blocks.{Effect}
-use Rattle.follower.specs.Microstep.{exits, storedIn}
-use Rattle.follower.specs.Follower.{Follower, Round, roundIn, refusalIf, refusal}
-use Rattle.rowset.specs.declared.RowSet.{RowSet}
+use Rattle.definition.specs.Rows.{flat}
+use Rattle.definition.specs.Chart.{Chart}
+use Rattle.definition.specs.Tables.{nameAt, chartOf}
+use Rattle.follower.specs.Blocks.{Effect, queued}
+use Rattle.follower.specs.Selection.{History}
+use Rattle.follower.specs.Follower.{Follower, did, roundIn, refusalIf, refusal}
+use Rattle.theory.specs.Runs.{Fits, not-refused}
 use Rattle.rowset.specs.Member.{rowsOf}
-use Rattle.matching.specs.Chosen.{listOf, Taken}
+use Rattle.matching.specs.Chosen.{listOf, Taken, chosen-length}
+use Rattle.selection.specs.declared.Selected.{Selected}
 use Rattle.selection.specs.History.{storedAt}
-use Rattle.selection.specs.FixedDomains.{DomainsFixed}
+use Rattle.selection.specs.Ready.{Selects}
 use Rattle.effects.specs.declared.Tally.{Tally}
+use Rattle.effects.specs.Trace.{queues-all}
 use Rattle.microstep.specs.declared.Plan.{Plan}
 use Rattle.microstep.specs.Stored.{RoundReady}
-use Rattle.microstep.specs.Plan.{Planned, PlanReady, planEffects, plan-effects}
-use Rattle.state.specs.declared.State.{State}
+use Rattle.microstep.specs.Plan.{Planned, PlanReady, planEffects}
+use Rattle.lookup.specs.declared.RowKinds.{RowKinds}
+use Rattle.lookup.specs.Lookup.{IndexOf, Lookup}
+use Rattle.state.specs.State.{configurationIn, historyIn, internalIn, stateAt, HoldsAt}
+use Rattle.state.specs.Places.{numbers-size}
 use Rattle.events.specs.declared.Source.{Source}
 use Rattle.events.specs.declared.Source.the-variants.{Nothing}
 use Rattle.events.specs.declared.Choice.{Choice}
 use Rattle.events.specs.Rounds.{internalAfter, internalBytes, roundBy, Chooses}
-use Rattle.events.specs.Left.{internalLeft, QueueIs, event-left}
+use Rattle.events.specs.Left.{internalLeft, QueueIs}
+use Rattle.events.specs.Choosing.{conf-read}
 use Rattle.rounds.specs.declared.Outcome.{Outcome}
 use Rattle.rounds.specs.declared.Outcome.the-variants.{Idle, Did}
 use Rattle.rounds.specs.declared.Turn.{Turn}
-use Rattle.rounds.specs.Turns.{judged, judged-none, untouched, Turned, turned-idle, turned-refused}
-use Rattle.rounds.specs.Judging.{Counted, refusal-judged, LeavesInternal}
-use Rattle.rounds.specs.Taking.{spelled, HoldsAt, Given, roundEffects, nextBy, round-did, HasChosen, picked-first, Decided, round-ready, leaves-internal, planned-from}
+use Rattle.rounds.specs.declared.Step.{Step}
+use Rattle.rounds.specs.Turns.{judged, judged-none, untouched, Turned, turned-idle, turned-refused, turned-did}
+use Rattle.rounds.specs.Traces.{Filled, Drafted, Joined, joined-all, joined-in, joined-size, wrote-entries, wrote-trace}
+use Rattle.rounds.specs.Judging.{Counted, refusal-judged}
+use Rattle.rounds.specs.Taking.{roundEffects, nextBy, round-did, StepReady, Decided, Commits, round-ready, left, shown}
 
-module _ (chart names starts domains : List ℕ) (atoms eventless histories : RowSet) (s : State) (history internal external : List ℕ) (g : Given chart names starts domains atoms eventless histories)
-    (h : HoldsAt chart s history internal external) (items : List ℕ) (choice : Choice) (ch : Chooses (chartOf chart) (nameAt names) (spelled chart s history internal external) (storedAt history) items choice) where
+-- ---- the choice
+
+pub chosen-fit : (c : Chart) (conf : List ℕ) (hist : History) (items : List ℕ) (r : Selected) → Selects c conf hist items r → Taken (c .transitions) (listOf items (r .len))
+chosen-fit c conf hist items r h = record {
+  most = let e = chosen-length (c .transitions) items (r .len) (h .fits) in let m = h .fits .most in omega arith;
+  inside = h .fits .inside;
+}
+
+module _ (chart names index : List ℕ) (kinds : RowKinds) (numbers internal external : List ℕ) (g : Lookup chart names index kinds) (h : HoldsAt chart numbers internal external)
+    (items : List ℕ) (choice : Choice) (ch : Chooses (chartOf chart) (nameAt names) (stateAt chart numbers internal external) (storedAt (historyIn numbers)) items choice) where
+  abbrev f : Follower
+  f = stateAt chart numbers internal external
+
+  abbrev ts : List ℕ
+  ts = listOf items (choice .selected .len)
+
   -- nothing is left to choose
-  pub taken-idle : (t : Turn) (old : List ℕ) → t ≡ untouched s Idle → choice .source ≡ Nothing →
-      Turned (roundIn Running (chartOf chart) (nameAt names) (spelled chart s history internal external)) (spelled chart s history internal external) t history internal external old old
+  pub taken-idle : (t : Turn) (old : List ℕ) → t ≡ untouched Idle → choice .source ≡ Nothing → Turned (roundIn Running (chartOf chart) (nameAt names) f) f t numbers internal external old old
   unfolding roundBy
   taken-idle t old q e =
-      let f = spelled chart s history internal external in
-      turned-idle (roundIn Running (chartOf chart) (nameAt names) f) f s t history internal external old (h .spells) q
-      (ch .is ∙ ap (λ (source : Source). roundBy source (chartOf chart) (nameAt names) f (listOf items (choice .selected .len))) e)
+      turned-idle (roundIn Running (chartOf chart) (nameAt names) f) f t numbers internal external old (h .spells) q
+      (ch .is ∙ ap (λ (source : Source). roundBy source (chartOf chart) (nameAt names) f ts) e)
 
-  pub has-chosen : (choice .source ≡ Nothing → ⊥) → HasChosen chart names atoms histories s history internal external choice (listOf items (choice .selected .len))
-  has-chosen z = record {
-    compiled = g .looked .prepared .compiled;
-    atomic = g .looked .prepared .atomic;
-    stores = g .stores;
-    holds = h;
-    chooses = picked-first (chartOf chart) (nameAt names) (spelled chart s history internal external) (storedAt history) items choice ch;
-    some = z;
-  }
-
-module _ (chart names : List ℕ) (atoms histories : RowSet) (s : State) (history internal external : List ℕ) (choice : Choice) (ts : List ℕ)
-    (g : HasChosen chart names atoms histories s history internal external choice ts) where
-  abbrev f : Follower
-  f = spelled chart s history internal external
-
-  -- the round that was chosen is the session's
-  pub taken-turn : (t : Turn) (stored inner outer old new : List ℕ) → Turned (roundBy (choice .source) (chartOf chart) (nameAt names) f ts) f t stored inner outer old new →
-      Turned (roundIn Running (chartOf chart) (nameAt names) f) f t stored inner outer old new
-  taken-turn t stored inner outer old new = subst (λ (r : Round). Turned r f t stored inner outer old new) (sym (g .chooses .is))
-
-  pub plan-ready : (domains : List ℕ) → DomainsFixed (chartOf chart) domains → DomainsFixed (chartOf chart) domains × RoundReady chart history atoms (s .configuration) × Taken (transitionCount chart) ts ×
-      (rowsOf (choice .selected .exits) ≡ exits (chartOf chart) (rowsOf (s .configuration)) (storedAt history) ts)
-  plan-ready domains fixed = (
-    fixed,
-    round-ready chart names (g .compiled) f s history internal external (g .holds) atoms (g .atomic),
-    g .chooses .fits,
-    g .chooses .exits ∙ ap (λ (conf : List ℕ). exits (chartOf chart) conf (storedAt history) ts) (sym (g .holds .spells .configuration)),
+  pub plan-asks : IndexOf (chartOf chart) index × (length numbers ≡ 1031) × RoundReady chart (historyIn numbers) (kinds .atomic) (configurationIn numbers) ×
+      Selects (chartOf chart) (rowsOf (configurationIn numbers)) (storedAt (historyIn numbers)) items (choice .selected)
+  plan-asks = (
+    g .indexed,
+    numbers-size f numbers internal external (h .spells),
+    round-ready chart names (g .compiled) f numbers internal external h (kinds .atomic) (g .rows .atomic),
+    subst (λ (conf : List ℕ). Selects (chartOf chart) conf (storedAt (historyIn numbers)) items (choice .selected)) (sym (conf-read chart names (g .compiled) f numbers internal external h)) (ch .selected),
   )
 
-  pub choice-leaves : LeavesInternal (choice .source) (s .internal)
-  choice-leaves = leaves-internal chart names (g .compiled) f s history internal external (g .holds) (choice .source) (g .chooses .internal)
+  pub step-ready : (choice .source ≡ Nothing → ⊥) → (step : Step) → (step .source ≡ choice .source) ×
+      Planned (chartOf chart) (rowsOf (configurationIn numbers)) (storedAt (historyIn numbers)) ts (step .plan) × PlanReady chart (step .plan) → StepReady chart names kinds numbers internal external step ts
+  step-ready z step p = record {
+    compiled = g .compiled;
+    rows = g .rows;
+    holds = h;
+    is = rw (p .0) (ch .is);
+    fits = chosen-fit (chartOf chart) (rowsOf (configurationIn numbers)) (storedAt (historyIn numbers)) items (choice .selected) (plan-asks .3);
+    inner = rw (p .0) (ch .internal);
+    outer = rw (p .0) (ch .external);
+    some = rw (p .0) z;
+    planned = p .1;
+    ready = p .2;
+  }
 
-  module _ (kept : ℕ) (n : kept ≡ internalLeft (choice .source) (s .internal)) where
-    waiting : QueueIs (internalAfter (choice .source) f) (internalBytes (choice .source) internal) kept
-    waiting = rw n ((event-left (chartOf chart) f s history internal external (choice .source) (g .holds) (g .chooses .internal) (g .chooses .external)) .internal)
+-- ---- 7 and 10
 
-    pub few-kept : kept ≤ 32
-    few-kept = waiting .short
+module _ (chart names : List ℕ) (kinds : RowKinds) (numbers internal external : List ℕ) (step : Step) (ts : List ℕ) (g : StepReady chart names kinds numbers internal external step ts)
+    (kept : ℕ) (n : kept ≡ internalLeft (step .source) (internalIn numbers)) where
+  abbrev from : Follower
+  from = stateAt chart numbers internal external
 
-    module _ (plan : Plan) (p : Planned (chartOf chart) (rowsOf (s .configuration)) (storedAt history) ts plan × PlanReady chart plan) (t : Tally) (q : Counted t (planEffects (chartOf chart) plan ts))
-        (room : ℕ) (o : Outcome) (j : o ≡ judged (refusalIf (ltb 32 (kept + t .names)) (ltb room (t .entries)))) where
-      abbrev es : List Effect
-      es = roundEffects (chartOf chart) f ts
+  abbrev es : List Effect
+  es = roundEffects (chartOf chart) from ts
 
-      abbrev next : Follower
-      next = nextBy (choice .source) (chartOf chart) (nameAt names) f ts
+  abbrev next : Follower
+  next = nextBy (step .source) (chartOf chart) (nameAt names) from ts
 
-      counted : Counted t es
-      counted =
-          subst (Counted t)
-          (plan-effects (chartOf chart) (f .configuration) (storedIn (f .history)) ts plan
-          (planned-from chart names (g .compiled) f s history internal external (g .holds) ts plan (p .0))) q
+  waiting : QueueIs (internalAfter (step .source) from) (internalBytes (step .source) internal) kept
+  waiting = rw n (left chart names kinds numbers internal external step ts g .internal)
 
-      is-judged : o ≡ judged (refusal room next es)
-      unfolding nextBy
-      is-judged = j ∙ ap judged (refusal-judged (chartOf chart) (nameAt names) room kept t (internalAfter (choice .source) f) next es counted (waiting .count) refl)
+  pub few-kept : kept ≤ 32
+  few-kept = waiting .short
 
-      pub taken-refused : (u : Turn) (old : List ℕ) → u ≡ untouched s o → length old ≡ room → (o ≡ Did → ⊥) → Turned (roundIn Running (chartOf chart) (nameAt names) f) f u history internal external old old
-      taken-refused u old y e z =
-          turned-refused (roundIn Running (chartOf chart) (nameAt names) f) f s u history internal external old (g .holds .spells) o y next es
-          (g .chooses .is ∙ round-did (choice .source) (chartOf chart) (nameAt names) f ts (g .some)) (rw e is-judged) z
+  is-round : roundIn Running (chartOf chart) (nameAt names) from ≡ did next es
+  is-round = g .is ∙ round-did (step .source) (chartOf chart) (nameAt names) from ts (g .some)
 
-      pub is-decided : o ≡ Did → Decided chart names atoms histories s history internal external choice ts plan room
-      is-decided e = record { chosen = g; planned = p .0; ready = p .1; goes = judged-none (refusal room next es) (sym is-judged ∙ e) }
+  module _ (t : Tally) (q : Counted t (planEffects (chartOf chart) (step .plan) ts)) (old : List ℕ) (o : Outcome)
+      (j : o ≡ judged (refusalIf (ltb 32 (kept + t .names)) (ltb (length old) (t .entries)))) where
+    is-judged : o ≡ judged (refusal (length old) next es)
+    unfolding nextBy
+    is-judged =
+        j ∙
+        ap judged (refusal-judged (chartOf chart) (nameAt names) (length old) kept t (internalAfter (step .source) from) next es
+        (subst (Counted t) (shown chart names kinds numbers internal external step ts g) q) (waiting .count) refl)
+
+    pub taken-refused : (u : Turn) → u ≡ untouched o → (o ≡ Did → ⊥) → Turned (roundIn Running (chartOf chart) (nameAt names) from) from u numbers internal external old old
+    taken-refused u y z =
+        turned-refused (roundIn Running (chartOf chart) (nameAt names) from) from u numbers internal external old (g .holds .spells) o y next es is-round is-judged z
+
+    module _ (e : o ≡ Did) where
+      goes : refusal (length old) next es ≡ none
+      goes = judged-none (refusal (length old) next es) (sym is-judged ∙ e)
+
+      fits : Fits (length old) next es
+      fits = not-refused (length old) next es goes
+
+      -- the entries that were drafted have room
+      pub draft-fits : (draft : List ℕ) → Drafted draft t (planEffects (chartOf chart) (step .plan) ts) → t .entries ≤ length old
+      draft-fits draft w = let l = fits .roomy in let e = w .wrote .entries in let n = ap {B = ℕ} length (shown chart names kinds numbers internal external step ts g) in omega arith
+
+      module _ (joins : List ℕ) (v : Joined joins t (planEffects (chartOf chart) (step .plan) ts)) where
+        joined-es : Joined joins t es
+        joined-es = subst (Joined joins t) (shown chart names kinds numbers internal external step ts g) v
+
+        -- no more join than are kept
+        pub few-join : t .names ≤ 32
+        unfolding nextBy
+        few-join =
+            let a = fits .short in
+            let b = joined-es .names in
+            let d = length-append (internalAfter (step .source) from) (flat (queued (chartOf chart) (nameAt names)) es) in
+            let e = queues-all (chartOf chart) (nameAt names) es in
+            omega arith
+
+        pub joins-fit : t .names ≤ length joins
+        joins-fit = joined-in joins t es joined-es few-join
+
+        pub joins-size : t .names ≡ length (take (t .names) joins)
+        joins-size = joined-size joins t es joined-es few-join
+
+        pub is-decided : Decided chart names kinds numbers internal external step (take (t .names) joins)
+        is-decided = record { chosen = ts; made = g; joined = joined-all joins t es joined-es few-join; short = fits .short }
+
+        -- shown and kept, it is done
+        pub taken-did : (new : List ℕ) → Filled old new t (planEffects (chartOf chart) (step .plan) ts) → (numbersNow internalNow externalNow : List ℕ) →
+            Commits chart names kinds numbers internal external step (take (t .names) joins) numbersNow internalNow externalNow →
+            Turned (roundIn Running (chartOf chart) (nameAt names) from) from (record { outcome = Did; count = t .entries }) numbersNow internalNow externalNow old new
+        unfolding is-decided
+        taken-did new w numbersNow internalNow externalNow k =
+            let v : Filled old new t es = subst (Filled old new t) (shown chart names kinds numbers internal external step ts g) w in
+            turned-did (roundIn Running (chartOf chart) (nameAt names) from) from (record { outcome = Did; count = t .entries }) numbersNow internalNow externalNow old new next es is-round goes refl
+            (k .next is-decided) (wrote-entries old new t es (fits .roomy) v) (wrote-trace old new t es (fits .roomy) v)

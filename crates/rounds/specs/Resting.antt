@@ -25,9 +25,9 @@ use Rattle.matching.specs.Chosen.{listOf, chosen-length}
 use Rattle.selection.specs.declared.Selected.{Selected}
 use Rattle.selection.specs.History.{storedAt}
 use Rattle.selection.specs.Ready.{IsSelected}
-use Rattle.state.specs.declared.State.{State}
-use Rattle.events.specs.Choosing.{history-read}
-use Rattle.rounds.specs.Taking.{spelled, HoldsAt}
+use Rattle.state.specs.State.{configurationIn, historyIn, internalIn, externalIn, modeIn, stateAt, HoldsAt}
+use Rattle.state.specs.Places.{reads-internal, reads-external}
+use Rattle.events.specs.Choosing.{conf-read, history-read}
 use Rattle.rounds.specs.Closing.{round-mode}
 
 -- by the mode, how many names wait in each queue, and what an eventless round selects
@@ -103,14 +103,16 @@ module _ (c : Chart) (names : Names) (f : Follower) where
   unfolding selectedBy
   by-counts m i e conf hist a b p q = rw (a, b, p, q) (by-mode m)
 
-module _ (chart names : List ℕ) (k : CompiledWith chart names) (s : State) (history internal external : List ℕ) (h : HoldsAt chart s history internal external) where
+module _ (chart names : List ℕ) (k : CompiledWith chart names) (numbers internal external : List ℕ) (h : HoldsAt chart numbers internal external) where
   abbrev f : Follower
-  f = spelled chart s history internal external
+  f = stateAt chart numbers internal external
 
-  pub rest-is : (st : Status) → st ≡ restBy (s .mode) (s .internal) (s .external) (selected (chartOf chart) (nameAt names) (rowsOf (s .configuration)) (storedAt history) none) →
+  pub rest-is : (st : Status) →
+      st ≡ restBy (modeIn numbers) (internalIn numbers) (externalIn numbers) (selected (chartOf chart) (nameAt names) (rowsOf (configurationIn numbers)) (storedAt (historyIn numbers)) none) →
       st ≡ restStatus (round (chartOf chart) (nameAt names) f)
   rest-is st e =
       e ∙
-      by-counts (chartOf chart) (nameAt names) f (s .mode) (s .internal) (s .external) (rowsOf (s .configuration)) (storedAt history) (h .spells .internalCount) (h .spells .externalCount) (h .spells .configuration)
-      (history-read chart names k f s history internal external h) ∙
-      ap restStatus (round-mode chart names s history internal external h (s .mode) refl)
+      by-counts (chartOf chart) (nameAt names) f (modeIn numbers) (internalIn numbers) (externalIn numbers) (rowsOf (configurationIn numbers)) (storedAt (historyIn numbers))
+      (reads-internal f numbers internal external (h .spells)) (reads-external f numbers internal external (h .spells)) (conf-read chart names k f numbers internal external h)
+      (history-read chart names k f numbers internal external h) ∙
+      ap restStatus (round-mode chart names numbers internal external h (modeIn numbers) refl)

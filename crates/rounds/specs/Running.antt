@@ -13,16 +13,14 @@ use Rattle.follower.specs.Blocks.{Effect}
 use Rattle.follower.specs.Follower.{Follower, Round, idle, over, did, round, refusal, Ran, stopped, counted, restStatus, run}
 use Rattle.theory.specs.Runs.{not-refused, run-zero, run-idle, run-over, run-refused, run-round}
 use Rattle.chart.specs.Ready.{CompiledWith}
-use Rattle.state.specs.declared.State.{State}
-use Rattle.state.specs.State.{Spells, Holds, traceWith}
-use Rattle.events.specs.Choosing.{history-size, internal-size, external-size}
+use Rattle.state.specs.State.{Spells, Holds, traceWith, stateAt, HoldsAt}
+use Rattle.state.specs.Places.{numbers-size, internal-size, external-size, state-again}
 use Rattle.rounds.specs.declared.Outcome.the-variants.{Did}
 use Rattle.rounds.specs.declared.Turn.{Turn}
 use Rattle.rounds.specs.declared.Progress.{Progress}
 use Rattle.rounds.specs.Calls.{RunDone}
 use Rattle.rounds.specs.Turns.{judged, judged-none, nextUnless, shownUnless, outcomeOf, followerAfter, effectsOf, statusOf, Turned}
 use Rattle.rounds.specs.Traces.{part-behind, part-length, part-back, back-length, written-both, trace-length}
-use Rattle.rounds.specs.Taking.{spelled, HoldsAt, spelled-again}
 use Rattle.rounds.specs.Keeping.{round-formed}
 
 -- ---- a round that was done, and one that was not
@@ -84,17 +82,17 @@ pub record Reached (r rest : Ran) (old trace : List ℕ) (done count : ℕ) : Ty
   pub effects : length (r .effects) ≡ count + length (rest .effects)
   pub written : traceWith old (r .effects) ≡ take count trace ++ traceWith (drop count trace) (rest .effects)
 
-pub record RunsOn (chart names : List ℕ) (s₀ : State) (history₀ internal₀ external₀ : List ℕ) (asked : ℕ) (old history internal external trace : List ℕ) (s : State) (done count : ℕ) : Type 0 where
-  pub holds : HoldsAt chart s history internal external
+pub record RunsOn (chart names numbers₀ internal₀ external₀ : List ℕ) (asked : ℕ) (old numbers internal external trace : List ℕ) (done count : ℕ) : Type 0 where
+  pub holds : HoldsAt chart numbers internal external
   pub low : done ≤ asked
   pub room : count ≤ length trace
   pub size : length trace ≡ length old
-  pub reached : Reached (run (chartOf chart) (nameAt names) asked (spelled chart s₀ history₀ internal₀ external₀) (length old))
-      (run (chartOf chart) (nameAt names) (asked - done) (spelled chart s history internal external) (length trace - count)) old trace done count
+  pub reached : Reached (run (chartOf chart) (nameAt names) asked (stateAt chart numbers₀ internal₀ external₀) (length old))
+      (run (chartOf chart) (nameAt names) (asked - done) (stateAt chart numbers internal external) (length trace - count)) old trace done count
 
-pub runs-begin : (chart names : List ℕ) (s : State) (history internal external : List ℕ) (asked : ℕ) (old : List ℕ) → HoldsAt chart s history internal external →
-    RunsOn chart names s history internal external asked old history internal external old s 0 0
-runs-begin chart names s history internal external asked old h =
+pub runs-begin : (chart names : List ℕ) (numbers internal external : List ℕ) (asked : ℕ) (old : List ℕ) → HoldsAt chart numbers internal external →
+    RunsOn chart names numbers internal external asked old numbers internal external old 0 0
+runs-begin chart names numbers internal external asked old h =
     let a : asked - 0 ≡ asked = omega arith in
     let b : length old - 0 ≡ length old = omega arith in
     record {
@@ -105,20 +103,21 @@ runs-begin chart names s history internal external asked old h =
       reached = rw (a, b) (record { status = refl; rounds = omega arith; follower = refl; effects = omega arith; written = refl });
     }
 
-module _ (chart names : List ℕ) (k : CompiledWith chart names) (s₀ : State) (history₀ internal₀ external₀ : List ℕ) (asked : ℕ) (old history internal external trace : List ℕ) (s : State) (done count : ℕ)
-    (g : RunsOn chart names s₀ history₀ internal₀ external₀ asked old history internal external trace s done count) where
+module _ (chart names : List ℕ) (k : CompiledWith chart names) (numbers₀ internal₀ external₀ : List ℕ) (asked : ℕ) (old numbers internal external trace : List ℕ) (done count : ℕ)
+    (g : RunsOn chart names numbers₀ internal₀ external₀ asked old numbers internal external trace done count) where
   abbrev f : Follower
-  f = spelled chart s history internal external
+  f = stateAt chart numbers internal external
 
   abbrev whole : Ran
-  whole = run (chartOf chart) (nameAt names) asked (spelled chart s₀ history₀ internal₀ external₀) (length old)
+  whole = run (chartOf chart) (nameAt names) asked (stateAt chart numbers₀ internal₀ external₀) (length old)
 
-  pub same-sizes : HoldsAt chart s₀ history₀ internal₀ external₀ → (length history ≡ length history₀) × (length internal ≡ length internal₀) × (length external ≡ length external₀)
-  same-sizes h = (
-    history-size chart names k f s history internal external (g .holds) ∙ sym (history-size chart names k (spelled chart s₀ history₀ internal₀ external₀) s₀ history₀ internal₀ external₀ h),
-    internal-size chart names k f s history internal external (g .holds) ∙ sym (internal-size chart names k (spelled chart s₀ history₀ internal₀ external₀) s₀ history₀ internal₀ external₀ h),
-    external-size chart names k f s history internal external (g .holds) ∙ sym (external-size chart names k (spelled chart s₀ history₀ internal₀ external₀) s₀ history₀ internal₀ external₀ h),
-  )
+  pub same-sizes : HoldsAt chart numbers₀ internal₀ external₀ → (length numbers ≡ length numbers₀) × (length internal ≡ length internal₀) × (length external ≡ length external₀)
+  same-sizes h =
+      let f₀ = stateAt chart numbers₀ internal₀ external₀ in (
+        numbers-size f numbers internal external (g .holds .spells) ∙ sym (numbers-size f₀ numbers₀ internal₀ external₀ (h .spells)),
+        internal-size f numbers internal external (g .holds .spells) ∙ sym (internal-size f₀ numbers₀ internal₀ external₀ (h .spells)),
+        external-size f numbers internal external (g .holds .spells) ∙ sym (external-size f₀ numbers₀ internal₀ external₀ (h .spells)),
+      )
 
   nothing-more : take count trace ++ traceWith (drop count trace) [] ≡ trace
   unfolding traceWith
@@ -126,7 +125,7 @@ module _ (chart names : List ℕ) (k : CompiledWith chart names) (s₀ : State) 
 
   -- the rest of the run does nothing
   finish : (st : Status) → run (chartOf chart) (nameAt names) (asked - done) f (length trace - count) ≡ stopped st f → (p : Progress) (stored inner outer new : List ℕ) →
-      p .status ≡ st → p .rounds ≡ done → p .count ≡ count → Spells f (p .state) stored inner outer → new ≡ trace → RunDone whole p stored inner outer old new
+      p .status ≡ st → p .rounds ≡ done → p .count ≡ count → Spells f stored inner outer → new ≡ trace → RunDone whole p stored inner outer old new
   unfolding stopped
   finish st e p stored inner outer new a b n w q =
       let r : Reached whole (stopped st f) old trace done count = rw e at (g .reached) in
@@ -136,17 +135,17 @@ module _ (chart names : List ℕ) (k : CompiledWith chart names) (s₀ : State) 
         status = a ∙ sym (r .status);
         rounds = omega arith;
         count = omega arith;
-        state = subst (λ (z : Follower). Spells z (p .state) stored inner outer) (sym (r .follower)) w;
+        state = subst (λ (z : Follower). Spells z stored inner outer) (sym (r .follower)) w;
         written = q ∙ sym (r .written ∙ nothing-more);
       }
 
   -- all rounds are done
   pub run-ended : asked ≤ done → (st : Status) → st ≡ restStatus (round (chartOf chart) (nameAt names) f) →
-      RunDone whole (record { state = s; status = st; rounds = done; count = count }) history internal external old trace
+      RunDone whole (record { status = st; rounds = done; count = count }) numbers internal external old trace
   run-ended l st e =
       let n : asked - done ≡ 0 = omega arith in
       finish (restStatus (round (chartOf chart) (nameAt names) f)) (rw n (run-zero (chartOf chart) (nameAt names) f (length trace - count)))
-      (record { state = s; status = st; rounds = done; count = count }) history internal external trace e refl refl (g .holds .spells) refl
+      (record { status = st; rounds = done; count = count }) numbers internal external trace e refl refl (g .holds .spells) refl
 
   -- one round: the part of the trace behind the entries was lent to it
   module _ (t : Turn) (stored inner outer part : List ℕ)
@@ -185,17 +184,16 @@ module _ (chart names : List ℕ) (k : CompiledWith chart names) (s₀ : State) 
       more : asked - done ≡ suc (asked - (done + 1))
       more = omega arith
 
-      pub run-stops : (t .outcome ≡ Did → ⊥) → (st : Status) → st ≡ statusOf (t .outcome) →
-          RunDone whole (record { state = t .state; status = st; rounds = done; count = count + t .count }) stored inner outer old new
+      pub run-stops : (t .outcome ≡ Did → ⊥) → (p : Progress) → p ≡ record { status = statusOf (t .outcome); rounds = done; count = count + t .count } → RunDone whole p stored inner outer old new
       unfolding traceWith
-      run-stops z st e =
+      run-stops z p e =
           let x : Stops (chartOf chart) (nameAt names) (asked - (done + 1)) f here this = stops-at (chartOf chart) (nameAt names) (asked - (done + 1)) f here this refl (λ q. z (turned .outcome ∙ q)) in
           let none : t .count ≡ 0 = turned .count ∙ ap {B = ℕ} length (x .effects) in
           let same : part ≡ drop count trace = turned .written ∙ ap (traceWith (drop count trace)) (x .effects) in
           let stop : run (chartOf chart) (nameAt names) (asked - done) f (length trace - count) ≡ stopped (statusOf (outcomeOf here this)) f = rw (more, ← room-is) (x .stops) in
           finish (statusOf (outcomeOf here this)) stop
-          (record { state = t .state; status = st; rounds = done; count = count + t .count }) stored inner outer new (e ∙ ap statusOf (turned .outcome)) refl (omega arith)
-          (subst (λ (y : Follower). Spells y (t .state) stored inner outer) (x .follower) (turned .state))
+          p stored inner outer new (ap (λ (x : Progress). x .status) e ∙ ap statusOf (turned .outcome)) (ap (λ (x : Progress). x .rounds) e) (let n = ap {B = ℕ} (λ (x : Progress). x .count) e in omega arith)
+          (subst (λ (y : Follower). Spells y stored inner outer) (x .follower) (turned .state))
           (part-back trace count (g .room) part ∙ ap (λ (xs : List ℕ). take count trace ++ xs) same ∙ take-append-drop count trace)
 
       module _ (o : t .outcome ≡ Did) where
@@ -205,14 +203,14 @@ module _ (chart names : List ℕ) (k : CompiledWith chart names) (s₀ : State) 
         count-is : t .count ≡ length (d .effects)
         count-is = turned .count ∙ ap {B = ℕ} length (did-effects here f this d)
 
-        holds-next : Holds (chartOf chart) (d .next) (t .state) stored inner outer
+        holds-next : Holds (chartOf chart) (d .next) stored inner outer
         holds-next = record {
-          spells = subst (λ (y : Follower). Spells y (t .state) stored inner outer) (did-follower here f this d) (turned .state);
+          spells = subst (λ (y : Follower). Spells y stored inner outer) (did-follower here f this d) (turned .state);
           formed = round-formed chart names k f (d .next) (d .effects) here (g .holds .formed) (d .is) (d .goes);
         }
 
-        again : spelled chart (t .state) stored inner outer ≡ d .next
-        again = spelled-again chart names k (d .next) (t .state) stored inner outer holds-next
+        again : stateAt chart stored inner outer ≡ d .next
+        again = state-again (chartOf chart) (k .ready .sound .tree) (let n = k .ready .tables .sized .counts .rows in omega arith) (d .next) stored inner outer holds-next
 
         new-is : new ≡ take count trace ++ traceWith (drop count trace) (d .effects)
         new-is =
@@ -244,13 +242,13 @@ module _ (chart names : List ℕ) (k : CompiledWith chart names) (s₀ : State) 
                   ap₂ {C = List ℕ} (λ (m : ℕ) (xs : List ℕ). take m xs ++ traceWith (drop m xs) (rest .effects)) (ap (λ (m : ℕ). count + m) (sym n)) (sym new-is);
             }
 
-        pub runs-again : RunsOn chart names s₀ history₀ internal₀ external₀ asked old stored inner outer new (t .state) (done + 1) (count + t .count)
+        pub runs-again : RunsOn chart names numbers₀ internal₀ external₀ asked old stored inner outer new (done + 1) (count + t .count)
         runs-again =
             let m = new-length in
             let n = count-is in
             let left : length new - (count + t .count) ≡ length trace - count - length (d .effects) = omega arith in
             record {
-              holds = subst (λ (y : Follower). Holds (chartOf chart) y (t .state) stored inner outer) (sym again) holds-next;
+              holds = subst (λ (y : Follower). Holds (chartOf chart) y stored inner outer) (sym again) holds-next;
               low = omega arith;
               room = let q = count-fits in omega arith;
               size = m ∙ g .size;

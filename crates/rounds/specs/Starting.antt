@@ -1,6 +1,6 @@
 -- A start: what is judged and written is the definition's.
 use mathlib.Core.Path.{_≡_, refl, sym, ap, ap₂, subst, _∙_}
-use mathlib.Core.List.{List, [], _++_, map}
+use mathlib.Core.List.{List, [], _∷_, _++_, map}
 use mathlib.Core.Option.{Option, none, some}
 use Prim.Native.Nat.{ℕ, _+_, _≤_}
 use native.Mathlib.Nat.{zero-add}
@@ -10,12 +10,15 @@ use lib.ListN.{length, take, replicate}
 use Rattle.definition.specs.declared.Answer.{Answer}
 use Rattle.definition.specs.declared.Answer.the-variants.{Done}
 use Rattle.definition.specs.declared.Mode.{Mode}
+use Rattle.definition.specs.declared.Mode.the-variants.{Ended}
 use Rattle.definition.specs.Rows.{from, flat}
 use Rattle.definition.specs.Names.{Name}
 use Rattle.definition.specs.Chart.{Chart}
 use Rattle.definition.specs.Tables.{rowCount, nameAt, chartOf}
 use Rattle.follower.specs.Blocks.{Effect, traceNo, queued}
 use Rattle.follower.specs.Microstep.{Entry, entering}
+use Rattle.definition.specs.Answers.{modeNo}
+use Rattle.definition.specs.Compiled.{words}
 use Rattle.follower.specs.Follower.{Follower, noHistory, endedFollower, modeOf, refusalIf, refusal, firstEntry, firstEffects, firstFollower, startOr, start}
 use Rattle.theory.specs.Runs.{Fits, not-refused}
 use Rattle.rowset.specs.Member.{rowsOf}
@@ -28,9 +31,8 @@ use Rattle.microstep.specs.Entry.{enteredAs}
 use Rattle.microstep.specs.Plan.{first-effects}
 use Rattle.legality.specs.Rows.{RowsReady}
 use Rattle.queue.specs.Queues.{queueBytes, queueOf, queue-none}
-use Rattle.state.specs.declared.State.{State}
-use Rattle.state.specs.State.{historyWords, traceWith}
-use Rattle.state.specs.Words.{history-none}
+use Rattle.state.specs.State.{historyWords, numbersOf, historyIn, traceWith}
+use Rattle.state.specs.Words.{words-none, history-none}
 use Rattle.events.specs.Rounds.{queuedNames, JoinsIn}
 use Rattle.events.specs.Entries.{JoinsStand, start-joins}
 use Rattle.rounds.specs.declared.Outcome.{Outcome}
@@ -39,14 +41,18 @@ use Rattle.rounds.specs.Calls.{StartDone}
 use Rattle.rounds.specs.Turns.{judged, judged-some}
 use Rattle.rounds.specs.Traces.{nothing, Filled, Joined, filled-again, joined-all, joined-in, joined-size, wrote-entries, wrote-trace}
 use Rattle.rounds.specs.Judging.{Counted, refusal-judged}
-use Rattle.rounds.specs.Closing.{IsEnded}
 
 -- a session of zeros stores nothing
 pub zeros-none : (c : Chart) → replicate 1024 0 ≡ historyWords (noHistory c)
 unfolding noHistory
 zeros-none c = history-none (c .rows)
 
-module _ (chart names : List ℕ) (k : CompiledWith chart names) (internal old : List ℕ) (z : internal ≡ replicate 2048 0) (e : Entered)
+-- zeros are the numbers of an ended session
+zeros-ended : (c : Chart) → replicate 1031 0 ≡ numbersOf (words []) (historyWords (noHistory c)) 0 0 (modeNo Ended)
+unfolding numbersOf modeNo
+zeros-ended c = let w = sym words-none in let h = zeros-none c in λ j. w j ++ (h j ++ (0 ∷ 0 ∷ 0 ∷ []))
+
+module _ (chart names : List ℕ) (k : CompiledWith chart names) (numbers internal old : List ℕ) (y : numbers ≡ replicate 1031 0) (z : internal ≡ replicate 2048 0) (e : Entered)
     (q : (enteredAs e ≡ firstEntry (chartOf chart)) × Within (rowCount chart) (rowsOf (e .set))) (t : Tally) (n : Counted t (entering (chartOf chart) [] (enteredAs e) [])) (o : Outcome)
     (j : o ≡ judged (refusalIf (ltb 32 (0 + t .names)) (ltb (length old) (t .entries)))) where
   abbrev es : List Effect
@@ -63,25 +69,19 @@ module _ (chart names : List ℕ) (k : CompiledWith chart names) (internal old :
   is-judged = j ∙ ap judged (refusal-judged (chartOf chart) (nameAt names) (length old) 0 t [] first es (subst (Counted t) shown n) refl refl)
 
   -- refused: an ended session, and nothing changed
-  pub start-refused : (a : Answer) → o ≡ Refused a → (s : State) → IsEnded s →
-      StartDone (start (chartOf chart) (nameAt names) (length old)) (record { state = s; answer = a; count = 0 }) (replicate 1024 0) internal (replicate 2048 0) old old
+  pub start-refused : (a : Answer) → o ≡ Refused a → StartDone (start (chartOf chart) (nameAt names) (length old)) (record { answer = a; count = 0 }) numbers internal (replicate 2048 0) old old
   unfolding start startOr endedFollower traceWith
-  start-refused a r s i =
+  start-refused a r =
       let x : refusal (length old) first es ≡ some a = judged-some (refusal (length old) first es) a (sym is-judged ∙ r) in
       rw x (record {
         answer = refl;
         count = refl;
-        state = record {
-          configuration = i .configuration;
-          historyIs = zeros-none (chartOf chart);
-          internalIs = z ∙ sym queue-none;
-          externalIs = sym queue-none;
-          internalCount = i .internal;
-          externalCount = i .external;
-          modeIs = i .mode;
-        };
+        state = record { numbersAre = y ∙ zeros-ended (chartOf chart); internalIs = z ∙ sym queue-none; externalIs = sym queue-none };
         written = refl;
       })
+
+  pub zeros-size : length numbers ≡ 1031
+  zeros-size = rw y
 
   pub first-ready : RowsReady chart (rowsOf (e .set))
   first-ready = record { ready = k .ready; inside = q .1 .at }
@@ -136,25 +136,23 @@ module _ (chart names : List ℕ) (k : CompiledWith chart names) (internal old :
       unfolding firstFollower
       first-join = (k, rw front (entered .inside), z ∙ sym (ap queueBytes none-yet ∙ queue-none), let l = fits .short in let m = ap {B = ℕ} length names-now in omega arith)
 
-      pub start-done : (inner : List ℕ) (waiting : ℕ) (mode : Mode) →
+      pub start-done : (inner : List ℕ) (waiting : ℕ) (mode : Mode) (cells : List ℕ) →
           (inner ≡ queueBytes (queueOf internal 0 ++ queuedNames (chartOf chart) (nameAt names) (take (t .names) joins))) × (waiting ≡ 0 + length (queuedNames (chartOf chart) (nameAt names) (take (t .names) joins))) →
-          mode ≡ modeOf (chartOf chart) (rowsOf (e .set)) →
-          StartDone (start (chartOf chart) (nameAt names) (length old)) (record { state = record { configuration = e .set; internal = waiting; external = 0; mode = mode }; answer = Done; count = t .entries })
-          (replicate 1024 0) inner (replicate 2048 0) old (after .trace)
+          mode ≡ modeOf (chartOf chart) (rowsOf (e .set)) → cells ≡ numbersOf (words (rowsOf (e .set))) (historyIn numbers) waiting 0 (modeNo mode) →
+          StartDone (start (chartOf chart) (nameAt names) (length old)) (record { answer = Done; count = t .entries }) cells inner (replicate 2048 0) old (after .trace)
       unfolding start startOr firstFollower
-      start-done inner waiting mode joined m =
+      start-done inner waiting mode cells joined m w =
           let conf : rowsOf (e .set) ≡ (firstEntry (chartOf chart)) .set = ap (λ (i : Entry). i .set) (q .0) in
+          let hist : historyIn numbers ≡ historyWords (noHistory (chartOf chart)) = ap (λ (ws : List ℕ). historyIn ws) y ∙ zeros-none (chartOf chart) in
+          let count : waiting ≡ length (flat (queued (chartOf chart) (nameAt names)) es) = joined .1 ∙ zero-add _ ∙ ap {B = ℕ} length names-now in
+          let mode-is = m ∙ ap (modeOf (chartOf chart)) conf in
           rw goes (record {
             answer = refl;
             count = wrote-entries old (after .trace) t es (fits .roomy) wrote;
             state = record {
-              configuration = conf;
-              historyIs = zeros-none (chartOf chart);
+              numbersAre = w ∙ (λ j. numbersOf (words (conf j)) (hist j) (count j) 0 (modeNo (mode-is j)));
               internalIs = joined .0 ∙ ap queueBytes (ap₂ {C = List Name} (λ a b. a ++ b) none-yet names-now);
               externalIs = sym queue-none;
-              internalCount = joined .1 ∙ zero-add _ ∙ ap {B = ℕ} length names-now;
-              externalCount = refl;
-              modeIs = m ∙ ap (modeOf (chartOf chart)) conf;
             };
             written = wrote-trace old (after .trace) t es (fits .roomy) wrote;
           })

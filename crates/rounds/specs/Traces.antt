@@ -2,7 +2,6 @@
 use mathlib.Core.Path.{_≡_, sym, ap, _∙_}
 use mathlib.Core.List.{List, [], _∷_, _++_, map, map-append, append-assoc, append-nil}
 use Prim.Native.Nat.{ℕ, suc, _+_, _-_, _≤_, _<_}
-use native.Mathlib.Numerals.{add-one}
 use native.Mathlib.Nat.{zero-add}
 use native.Mathlib.Omega.{arith}
 use lib.ListN.{length, getD, take, drop, set, length-append, length-map, length-drop}
@@ -98,20 +97,6 @@ filled-again old new t r es w e = record { trace = w .trace; entries = e }
 pub record EntriesFit (draft : List ℕ) (n : ℕ) (trace : List ℕ) : Type 0 where
   pub there : n ≤ length draft
   pub room : n ≤ length trace
-
--- copied one after the other
-module _ (draft old new : List ℕ) (i : ℕ) (so-far : new ≡ take i draft ++ drop i old) where
-  pub copy-turn : i < length draft → i < length old → set new i (getD draft i 0) ≡ take (i + 1) draft ++ drop (i + 1) old
-  copy-turn l m =
-      let size : length (take i draft) ≡ i = length-take-le i draft (omega arith) in
-      rw (so-far, drop-cons old i 0 m, set-at (take i draft) (getD old i 0) (drop (suc i) old) (getD draft i 0) i size, add-one i, take-suc draft i 0 l)
-      (sym (append-assoc (take i draft) (getD draft i 0 ∷ []) (drop (suc i) old)))
-
-  pub copy-length : i ≤ length draft → i ≤ length old → length new ≡ length old
-  copy-length l m = ap length so-far ∙ omega (arith, length-append (take i draft) (drop i old), length-take-le i draft l, length-drop i old)
-
-  pub copy-done : (n : ℕ) → i ≡ n → new ≡ take n draft ++ drop n old
-  copy-done n e = so-far ∙ ap (λ (k : ℕ). take k draft ++ drop k old) e
 
 -- a draft that is whole is copied
 pub draft-copied : (draft old new : List ℕ) (t : Tally) (es : List Effect) → Drafted draft t es → t .entries ≤ length draft → t .entries ≤ length old →

@@ -10,7 +10,6 @@ use Rattle.definition.specs.declared.Status.{Status}
 use Rattle.definition.specs.declared.Status.the-variants as status
 use Rattle.follower.specs.Blocks.{Effect}
 use Rattle.follower.specs.Follower.{Follower, Round, idle, over, did, refusal}
-use Rattle.state.specs.declared.State.{State}
 use Rattle.state.specs.State.{Spells, traceWith}
 use Rattle.rounds.specs.declared.Outcome.{Outcome}
 use Rattle.rounds.specs.declared.Outcome.the-variants.{Idle, Over, Refused, Did}
@@ -52,13 +51,13 @@ statusOf (Refused a) = status.Refused a
 statusOf Did = status.More
 
 -- nothing changed
-abbrev pub untouched : State → Outcome → Turn
-untouched s o = record { state = s; outcome = o; count = 0 }
+abbrev pub untouched : Outcome → Turn
+untouched o = record { outcome = o; count = 0 }
 
 -- round r from state f came to turn t: old and new are the trace before and after
-pub record Turned (r : Round) (f : Follower) (t : Turn) (history internal external old new : List ℕ) : Type 0 where
+pub record Turned (r : Round) (f : Follower) (t : Turn) (numbers internal external old new : List ℕ) : Type 0 where
   pub outcome : t .outcome ≡ outcomeOf (length old) r
-  pub state : Spells (followerAfter (length old) f r) (t .state) history internal external
+  pub state : Spells (followerAfter (length old) f r) numbers internal external
   pub count : t .count ≡ length (effectsOf (length old) r)
   pub written : new ≡ traceWith old (effectsOf (length old) r)
 
@@ -76,26 +75,26 @@ judged-some (some b) a e = cc
 
 -- ---- each way that a turn is made
 
-module _ (r : Round) (f : Follower) (s : State) (t : Turn) (history internal external old : List ℕ) (w : Spells f s history internal external) where
-  pub turned-idle : t ≡ untouched s Idle → r ≡ idle → Turned r f t history internal external old old
+module _ (r : Round) (f : Follower) (t : Turn) (numbers internal external old : List ℕ) (w : Spells f numbers internal external) where
+  pub turned-idle : t ≡ untouched Idle → r ≡ idle → Turned r f t numbers internal external old old
   unfolding outcomeOf followerAfter effectsOf traceWith
   turned-idle q e = rw (q, e) (record { outcome = refl; state = w; count = refl; written = refl })
 
-  pub turned-over : t ≡ untouched s Over → r ≡ over → Turned r f t history internal external old old
+  pub turned-over : t ≡ untouched Over → r ≡ over → Turned r f t numbers internal external old old
   unfolding outcomeOf followerAfter effectsOf traceWith
   turned-over q e = rw (q, e) (record { outcome = refl; state = w; count = refl; written = refl })
 
-  pub turned-refused : (o : Outcome) → t ≡ untouched s o → (next : Follower) (es : List Effect) → r ≡ did next es → o ≡ judged (refusal (length old) next es) → (o ≡ Did → ⊥) →
-      Turned r f t history internal external old old
+  pub turned-refused : (o : Outcome) → t ≡ untouched o → (next : Follower) (es : List Effect) → r ≡ did next es → o ≡ judged (refusal (length old) next es) → (o ≡ Did → ⊥) →
+      Turned r f t numbers internal external old old
   unfolding outcomeOf followerAfter effectsOf traceWith judged nextUnless shownUnless
   turned-refused o y next es e q n = rw (y, e) (go (refusal (length old) next es) refl)
     where
-      go : (a : Option Answer) → refusal (length old) next es ≡ a → Turned (did next es) f (untouched s o) history internal external old old
+      go : (a : Option Answer) → refusal (length old) next es ≡ a → Turned (did next es) f (untouched o) numbers internal external old old
       go none h = absurd (n (q ∙ ap judged h))
       go (some a) h = record { outcome = q; state = rw h w; count = rw h; written = rw h }
 
--- done: the state that is handed back spells the next one
-pub turned-did : (r : Round) (f : Follower) (t : Turn) (history internal external old new : List ℕ) (next : Follower) (es : List Effect) → r ≡ did next es → refusal (length old) next es ≡ none →
-    t .outcome ≡ Did → Spells next (t .state) history internal external → t .count ≡ length es → new ≡ traceWith old es → Turned r f t history internal external old new
+-- done: the places spell the next state
+pub turned-did : (r : Round) (f : Follower) (t : Turn) (numbers internal external old new : List ℕ) (next : Follower) (es : List Effect) → r ≡ did next es → refusal (length old) next es ≡ none →
+    t .outcome ≡ Did → Spells next numbers internal external → t .count ≡ length es → new ≡ traceWith old es → Turned r f t numbers internal external old new
 unfolding outcomeOf followerAfter effectsOf judged nextUnless shownUnless
-turned-did r f t history internal external old new next es e q o w n h = rw e (record { outcome = rw q o; state = rw q w; count = rw q n; written = rw q h })
+turned-did r f t numbers internal external old new next es e q o w n h = rw e (record { outcome = rw q o; state = rw q w; count = rw q n; written = rw q h })

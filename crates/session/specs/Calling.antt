@@ -1,12 +1,14 @@
--- The calls over a session's parts: what the parts of a session spell when a call begins, and the session that is made of them when it ends.
-use mathlib.Core.Path.{_≡_, sym, ap, _∙_}
+-- The calls over a session's places: what they spell when a call begins, and the session that is in them when it ends.
+use mathlib.Core.Path.{_≡_, refl, sym, ap, _∙_}
 use mathlib.Core.Bool.{true, false}
-use mathlib.Core.List.{List, []}
+use mathlib.Core.List.{List, [], _∷_, _++_}
 use Prim.Native.Nat.{ℕ}
-use lib.ListN.{length}
+use native.Mathlib.Omega.{arith}
+use lib.ListN.{length, getD, take, drop, replicate}
 use Rattle.definition.specs.declared.Answer.{Answer}
 use Rattle.definition.specs.declared.Answer.the-variants.{BadChart, BadSession}
 use Rattle.definition.specs.declared.Status.{Status}
+use Rattle.definition.specs.Chart.{Chart}
 use Rattle.definition.specs.Tables.{rowCount, chartOf, nameAt}
 use Rattle.follower.specs.Follower as follower
 use Rattle.definition.specs.Answers.{modeNo}
@@ -17,26 +19,27 @@ use Rattle.rowset.specs.Member.{rowsOf}
 use Rattle.chart.specs.Ready.{setAt}
 use Rattle.chart.specs.Own.{own-chart, compiled-ready}
 use Rattle.state.specs.declared.State.{State}
-use Rattle.state.specs.State.{rowsAt, modeFrom, stateOf, Spells, Holds, traceWith}
+use Rattle.state.specs.State.{rowsAt, modeFrom, numbersOf, historyIn, internalIn, externalIn, Spells, Holds, stateAt, HoldsAt, traceWith}
+use Rattle.state.specs.Places.{reads-words, reads-history, reads-internal, reads-external, reads-number, state-again}
+use Rattle.state.specs.Numbers.{back-history}
 use Rattle.session.specs.declared.Session.{Session}
 use Rattle.session.specs.declared.Started.{Started}
 use Rattle.session.specs.declared.Ran.{Ran}
-use Rattle.session.specs.Sessions.{session, sessionOf, endedSession, view, isSession, startBy, startOf, startEffects, refusedRun, ranAs, runFrom, runOf, runEffects}
+use Rattle.session.specs.Sessions.{session, sessionAt, sessionOf, endedSession, view, isSession, startBy, startOf, startEffects, refusedRun, ranAs, runFrom, runOf, runEffects}
 use Rattle.session.specs.Spelling.{session-spells, session-well-formed, ended-spells}
 
--- the session made of the parts that spell a state is the session of that state
-pub parts-session : (f : Follower) (p : State) (conf history internal external : List ℕ) (m : ℕ) → Spells f p history internal external → conf ≡ words (rowsOf (p .configuration)) → m ≡ modeNo (p .mode) →
-    session conf history internal external (p .internal) (p .external) m ≡ sessionOf f
+-- the session in places that spell a state is the session of that state
+pub places-session : (f : Follower) (numbers internal external : List ℕ) → Spells f numbers internal external → sessionAt numbers internal external ≡ sessionOf f
 unfolding sessionOf
-parts-session f p conf history internal external m s e g =
-    let a = e ∙ ap words (s .configuration) in
-    let b = s .historyIs in
+places-session f numbers internal external s =
+    let a = reads-words f numbers internal external s in
+    let b = reads-history f numbers internal external s in
     let i = s .internalIs in
     let x = s .externalIs in
-    let n = s .internalCount in
-    let o = s .externalCount in
-    let q = g ∙ ap modeNo (s .modeIs) in
-    λ j. session (a j) (b j) (i j) (x j) (n j) (o j) (q j)
+    let n = reads-internal f numbers internal external s in
+    let o = reads-external f numbers internal external s in
+    let m = reads-number f numbers internal external s in
+    λ j. session (a j) (b j) (i j) (x j) (n j) (o j) (m j)
 
 -- the parts of a session as a call takes them
 pub record Taken (s : Session) (p : State) : Type 0 where
@@ -45,51 +48,84 @@ pub record Taken (s : Session) (p : State) : Type 0 where
   pub external : p .external ≡ s .«external_count»
   pub mode : p .mode ≡ modeFrom (s .mode)
 
-module _ (rows : ℕ) (s : Session) (p : State) (t : Taken s p) where
-  pub taken-state : stateOf rows p (s .history) (s .internal) (s .external) ≡ view rows s
-  unfolding stateOf view rowsAt
-  taken-state = rw (t .configuration, t .internal, t .external, t .mode)
+-- the numbers of a state that is read in a session
+pub numbers-made : (s : Session) (p : State) (numbers : List ℕ) → Taken s p → numbers ≡ numbersOf (words (rowsOf (p .configuration))) (s .history) (p .internal) (p .external) (modeNo (p .mode)) →
+    numbers ≡ numbersOf (words (rowsAt (s .configuration) 0)) (s .history) (s .«internal_count») (s .«external_count») (modeNo (modeFrom (s .mode)))
+unfolding rowsAt
+numbers-made s p numbers t e =
+    let a = t .configuration in
+    let i = t .internal in
+    let x = t .external in
+    let m = t .mode in
+    e ∙ (λ j. numbersOf (words (rowsOf (a j))) (s .history) (i j) (x j) (modeNo (m j)))
 
-module _ (chart names : List ℕ) (s : Session) (p : State) (t : Taken s p) (k : isCompiled chart names ≡ true) (h : isSession (chartOf chart) s ≡ true) where
+-- the history put into numbers, then the state
+pub numbers-put : (s : Session) (p : State) (history numbers : List ℕ) → Taken s p → history ≡ s .history →
+    numbers ≡ numbersOf (words (rowsOf (p .configuration))) (historyIn (replicate 4 0 ++ (history ++ drop 1024 (drop 4 (replicate 1031 0))))) (p .internal) (p .external) (modeNo (p .mode)) → length (s .history) ≡ 1024 →
+    numbers ≡ numbersOf (words (rowsAt (s .configuration) 0)) (s .history) (s .«internal_count») (s .«external_count») (modeNo (modeFrom (s .mode)))
+numbers-put s p history numbers t e w l =
+    let b = back-history (replicate 1031 0) history refl (ap length e ∙ l) ∙ e in
+    numbers-made s p numbers t (w ∙ (λ j. numbersOf (words (rowsOf (p .configuration))) (b j) (p .internal) (p .external) (modeNo (p .mode))))
+
+-- the first four numbers
+take-four : (numbers : List ℕ) → length numbers ≡ 1031 → getD numbers 0 0 ∷ getD numbers 1 0 ∷ getD numbers 2 0 ∷ getD numbers 3 0 ∷ [] ≡ take 4 numbers
+take-four [] l = absurd (omega arith)
+take-four (a ∷ []) l = absurd (omega arith)
+take-four (a ∷ b ∷ []) l = absurd (omega arith)
+take-four (a ∷ b ∷ c ∷ []) l = absurd (omega arith)
+take-four (a ∷ b ∷ c ∷ d ∷ xs) l = refl
+
+pub session-made : (numbers internal external history : List ℕ) → history ≡ historyIn numbers → length numbers ≡ 1031 →
+    session (getD numbers 0 0 ∷ getD numbers 1 0 ∷ getD numbers 2 0 ∷ getD numbers 3 0 ∷ []) history internal external (internalIn numbers) (externalIn numbers) (getD numbers 1030 0) ≡ sessionAt numbers internal external
+session-made numbers internal external history e l =
+    let a = take-four numbers l in
+    λ j. session (a j) (e j) internal external (internalIn numbers) (externalIn numbers) (getD numbers 1030 0)
+
+-- the places of a session that passes spell its state
+module _ (c : Chart) (g : Sound c) (s : Session) (h : isSession c s ≡ true) (numbers : List ℕ) where
+  spelled : sessionOf (view (c .rows) s) ≡ s
+  spelled = session-spells c g s h
+
+  pub session-places : numbers ≡ numbersOf (words (rowsAt (s .configuration) 0)) (s .history) (s .«internal_count») (s .«external_count») (modeNo (modeFrom (s .mode))) →
+      Spells (view (c .rows) s) numbers (s .internal) (s .external)
+  unfolding sessionOf view
+  session-places e =
+      let b = ap (λ (x : Session). x .history) (sym spelled) in
+      let n = ap (λ (x : Session). x .«internal_count») (sym spelled) in
+      let o = ap (λ (x : Session). x .«external_count») (sym spelled) in
+      record {
+        numbersAre = e ∙ (λ j. numbersOf (words (rowsAt (s .configuration) 0)) (b j) (n j) (o j) (modeNo (modeFrom (s .mode))));
+        internalIs = ap (λ (x : Session). x .internal) (sym spelled);
+        externalIs = ap (λ (x : Session). x .external) (sym spelled);
+      }
+
+module _ (chart names : List ℕ) (s : Session) (k : isCompiled chart names ≡ true) (h : isSession (chartOf chart) s ≡ true) (numbers internal external : List ℕ)
+    (w : Spells (view (rowCount chart) s) numbers internal external) where
   sound : Sound (chartOf chart)
   sound = compiled-ready chart names k .ready .sound
 
-  abbrev before : Follower
-  before = view (rowCount chart) s
+  begins : Holds (chartOf chart) (view (rowCount chart) s) numbers internal external
+  begins = record { spells = w; formed = session-well-formed (chartOf chart) sound s h }
 
-  spelled : sessionOf before ≡ s
-  spelled = session-spells (chartOf chart) sound s h
+  again : stateAt chart numbers internal external ≡ view (rowCount chart) s
+  again =
+      state-again (chartOf chart) (sound .tree) (let n = compiled-ready chart names k .ready .tables .sized .counts .rows in omega arith) (view (rowCount chart) s) numbers internal external begins
 
-  -- a well-formed session's parts spell its state
-  begins : Holds (chartOf chart) before p (s .history) (s .internal) (s .external)
-  begins = record {
-    spells = record {
-      configuration = unfold view rowsAt in ap rowsOf (t .configuration);
-      historyIs = unfold sessionOf in ap (λ (x : Session). x .history) (sym spelled);
-      internalIs = unfold sessionOf in ap (λ (x : Session). x .internal) (sym spelled);
-      externalIs = unfold sessionOf in ap (λ (x : Session). x .external) (sym spelled);
-      internalCount = t .internal ∙ (unfold sessionOf in ap (λ (x : Session). x .«internal_count») (sym spelled));
-      externalCount = t .external ∙ (unfold sessionOf in ap (λ (x : Session). x .«external_count») (sym spelled));
-      modeIs = unfold view in t .mode;
-    };
-    formed = session-well-formed (chartOf chart) sound s h;
-  }
-
-  pub parts-hold : Holds (chartOf chart) (stateOf (rowCount chart) p (s .history) (s .internal) (s .external)) p (s .history) (s .internal) (s .external)
-  parts-hold = rw (taken-state (rowCount chart) s p t) begins
+  pub places-hold : HoldsAt chart numbers internal external
+  places-hold = rw again begins
 
   own-is : chartOf (ownNumbers chart) ≡ chartOf chart
   own-is = own-chart chart (compiled-ready chart names k .ready .tables)
 
   module _ (rounds room : ℕ) where
     abbrev ran : follower.Ran
-    ran = run (chartOf chart) (nameAt names) rounds (stateOf (rowCount chart) p (s .history) (s .internal) (s .external)) room
+    ran = run (chartOf chart) (nameAt names) rounds (stateAt chart numbers internal external) room
 
     ran-from : ran ≡ runFrom (chartOf chart) names s rounds room
     unfolding runFrom
-    ran-from = ap (λ (f : Follower). run (chartOf chart) (nameAt names) rounds f room) (taken-state (rowCount chart) s p t)
+    ran-from = ap (λ (f : Follower). run (chartOf chart) (nameAt names) rounds f room) again
 
-    -- a run over the parts is the session's run
+    -- a run over the places is the session's run
     pub run-is : (after : Session) (status : Status) (done count : ℕ) → after ≡ sessionOf (ran .follower) → status ≡ ran .status → done ≡ ran .rounds → count ≡ length (ran .effects) →
         record { session = after; status = status; rounds = done; count = count } ≡ runOf s chart names rounds room
     unfolding runOf ranAs
@@ -146,9 +182,3 @@ module _ (chart names : List ℕ) (room : ℕ) where
     pub start-trace : (old trace : List ℕ) → trace ≡ traceWith old (began .effects) → trace ≡ traceWith old (startEffects chart names room)
     unfolding startEffects
     start-trace old trace e = e ∙ ap (λ (r : follower.Started). traceWith old (r .effects)) (sym start-by)
-
--- ---- a session of its parts
-
-pub session-of : (p : State) (conf history internal external : List ℕ) (m : ℕ) → conf ≡ words (rowsOf (p .configuration)) → m ≡ modeNo (p .mode) →
-    session conf history internal external (p .internal) (p .external) m ≡ session (words (rowsOf (p .configuration))) history internal external (p .internal) (p .external) (modeNo (p .mode))
-session-of p conf history internal external m e g = λ j. session (e j) history internal external (p .internal) (p .external) (g j)

@@ -4,7 +4,7 @@ use mathlib.Core.List.{List, [], map}
 use mathlib.Core.Option.{some}
 use Prim.Native.Nat.{ℕ}
 use lib.Dec.{eqb}
-use lib.ListN.{length, replicate}
+use lib.ListN.{length, getD, take, replicate}
 use Rattle.definition.specs.declared.Answer.{Answer}
 use Rattle.definition.specs.declared.Answer.the-variants.{BadChart, BadSession}
 use Rattle.definition.specs.declared.Status.the-variants.{Refused}
@@ -20,7 +20,7 @@ use Rattle.follower.specs.Legal.{isWellFormed}
 use Rattle.definition.specs.Compiled.{words, ownNumbers, isCompiled}
 use Rattle.paths.specs.History.{storedAt}
 use Rattle.queue.specs.Queues.{queueBytes, queueOf}
-use Rattle.state.specs.State.{historyWords, rowsAt, modeFrom}
+use Rattle.state.specs.State.{historyWords, rowsAt, modeFrom, historyIn, internalIn, externalIn}
 use Rattle.session.specs.declared.Session.{Session}
 use Rattle.session.specs.declared.Posted.{Posted}
 use Rattle.session.specs.declared.Started.{Started}
@@ -30,6 +30,10 @@ use Rattle.session.specs.declared.Ran.{Ran}
 abbrev pub session : List ℕ → List ℕ → List ℕ → List ℕ → ℕ → ℕ → ℕ → Session
 session configuration history internal external internalCount externalCount mode =
     record { configuration = configuration; history = history; internal = internal; external = external; «internal_count» = internalCount; «external_count» = externalCount; mode = mode }
+
+-- the session in its numbers and queues
+abbrev pub sessionAt : List ℕ → List ℕ → List ℕ → Session
+sessionAt numbers internal external = session (take 4 numbers) (historyIn numbers) internal external (internalIn numbers) (externalIn numbers) (getD numbers 1030 0)
 
 -- ---- from a state to the session that spells it
 

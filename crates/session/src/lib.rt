@@ -2,26 +2,22 @@
 ghost use mathlib.Core.Path.{_≡_};
 ghost use mathlib.Core.List.{_++_};
 ghost use Prim.Native.Nat.{_+_, _*_, _<_};
-ghost use lib.Dec.{eqb};
 ghost use lib.ListN.{length, take, drop};
-ghost use Rattle.definition.specs.Rows.{all, from};
 ghost use Rattle.definition.specs.Tables.{chartOf, slotOf};
-ghost use Rattle.rowset.specs.Member.{rowsOf};
 ghost use Rattle.chart.specs.Ready.{Ready};
-ghost use Rattle.session.specs.Sessions.{session, endedSession, isSession, postChecked, postOf, startOf, startEffects, refusedRun, runOf, runEffects};
+ghost use Rattle.session.specs.Sessions.{session, sessionAt, endedSession, isSession, postChecked, postOf, startOf, startEffects, refusedRun, runOf, runEffects};
 ghost use Rattle.session.specs.Calling.{Taken};
-ghost use Rattle.state.specs.State.{traceWith};
+ghost use Rattle.state.specs.State.{rowsAt, modeFrom, numbersOf, traceWith};
 ghost use Rattle.definition.specs.Compiled.{words};
 ghost use Rattle.definition.specs.Answers.{modeNo};
-ghost use Rattle.session.specs.Judged.{Lengths, holdsPlace, modeHolds};
 use definition::Answer;
 use definition::Status;
-use numbers::Row;
-use rowset::RowSet;
-use state::CLOSING;
-use state::ENDED;
-use state::RUNNING;
+pub use judging::history_holds;
+pub use judging::mode_holds;
+use judging::parts_hold;
 use state::State;
+
+mod judging;
 
 #[repr(C)]
 pub struct Session {
@@ -55,106 +51,17 @@ pub struct Ran {
     pub count: usize,
 }
 
-// ---- "a session is not well formed": the test behind refusal 9
+const ENDED: u64 = 0;
 
-const SET_WIDTH: usize = 4;
-
-// "is closing exactly if a final under root is active; is ended exactly if nothing is active, its queues then empty"; legal unless ended.
-pub fn mode_holds(chart: &[u64], conf: RowSet, internal: u64, external: u64, mode: u64) -> bool
-    requires { ⌜ Ready (now chart) ⌝ }
-    ensures { λ b. ⌜ b ≡ modeHolds (chartOf (now (chart .entry))) (rowsOf conf) internal external mode ⌝ }
+fn copy(from: &[u64], place: &mut [u64])
+    requires { ⌜ length (now place) ≡ length (now from) ⌝ }
+    ensures { λ _. ⌜ now (place .exit) ≡ now (from .entry) ⌝ }
 {
-    if mode == ENDED {
-        return conf.is_empty() & (internal == 0) & (external == 0);
-    }
-    if CLOSING < mode {
-        return false;
-    }
-    if !legality::is_legal(chart, conf) {
-        return false;
-    }
-    let closing = legality::has_final(chart, conf);
-    if mode == RUNNING {
-        return !closing;
-    }
-    closing
-}
-
-// Nothing is stored at place h, or row h is a history that may have stored the set.
-fn place_holds(chart: &[u64], history: &[u64], h: usize) -> bool
-    requires { ⌜ Ready (now chart) × (length (now history) ≡ 1024) × (h < 256) ⌝ }
-    ensures { λ b. ⌜ b ≡ holdsPlace (chartOf (now (chart .entry))) (now (history .entry)) h ⌝ }
-{
-    let set = chart::set_at(history, h * SET_WIDTH);
-    if set.is_empty() {
-        return true;
-    }
-    if tables::row_count(chart) <= h as u64 {
-        return false;
-    }
-    let r = Row(h as u8);
-    if !chart::is_history(tables::kind_of(chart, r)) {
-        return false;
-    }
-    legality::is_storable(chart, r, set)
-}
-
-// Whether every word is zero. All are put together before any is judged: so many are read at a time as the machine takes.
-fn are_zero(words: &[u64]) -> bool
-    ensures { λ b. ⌜ b ≡ all (eqb 0) (now (words .entry)) ⌝ }
-{
-    let mut any: u64 = 0;
     let mut i = 0;
-    while i < words.len() {
-        any = any | words[i];
+    while i < from.len() {
+        place[i] = from[i];
         i += 1;
     }
-    any == 0
-}
-
-// Nothing may be stored behind the rows of the chart. Most sessions store nothing at all: that is told before any place is looked at.
-pub fn history_holds(chart: &[u64], history: &[u64]) -> bool
-    requires { ⌜ Ready (now chart) × (length (now history) ≡ 1024) ⌝ }
-    ensures { λ b. ⌜ b ≡ all (holdsPlace (chartOf (now (chart .entry))) (now (history .entry))) (from 256 0) ⌝ }
-{
-    let rows = tables::row_count(chart) as usize;
-    let end = rows * SET_WIDTH;
-    if !are_zero(&history[end..]) {
-        return false;
-    }
-    if are_zero(&history[..end]) {
-        return true;
-    }
-    let mut h = 0;
-    while h < rows {
-        if !place_holds(chart, history, h) {
-            return false;
-        }
-        h += 1;
-    }
-    true
-}
-
-// The same test over a session's parts, which are lent for it.
-fn parts_hold<'a>(
-    chart: &[u64],
-    configuration: &'a [u64],
-    history: &'a [u64],
-    internal: &'a [u8],
-    external: &'a [u8],
-    internal_count: u64,
-    external_count: u64,
-    mode: u64,
-) -> bool
-    requires { ⌜ Ready (now chart) × Lengths (now configuration) (now history) (now internal) (now external) ⌝ }
-    ensures { λ b. ⌜ b ≡ isSession (chartOf (now (chart .entry))) (session (now (configuration .entry)) (now (history .entry)) (now (internal .entry)) (now (external .entry)) «internal_count» «external_count» mode) ⌝ }
-{
-    let queues = queue::queue_fits(internal, internal_count)
-        & queue::queue_fits(external, external_count);
-    let conf = chart::set_at(configuration, 0);
-    queues
-        & mode_holds(chart, conf, internal_count, external_count, mode)
-        & history_holds(chart, history)
 }
 
 // The name into the slot behind the count names of a session's queue.
@@ -181,23 +88,32 @@ impl Session {
         }
     }
 
-    // The session that these parts make up.
-    fn of(state: State, history: [u64; 1024], internal: [u8; 2048], external: [u8; 2048]) -> Session
-        ensures { λ s. ⌜ s ≡ session (words (rowsOf (state .configuration))) history internal external (state .internal) (state .external) (modeNo (state .mode)) ⌝ }
+    // The session in these numbers and queues.
+    fn of(numbers: [u64; 1031], internal: [u8; 2048], external: [u8; 2048]) -> Session
+        ensures { λ s. ⌜ s ≡ sessionAt numbers internal external ⌝ }
     {
-        let internal_count = state.internal;
-        let external_count = state.external;
-        let configuration = state.configuration;
-        let mode = state.mode;
+        let mut history = [0u64; 1024];
+        copy(&numbers[state::HISTORY..state::INTERNAL], &mut history);
         Session {
-            configuration: state::words_of(configuration),
+            configuration: [numbers[0], numbers[1], numbers[2], numbers[3]],
             history: history,
             internal: internal,
             external: external,
-            internal_count: internal_count,
-            external_count: external_count,
-            mode: state::mode_number(mode),
+            internal_count: numbers[state::INTERNAL],
+            external_count: numbers[state::EXTERNAL],
+            mode: numbers[state::MODE],
         }
+    }
+
+    // Its numbers, as a run takes them.
+    fn numbers(self) -> [u64; 1031]
+        ensures { λ ns. ⌜ ns ≡ numbersOf (words (rowsAt (self .configuration) 0)) (self .history) (self .«internal_count») (self .«external_count») (modeNo (modeFrom (self .mode))) ⌝ }
+    {
+        let state = self.state();
+        let mut numbers = [0u64; state::NUMBERS];
+        copy(&self.history, &mut numbers[state::HISTORY..state::INTERNAL]);
+        state::put_state(&mut numbers, state);
+        numbers
     }
 
     // The parts that a run hands on by value.
@@ -248,19 +164,8 @@ impl Session {
         requires { ⌜ Ready (now chart) ⌝ }
         ensures { λ r. ⌜ r ≡ postChecked (chartOf (now (chart .entry))) self (now (name .entry)) ⌝ }
     {
-        let internal = self.internal_count;
         let external = self.external_count;
-        let mode = self.mode;
-        if !parts_hold(
-            chart,
-            &self.configuration,
-            &self.history,
-            &self.internal,
-            &self.external,
-            internal,
-            external,
-            mode,
-        ) {
+        if !self.is_session(chart) {
             return Posted {
                 session: self,
                 answer: Answer::BadSession,
@@ -272,7 +177,7 @@ impl Session {
                 answer: Answer::NotAName,
             };
         }
-        if mode == ENDED {
+        if self.mode == ENDED {
             return Posted {
                 session: self,
                 answer: Answer::SessionEnded,
@@ -316,13 +221,13 @@ impl Session {
                 count: 0,
             };
         }
+        let mut numbers = [0u64; state::NUMBERS];
         let mut internal = [0u8; 2048];
-        let begun = rounds::start(chart, names, &mut internal, trace);
+        let begun = rounds::start(chart, names, &mut numbers, &mut internal, trace);
         let answer = begun.answer;
         let count = begun.count;
-        let state = begun.state;
         Started {
-            session: Session::of(state, [0u64; 1024], internal, [0u8; 2048]),
+            session: Session::of(numbers, internal, [0u8; 2048]),
             answer: answer,
             count: count,
         }
@@ -338,26 +243,23 @@ impl Session {
         if !self.is_session(chart) {
             return self.refused(Answer::BadSession);
         }
-        let state = self.state();
-        let mut history = self.history;
+        let mut numbers = self.numbers();
         let mut internal = self.internal;
         let mut external = self.external;
         let done = rounds::run(
             chart,
             names,
-            state,
-            &mut history,
+            &mut numbers,
             &mut internal,
             &mut external,
             rounds,
             trace,
         );
-        let after = done.state;
         let status = done.status;
         let number = done.rounds;
         let count = done.count;
         Ran {
-            session: Session::of(after, history, internal, external),
+            session: Session::of(numbers, internal, external),
             status: status,
             rounds: number,
             count: count,

@@ -2,3 +2,5 @@ pub mod State
 pub mod Modes
 pub mod Words
 pub mod Found
+pub mod Numbers
+pub mod Places

@@ -1,12 +1,12 @@
 -- Sets of rows as words: a set of four words, and the history, a set for each of 256 rows.
 use mathlib.Core.Path.{_≡_, refl, sym, ap, _∙_}
-use mathlib.Core.Bool.{true}
+use mathlib.Core.Bool.{true, false}
 use mathlib.Core.List.{List, [], _∷_, map}
 use Prim.Native.Nat.{ℕ, zero, suc, _+_, _*_, _^_, _≤_, _<_}
 use native.Mathlib.Nat.{zero-add, add-zero}
 use native.Mathlib.Omega.{arith}
 use lib.Dec.{ltb}
-use lib.ListN.{length, getD, drop, length-drop, List·getD-eq-default, replicate-append-replicate}
+use lib.ListN.{length, getD, take, drop, length-take, length-drop, List·getD-eq-default, replicate-append-replicate}
 use lib.Seq.{getD-take, getD-drop, take-all, length-take-le}
 use borrow.Author.Tests.{ltb-true, ltb-false}
 use Rattle.definition.specs.Rows.{from, mem, fold, union, isSet, nothingAt}
@@ -109,6 +109,20 @@ stored-again sets short each h =
 -- every number is one of 64 bits
 pub record Fits (ws : List ℕ) : Type 0 where
   pub fits : (k : ℕ) → getD ws k 0 < 2 ^ 64
+
+-- so is every number of a part
+pub fits-part : (ws : List ℕ) (m n : ℕ) → Fits ws → Fits (take n (drop m ws))
+fits-part ws m n f = record { fits = λ k. bool-case (ltb k n) (inside k) (outside k) }
+  where
+    inside : (k : ℕ) → ltb k n ≡ true → getD (take n (drop m ws)) k 0 < 2 ^ 64
+    inside k b = rw (getD-take n (drop m ws) k 0 (ltb-true k n b), getD-drop m ws k 0) (f .fits (m + k))
+
+    outside : (k : ℕ) → ltb k n ≡ false → getD (take n (drop m ws)) k 0 < 2 ^ 64
+    outside k b =
+        let l = ltb-false k n b in
+        let past : length (take n (drop m ws)) ≤ k = rw length-take (omega arith) in
+        let e : getD (take n (drop m ws)) k 0 ≡ 0 = List·getD-eq-default (take n (drop m ws)) 0 past in
+        rw e (omega arith)
 
 set-fits : (ws : List ℕ) (w : ℕ) → Fits ws → Fitting (setAt ws w)
 unfolding setAt

@@ -1,5 +1,5 @@
 use borrow.Author.Needs.{needs}
-use Rattle.lent.specs.Lent.{three}
+use Rattle.state.specs.Numbers.{put-three}
 use Rattle.calls.proofs.put_result.Statement.{statement}
 use Rattle.calls.proofs.put_result.Tie as tie
 
@@ -16,7 +16,7 @@ same-length : tie.Need-same-length
 same-length c = search needs
 
 returns : tie.Need-returns
-returns c = three (c .args .result .now) _ _ _ (c .pre)
+returns c = put-three (c .args .result .now) _ _ _ (c .pre)
 
 pub put-result-spec : {M : Type 1} → statement M
 put-result-spec =

@@ -2,7 +2,7 @@ use borrow.Author.Needs.{needs}
 use mathlib.Core.Path.{refl, _∙_}
 use Rattle.laws.specs.Loops.{said-not-yes, said-not-no}
 use Rattle.chart.specs.Own.{compiled-ready}
-use Rattle.session.specs.Calling.{parts-session, parts-hold, run-is, run-trace, run-bad-chart, bad-chart-trace, run-bad-session, bad-session-trace}
+use Rattle.session.specs.Calling.{places-session, session-places, places-hold, run-is, run-trace, run-bad-chart, bad-chart-trace, run-bad-session, bad-session-trace}
 use Rattle.session.proofs.Session.run.Statement.{statement}
 use Rattle.session.proofs.Session.run.Tie as tie
 
@@ -29,8 +29,8 @@ returns-2 c =
     let h = said-not-yes _ _ (c .before .before .is-session .ensures) (c .before .if2 .taken) in
     (c .refused2 .ensures ∙ run-bad-session _ _ _ _ _ k h, bad-session-trace _ _ _ _ _ _ k h)
 
-state-requires : tie.Need-state-requires
-state-requires c κs = search needs
+numbers-requires : tie.Need-numbers-requires
+numbers-requires c κs = search needs
 
 slice-aggregate-run : tie.Need-slice-aggregate-run
 slice-aggregate-run c = search needs
@@ -43,9 +43,10 @@ slice-aggregate-run-3 c = search needs
 
 run-requires : tie.Need-run-requires
 run-requires c κs =
-    let k = said-not-no _ _ (c .before .before .before .before .before .before .before .before .before .before .before .check .ensures) (c .before .before .before .before .before .before .before .before .before .before .if1 .left) in
-    let h = said-not-no _ _ (c .before .before .before .before .before .before .before .before .before .is-session .ensures) (c .before .before .before .before .before .before .before .before .if2 .left) in
-    (compiled-ready _ _ k, parts-hold _ _ _ _ (c .before .before .before .before .before .before .before .state .ensures) k h)
+    let k = said-not-no _ _ (c .before .before .before .before .before .before .before .before .before .before .check .ensures) (c .before .before .before .before .before .before .before .before .before .if1 .left) in
+    let h = said-not-no _ _ (c .before .before .before .before .before .before .before .before .is-session .ensures) (c .before .before .before .before .before .before .before .if2 .left) in
+    let g = compiled-ready _ _ k in
+    (g, places-hold _ _ _ k h _ _ _ (session-places _ (g .ready .sound) _ h _ (c .before .before .before .before .before .before .numbers .ensures)))
 
 of-requires : tie.Need-of-requires
 of-requires c κs = search needs
@@ -55,11 +56,11 @@ same-length c = search needs
 
 returns-3 : tie.Need-returns-3
 returns-3 c =
-    let k = said-not-no _ _ (c .before .before .before .before .before .before .before .before .before .before .before .before .before .before .before .before .before .before .before .check .ensures) (c .before .before .before .before .before .before .before .before .before .before .before .before .before .before .before .before .before .before .if1 .left) in
-    let h = said-not-no _ _ (c .before .before .before .before .before .before .before .before .before .before .before .before .before .before .before .before .before .is-session .ensures) (c .before .before .before .before .before .before .before .before .before .before .before .before .before .before .before .before .if2 .left) in
-    let t = c .before .before .before .before .before .before .before .before .before .before .before .before .before .before .before .state .ensures in
-    let d = c .before .before .before .before .before .before .before .run .ensures in
-    (run-is _ _ _ _ t k h _ _ _ _ _ _ (c .of .ensures ∙ parts-session _ _ _ _ _ _ _ (d .state) refl refl) (d .status) (d .rounds) (d .count), run-trace _ _ _ _ t k h _ _ _ _ (d .written))
+    let k = said-not-no _ _ (c .before .before .before .before .before .before .before .before .before .before .before .before .before .before .before .before .before .check .ensures) (c .before .before .before .before .before .before .before .before .before .before .before .before .before .before .before .before .if1 .left) in
+    let h = said-not-no _ _ (c .before .before .before .before .before .before .before .before .before .before .before .before .before .before .before .is-session .ensures) (c .before .before .before .before .before .before .before .before .before .before .before .before .before .before .if2 .left) in
+    let w = session-places _ (compiled-ready _ _ k .ready .sound) _ h _ (c .before .before .before .before .before .before .before .before .before .before .before .before .before .numbers .ensures) in
+    let d = c .before .before .before .before .before .before .run .ensures in
+    (run-is _ _ _ k h _ _ _ w _ _ _ _ _ _ (c .of .ensures ∙ places-session _ _ _ _ (d .state)) (d .status) (d .rounds) (d .count), run-trace _ _ _ k h _ _ _ w _ _ _ _ (d .written))
 
 pub run-spec : {M : Type 1} → statement M
 run-spec =
@@ -71,7 +72,7 @@ run-spec =
     is-session-requires
     refused-requires-2
     returns-2
-    state-requires
+    numbers-requires
     slice-aggregate-run
     slice-aggregate-run-2
     slice-aggregate-run-3

@@ -2,7 +2,7 @@ use borrow.Author.Needs.{needs}
 use mathlib.Core.Path.{refl, _∙_}
 use Rattle.laws.specs.Loops.{said-not-yes, said-not-no}
 use Rattle.chart.specs.Own.{compiled-ready}
-use Rattle.session.specs.Calling.{parts-session, start-bad-chart, start-bad-trace, start-is, start-trace}
+use Rattle.session.specs.Calling.{places-session, start-bad-chart, start-bad-trace, start-is, start-trace}
 use Rattle.session.proofs.Session.start.Statement.{statement}
 use Rattle.session.proofs.Session.start.Tie as tie
 
@@ -20,8 +20,11 @@ returns c =
 slice-aggregate-start : tie.Need-slice-aggregate-start
 slice-aggregate-start c = search needs
 
+slice-aggregate-start-2 : tie.Need-slice-aggregate-start-2
+slice-aggregate-start-2 c = search needs
+
 start-requires : tie.Need-start-requires
-start-requires c κs = (compiled-ready _ _ (said-not-no _ _ (c .before .before .before .check .ensures) (c .before .before .if1 .left)), refl)
+start-requires c κs = (compiled-ready _ _ (said-not-no _ _ (c .before .before .before .before .check .ensures) (c .before .before .before .if1 .left)), refl, refl)
 
 of-requires : tie.Need-of-requires
 of-requires c κs = search needs
@@ -31,9 +34,9 @@ same-length c = search needs
 
 returns-2 : tie.Need-returns-2
 returns-2 c =
-    let k = said-not-no _ _ (c .before .before .before .before .before .before .before .before .before .check .ensures) (c .before .before .before .before .before .before .before .before .if1 .left) in
+    let k = said-not-no _ _ (c .before .before .before .before .before .before .before .before .before .before .check .ensures) (c .before .before .before .before .before .before .before .before .before .if1 .left) in
     let d = c .before .before .before .before .before .start .ensures in
-    (start-is _ _ _ k _ _ _ (c .of .ensures ∙ parts-session _ _ _ _ _ _ _ (d .state) refl refl) (d .answer) (d .count), start-trace _ _ _ k _ _ (d .written))
+    (start-is _ _ _ k _ _ _ (c .of .ensures ∙ places-session _ _ _ _ (d .state)) (d .answer) (d .count), start-trace _ _ _ k _ _ (d .written))
 
 pub start-spec : {M : Type 1} → statement M
 start-spec =
@@ -43,6 +46,7 @@ start-spec =
     ended-requires
     returns
     slice-aggregate-start
+    slice-aggregate-start-2
     start-requires
     of-requires
     same-length

@@ -1,0 +1,21 @@
+use borrow.Author.Needs.{needs}
+use Rattle.laws.specs.Loops.{said-not-yes, said-not-no}
+use Rattle.chart.specs.Own.{compiled-ready}
+use Rattle.lent.specs.Lent.{checks-none, checks-made}
+use Rattle.lent.proofs.checking.check.Statement.{statement}
+use Rattle.lent.proofs.checking.check.Tie as tie
+
+check-requires : tie.Need-check-requires
+check-requires c κs = search needs
+
+returns : tie.Need-returns
+returns c = checks-none _ _ _ (said-not-yes _ _ (c .before .check .ensures) (c .if1 .taken))
+
+holds-requires : tie.Need-holds-requires
+holds-requires c κs = compiled-ready _ _ (said-not-no _ _ (c .before .check .ensures) (c .if1 .left)) .ready
+
+returns-2 : tie.Need-returns-2
+returns-2 c = checks-made _ _ _ (said-not-no _ _ (c .before .before .check .ensures) (c .before .if1 .left)) _ (c .holds .ensures)
+
+pub check-spec : {M : Type 1} → statement M
+check-spec = tie.close (tie.spec check-requires returns holds-requires returns-2)

@@ -1,0 +1,53 @@
+// The lengths of the three places, and 8 and 9.
+ghost use mathlib.Core.Path.{_≡_};
+ghost use Rattle.definition.specs.Tables.{chartOf};
+ghost use Rattle.chart.specs.Ready.{Ready};
+ghost use Rattle.session.specs.Sessions.{isSession};
+ghost use Rattle.lent.specs.Places.{sessionIn, lengthsFit, checksOf};
+use crate::Checks;
+
+const QUEUE: usize = 2048;
+
+pub fn lengths_fit(numbers: usize, internal: usize, external: usize) -> bool
+    ensures { λ r. ⌜ r ≡ lengthsFit numbers internal external ⌝ }
+{
+    (numbers == state::NUMBERS) & (internal == QUEUE) & (external == QUEUE)
+}
+
+fn holds(chart: &[u64], numbers: &[u64], internal: &[u8], external: &[u8]) -> bool
+    requires { ⌜ Ready (now chart) ⌝ }
+    ensures { λ b. ⌜ b ≡ isSession (chartOf (now (chart .entry))) (sessionIn (now (numbers .entry)) (now (internal .entry)) (now (external .entry))) ⌝ }
+{
+    if !lengths_fit(numbers.len(), internal.len(), external.len()) {
+        return false;
+    }
+    let inner = numbers[state::INTERNAL];
+    let outer = numbers[state::EXTERNAL];
+    let mode = numbers[state::MODE];
+    let queues = queue::queue_fits(internal, inner) & queue::queue_fits(external, outer);
+    let conf = tables::set_at(numbers, 0);
+    queues
+        & session::mode_holds(chart, conf, inner, outer, mode)
+        & session::history_holds(chart, &numbers[state::HISTORY..state::INTERNAL])
+}
+
+pub fn check(
+    numbers: &[u64],
+    internal: &[u8],
+    external: &[u8],
+    chart: &[u64],
+    names: &[u8],
+) -> Checks
+    ensures { λ r. ⌜ r ≡ checksOf (now (chart .entry)) (now (names .entry)) (sessionIn (now (numbers .entry)) (now (internal .entry)) (now (external .entry))) ⌝ }
+{
+    if !compiler::check(chart, names) {
+        return Checks {
+            chart: false,
+            session: false,
+        };
+    }
+    Checks {
+        chart: true,
+        session: holds(chart, numbers, internal, external),
+    }
+}

@@ -1,0 +1,86 @@
+use borrow.Author.Needs.{needs}
+use mathlib.Core.Path.{refl}
+use Rattle.state.specs.Numbers.{set-inside}
+use Rattle.state.specs.Places.{numbers-size}
+use Rattle.rounds.specs.Traces.{wrote-filled}
+use Rattle.rounds.specs.Closing.{closing-within, closed-refused, closed-did}
+use Rattle.rounds.proofs.Tags.{not-did}
+use Rattle.rounds.proofs.closing.close.Statement.{statement}
+use Rattle.rounds.proofs.closing.close.Tie as tie
+
+set-at-requires : tie.Need-set-at-requires
+set-at-requires c κs = set-inside _ (numbers-size _ _ _ _ (c .before .before .before .before .before .before .pre .1 .spells))
+
+count-closing-requires : tie.Need-count-closing-requires
+count-closing-requires c κs = (c .before .before .before .before .before .before .before .pre .0, closing-within _ _ _ _ (c .before .before .before .before .before .before .before .pre .0) (c .before .before .before .before .before .before .before .pre .1) _ (c .set-at .ensures))
+
+judge-requires : tie.Need-judge-requires
+judge-requires c κs = search needs
+
+enum-told : tie.Need-enum-told
+enum-told c = search needs
+
+unchanged-requires : tie.Need-unchanged-requires
+unchanged-requires c κs = search needs
+
+returns : tie.Need-returns
+returns c = closed-refused _ _ _ _ (c .before .before .before .before .before .before .before .before .before .before .before .pre .0) (c .before .before .before .before .before .before .before .before .before .before .before .pre .1) _ (c .before .before .before .before .set-at .ensures) (c .before .before .before .before .before .before .before .before .before .before .before .args .trace .now) (c .before .before .before .count-closing .result) (c .before .before .before .count-closing .ensures) _ (c .before .before .judge .ensures) _ (c .unchanged .ensures) (not-did _ (c .before .match .keys2))
+
+slice-aggregate-closing-effects : tie.Need-slice-aggregate-closing-effects
+slice-aggregate-closing-effects c = search needs
+
+closing-effects-requires : tie.Need-closing-effects-requires
+closing-effects-requires c κs = (c .before .before .before .before .before .before .before .before .before .before .before .before .before .pre .0, closing-within _ _ _ _ (c .before .before .before .before .before .before .before .before .before .before .before .before .before .pre .0) (c .before .before .before .before .before .before .before .before .before .before .before .before .before .pre .1) _ (c .before .before .before .before .before .before .set-at .ensures), search needs)
+
+clear-requires : tie.Need-clear-requires
+clear-requires c κs = search needs
+
+clear-requires-2 : tie.Need-clear-requires-2
+clear-requires-2 c κs = search needs
+
+ended-requires : tie.Need-ended-requires
+ended-requires c κs = search needs
+
+put-state-requires : tie.Need-put-state-requires
+put-state-requires c κs = numbers-size _ _ _ _ (c .before .before .before .before .before .before .before .before .before .before .before .before .before .before .before .before .before .before .before .before .before .before .before .before .before .before .before .pre .1 .spells)
+
+same-length : tie.Need-same-length
+same-length c = refl
+
+same-length-2 : tie.Need-same-length-2
+same-length-2 c = c .before .before .put-state .kept .0
+
+same-length-3 : tie.Need-same-length-3
+same-length-3 c = c .before .before .before .before .before .before .before .before .before .before .before .clear .kept .0
+
+same-length-4 : tie.Need-same-length-4
+same-length-4 c = c .before .before .before .before .before .before .before .clear2 .kept .0
+
+returns-2 : tie.Need-returns-2
+returns-2 c = closed-did _ _ (c .before .before .before .before .before .before .before .before .before .before .before .before .before .before .before .before .before .before .before .before .before .before .before .before .before .before .before .before .before .before .args .internal .now) (c .before .before .before .before .before .before .before .before .before .before .before .before .before .before .before .before .before .before .before .before .before .before .before .before .before .before .before .before .before .before .args .external .now) (c .before .before .before .before .before .before .before .before .before .before .before .before .before .before .before .before .before .before .before .before .before .before .before .before .before .before .before .before .before .before .pre .0) (c .before .before .before .before .before .before .before .before .before .before .before .before .before .before .before .before .before .before .before .before .before .before .before .before .before .before .before .before .before .before .pre .1) _ (c .before .before .before .before .before .before .before .before .before .before .before .before .before .before .before .before .before .before .before .before .before .before .before .set-at .ensures) (c .before .before .before .before .before .before .before .before .before .before .before .before .before .before .before .before .before .before .before .before .before .before .before .before .before .before .before .before .before .before .args .trace .now) (c .before .before .before .before .before .before .before .before .before .before .before .before .before .before .before .before .before .before .before .before .before .before .count-closing .result) (c .before .before .before .before .before .before .before .before .before .before .before .before .before .before .before .before .before .before .before .before .before .before .count-closing .ensures) _ (c .before .before .before .before .before .before .before .before .before .before .before .before .before .before .before .before .before .before .before .before .before .judge .ensures) (c .before .before .before .before .before .before .before .before .before .before .before .before .before .before .before .before .before .before .before .enum-told .given .1) _ (c .before .before .before .ended .ensures) _ _ _ _ (c .before .before .before .before .before .before .before .before .before .before .before .before .before .before .before .before .closing-effects .result) (wrote-filled _ _ _ _ (c .before .before .before .before .before .before .before .before .before .before .before .before .before .before .before .before .closing-effects .ensures)) (c .before .before .before .before .before .before .before .before .before .before .before .clear .ensures) (c .before .before .before .before .before .before .before .clear2 .ensures) (c .before .before .put-state .ensures)
+
+same-length-5 : tie.Need-same-length-5
+same-length-5 c = c .before .before .before .before .before .before .before .before .before .before .before .before .before .before .before .before .closing-effects .kept .1 .1 .0
+
+pub close-spec : {M : Type 1} → statement M
+close-spec =
+    tie.close
+    (tie.spec
+    set-at-requires
+    count-closing-requires
+    judge-requires
+    enum-told
+    unchanged-requires
+    same-length
+    returns
+    slice-aggregate-closing-effects
+    closing-effects-requires
+    clear-requires
+    clear-requires-2
+    ended-requires
+    put-state-requires
+    same-length-2
+    same-length-3
+    same-length-4
+    same-length-5
+    returns-2)

@@ -1,0 +1,60 @@
+// The round of a closing session.
+ghost use mathlib.Core.Path.{_≡_};
+ghost use Rattle.definition.specs.Tables.{chartOf};
+ghost use Rattle.follower.specs.Follower.{closingRound};
+ghost use Rattle.chart.specs.Ready.{Ready};
+ghost use Rattle.state.specs.State.{stateAt, HoldsAt};
+ghost use Rattle.rounds.specs.Turns.{Turned};
+ghost use Rattle.rounds.specs.Closing.{IsEnded};
+use crate::NOTHING;
+use crate::Outcome;
+use crate::Turn;
+use crate::judging::count_closing;
+use crate::judging::judge;
+use crate::judging::unchanged;
+use definition::Mode;
+use effects::Tally;
+use rowset::RowSet;
+use state::State;
+
+pub fn ended() -> State
+    ensures { λ s. ⌜ IsEnded s ⌝ }
+{
+    State {
+        configuration: RowSet::empty(),
+        internal: 0,
+        external: 0,
+        mode: Mode::Ended,
+    }
+}
+
+// "exits all that is active in exit order and stores no history; queues are emptied, raises are shown but not queued, mode is ended."
+pub fn close(
+    chart: &[u64],
+    numbers: &mut [u64],
+    internal: &mut [u8],
+    external: &mut [u8],
+    trace: &mut [u32],
+) -> Turn
+    requires { ⌜ Ready (now chart) × HoldsAt (now chart) (now numbers) (now internal) (now external) ⌝ }
+    ensures { λ r. ⌜ Turned (closingRound (chartOf (now (chart .entry))) (stateAt (now (chart .entry)) (now (numbers .entry)) (now (internal .entry)) (now (external .entry)))) (stateAt (now (chart .entry)) (now (numbers .entry)) (now (internal .entry)) (now (external .entry))) r (now (numbers .exit)) (now (internal .exit)) (now (external .exit)) (now (trace .entry)) (now (trace .exit)) ⌝ }
+{
+    let conf = chart::set_at(numbers, 0);
+    let shown = Tally {
+        entries: count_closing(chart, conf).entries,
+        names: 0,
+    };
+    let outcome = judge(0, shown, trace.len());
+    let Outcome::Did = outcome else {
+        return unchanged(outcome);
+    };
+    let mut none = [0u32; 0];
+    let tally = microstep::closing_effects(chart, conf, trace, &mut none, NOTHING);
+    queue::clear(internal);
+    queue::clear(external);
+    state::put_state(numbers, ended());
+    Turn {
+        outcome: Outcome::Did,
+        count: tally.entries as usize,
+    }
+}

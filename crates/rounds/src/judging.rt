@@ -1,0 +1,68 @@
+// 7 and 10, judged by what was counted.
+ghost use mathlib.Core.Path.{_≡_};
+ghost use mathlib.Core.List.{[]};
+ghost use Prim.Native.Nat.{_+_, _≤_};
+ghost use lib.Dec.{ltb};
+ghost use lib.ListN.{length};
+ghost use Rattle.definition.specs.Tables.{rowCount, chartOf};
+ghost use Rattle.follower.specs.Microstep.{exiting, entering};
+ghost use Rattle.follower.specs.Follower.{refusalIf};
+ghost use Rattle.rowset.specs.Member.{rowsOf};
+ghost use Rattle.chart.specs.Ready.{Ready};
+ghost use Rattle.matching.specs.Chosen.{Within};
+ghost use Rattle.microstep.specs.Entry.{enteredAs};
+ghost use Rattle.rounds.specs.Turns.{judged, untouched};
+ghost use Rattle.rounds.specs.Judging.{Counted};
+ghost use Rattle.rounds.specs.Traces.{Joined};
+use crate::NOTHING;
+use crate::Outcome;
+use crate::Turn;
+use definition::Answer;
+use effects::Tally;
+use microstep::Entered;
+use rowset::RowSet;
+
+// A round that is not done changes nothing.
+pub fn unchanged(outcome: Outcome) -> Turn
+    ensures { λ t. ⌜ t ≡ untouched outcome ⌝ }
+{
+    Turn {
+        outcome: outcome,
+        count: 0,
+    }
+}
+
+// 7 for more than 32 internal names, then 10 for entries that do not fit the room; else it is done.
+pub fn judge(kept: u64, tally: Tally, room: usize) -> Outcome
+    requires { ⌜ kept ≤ 32 ⌝ }
+    ensures { λ r. ⌜ r ≡ judged (refusalIf (ltb 32 (kept + tally .names)) (ltb room (tally .entries))) ⌝ }
+{
+    let free = queue::MOST_QUEUED - kept;
+    let left = room as u64;
+    if free < tally.names {
+        return Outcome::Refused(Answer::Full);
+    }
+    if left < tally.entries {
+        return Outcome::Refused(Answer::NoRoom);
+    }
+    Outcome::Did
+}
+
+// A closing round and a start are counted with no trace to write into.
+pub fn count_closing(chart: &[u64], conf: RowSet) -> Tally
+    requires { ⌜ Ready (now chart) × Within (rowCount (now chart)) (rowsOf conf) ⌝ }
+    ensures { λ t. ⌜ Counted t (exiting (chartOf (now (chart .entry))) (rowsOf conf) (rowsOf conf)) ⌝ }
+{
+    let mut none = [0u32; 0];
+    let mut nobody = [0u32; 0];
+    microstep::closing_effects(chart, conf, &mut none, &mut nobody, NOTHING)
+}
+
+// What joins at a start is kept.
+pub fn count_first(chart: &[u64], e: Entered, joins: &mut [u32]) -> Tally
+    requires { ⌜ Ready (now chart) × Within (rowCount (now chart)) (rowsOf (e .set)) × (length (now joins) ≡ 32) ⌝ }
+    ensures { λ t. ⌜ Counted t (entering (chartOf (now (chart .entry))) [] (enteredAs e) []) × Joined (now (joins .exit)) t (entering (chartOf (now (chart .entry))) [] (enteredAs e) []) ⌝ }
+{
+    let mut none = [0u32; 0];
+    microstep::first_effects(chart, e, &mut none, joins, NOTHING)
+}

@@ -1,0 +1,155 @@
+// A round of any session, and a run: rounds one after the other.
+ghost use mathlib.Core.Path.{_≡_};
+ghost use mathlib.Core.Option.{none};
+ghost use lib.ListN.{length};
+ghost use Rattle.definition.specs.Tables.{nameAt, chartOf};
+ghost use Rattle.follower.specs.Selection.{selected};
+ghost use Rattle.follower.specs.Follower.{round, run};
+ghost use Rattle.rowset.specs.Member.{rowsOf};
+ghost use Rattle.chart.specs.Ready.{CompiledWith};
+ghost use Rattle.selection.specs.History.{storedAt};
+ghost use Rattle.state.specs.State.{configurationIn, historyIn, internalIn, externalIn, modeIn, stateAt, HoldsAt};
+ghost use Rattle.lookup.specs.Lookup.{Lookup};
+ghost use Rattle.events.specs.Rounds.{EventReady};
+ghost use Rattle.rounds.specs.Calls.{RunDone};
+ghost use Rattle.rounds.specs.Turns.{statusOf, Turned};
+ghost use Rattle.rounds.specs.Resting.{restBy};
+use crate::Outcome;
+use crate::Progress;
+use crate::Turn;
+use crate::closing::close;
+use crate::judging::unchanged;
+use crate::taking::take;
+use definition::Mode;
+use definition::Status;
+use lookup::RowKinds;
+
+fn round(
+    chart: &[u64],
+    names: &[u8],
+    index: &[u16],
+    kinds: RowKinds,
+    numbers: &mut [u64],
+    internal: &mut [u8],
+    external: &mut [u8],
+    items: &mut [u16],
+    trace: &mut [u32],
+) -> Turn
+    requires { ⌜ Lookup (now chart) (now names) (now index) kinds × HoldsAt (now chart) (now numbers) (now internal) (now external) × (length (now items) ≡ 256) ⌝ }
+    ensures { λ r. ⌜ Turned (round (chartOf (now (chart .entry))) (nameAt (now (names .entry))) (stateAt (now (chart .entry)) (now (numbers .entry)) (now (internal .entry)) (now (external .entry)))) (stateAt (now (chart .entry)) (now (numbers .entry)) (now (internal .entry)) (now (external .entry))) r (now (numbers .exit)) (now (internal .exit)) (now (external .exit)) (now (trace .entry)) (now (trace .exit)) ⌝ }
+{
+    let mode = state::mode_from(numbers[state::MODE]);
+    match mode {
+        Mode::Running => take(
+            chart,
+            names,
+            index,
+            kinds,
+            numbers,
+            internal,
+            external,
+            items,
+            trace,
+        ),
+        Mode::Closing => close(chart, numbers, internal, external, trace),
+        Mode::Ended => unchanged(Outcome::Over),
+    }
+}
+
+// How a run stops where a round came to this.
+fn status_of(outcome: Outcome) -> Status
+    ensures { λ s. ⌜ s ≡ statusOf outcome ⌝ }
+{
+    match outcome {
+        Outcome::Idle => Status::Idle,
+        Outcome::Over => Status::Ended,
+        Outcome::Refused(answer) => Status::Refused(answer),
+        Outcome::Did => Status::More,
+    }
+}
+
+fn stopped(outcome: Outcome, rounds: u32, count: usize) -> Progress
+    ensures { λ p. ⌜ p ≡ record { status = statusOf outcome; rounds = rounds; count = count } ⌝ }
+{
+    Progress {
+        status: status_of(outcome),
+        rounds: rounds,
+        count: count,
+    }
+}
+
+// The status of a run whose rounds are all done: "ended; else idle if running with nothing left to choose; (..) else more". Where a name
+// waits there is something to choose, whatever it selects.
+fn rest_status(
+    chart: &[u64],
+    names: &[u8],
+    index: &[u16],
+    kinds: RowKinds,
+    numbers: &[u64],
+    items: &mut [u16],
+) -> Status
+    requires { ⌜ EventReady (now chart) (now names) (now index) kinds (now numbers) (now items) ⌝ }
+    ensures { λ s. ⌜ s ≡ restBy (modeIn (now (numbers .entry))) (internalIn (now (numbers .entry))) (externalIn (now (numbers .entry))) (selected (chartOf (now (chart .entry))) (nameAt (now (names .entry))) (rowsOf (configurationIn (now (numbers .entry)))) (storedAt (historyIn (now (numbers .entry)))) none) ⌝ }
+{
+    let mode = state::mode_from(numbers[state::MODE]);
+    match mode {
+        Mode::Ended => Status::Ended,
+        Mode::Closing => Status::More,
+        Mode::Running => {
+            if (0 < numbers[state::INTERNAL]) | (0 < numbers[state::EXTERNAL]) {
+                return Status::More;
+            }
+            let first = events::select_eventless(chart, names, index, kinds, numbers, items);
+            if 0 < first.len {
+                return Status::More;
+            }
+            Status::Idle
+        }
+    }
+}
+
+// At most so many rounds from the state that the places spell.
+pub fn run(
+    chart: &[u64],
+    names: &[u8],
+    numbers: &mut [u64],
+    internal: &mut [u8],
+    external: &mut [u8],
+    rounds: u32,
+    trace: &mut [u32],
+) -> Progress
+    requires { ⌜ CompiledWith (now chart) (now names) × HoldsAt (now chart) (now numbers) (now internal) (now external) ⌝ }
+    ensures { λ r. ⌜ RunDone (run (chartOf (now (chart .entry))) (nameAt (now (names .entry))) rounds (stateAt (now (chart .entry)) (now (numbers .entry)) (now (internal .entry)) (now (external .entry))) (length (now (trace .entry)))) r (now (numbers .exit)) (now (internal .exit)) (now (external .exit)) (now (trace .entry)) (now (trace .exit)) ⌝ }
+{
+    let kinds = lookup::row_kinds(chart);
+    let mut index = [0u16; lookup::INDEX];
+    lookup::put_index(chart, &mut index);
+    let mut items = [0u16; 256];
+    let mut done: u32 = 0;
+    let mut count: usize = 0;
+    while done < rounds {
+        let rest = &mut trace[count..];
+        let turn = round(
+            chart,
+            names,
+            &index,
+            kinds,
+            numbers,
+            internal,
+            external,
+            &mut items,
+            rest,
+        );
+        count += turn.count;
+        let outcome = turn.outcome;
+        let Outcome::Did = outcome else {
+            return stopped(outcome, done, count);
+        };
+        done += 1;
+    }
+    Progress {
+        status: rest_status(chart, names, &index, kinds, numbers, &mut items),
+        rounds: done,
+        count: count,
+    }
+}
