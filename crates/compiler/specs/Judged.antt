@@ -68,10 +68,6 @@ pub record TreeRoom (numbers sets : List ℕ) : Type 0 where
 pub record AboveKnown (numbers sets : List ℕ) : Type 0 where
   pub are : all (isAbove (chartOf numbers) sets) (from (rowCount numbers) 0) ≡ true
 
--- the sets of these rows are there
-pub record SetsIn (sets rows : List ℕ) : Type 0 where
-  pub inside : (x : ℕ) → mem x rows ≡ true → x * 4 + 4 ≤ length sets
-
 -- a column of the children, judged
 pub record KidsKnown (numbers kids : List ℕ) : Type 0 where
   pub numbersKeep : Compilable numbers

@@ -18,7 +18,8 @@ use Rattle.rowset.specs.Member.{rowsOf}
 use Rattle.tables.specs.Ranges.{HasParent}
 use Rattle.rules3.specs.Parents.{TreeIn, tree-parent}
 use Rattle.chart.specs.Ready.{setAt}
-use Rattle.compiler.specs.Judged.{rowsIn, isAbove, isJoined, isChildRow, withBelow, isDown, isAimed, isAnchored, SetsIn, KidsKnown}
+use Rattle.compiler.specs.Compilable.{RowRoom}
+use Rattle.compiler.specs.Judged.{rowsIn, isAbove, isJoined, isChildRow, withBelow, isDown, isAimed, isAnchored, KidsKnown}
 
 module _ (c : Chart) (sets : List ℕ) (i : ℕ) (own : RowSet) (is : own ≡ setAt sets (i * 4)) where
   abbrev here : rowsOf own ≡ rowsIn sets i
@@ -85,11 +86,20 @@ pub gather-turn : (below : List ℕ) (all own more next : RowSet) (x : ℕ) → 
 unfolding withBelow rowsIn
 gather-turn below all own more next x o m e = e ∙ rw (m, o)
 
--- children are rows of the chart, so their sets are there
-pub sets-in : (c : Chart) (p : ℕ) (sets : List ℕ) (set : RowSet) (b : Bool) → c .rows * 4 ≤ length sets → b ≡ all (isChildRow c p) (rowsOf set) → b ≡ true → SetsIn sets (rowsOf set)
+-- a child is a row of the chart, so its set is there
+pub child-set : (numbers : List ℕ) (p x : ℕ) (sets : List ℕ) (b : Bool) → RowRoom numbers sets → b ≡ isChildRow (chartOf numbers) p x → b ≡ true → x * 4 + 4 ≤ length sets
 unfolding isChildRow
-sets-in c p sets set b room e h =
-    record { inside = λ x m. let l : x < c .rows = ltb-true _ _ (and-left (ltb x (c .rows)) (isChild c p x) (all-mem (isChildRow c p) (rowsOf set) (sym e ∙ h) x m)) in omega arith }
+child-set numbers p x sets b r e h =
+    let l : x < rowCount numbers = ltb-true _ _ (and-left (ltb x (rowCount numbers)) (isChild (chartOf numbers) p x) (sym e ∙ h)) in
+    let m = r .room in
+    omega arith
+
+-- the walk over the children: one of them is none, or all are there
+pub own-not : (p q : Bool) → false ≡ p → false ≡ (p && q)
+own-not p q e = rw (← e)
+
+pub own-same : (p t : Bool) (own found : RowSet) (xs : List ℕ) → true ≡ p → rowsOf found ≡ xs → t ≡ same (rowsOf own) (rowsOf found) → t ≡ (p && same (rowsOf own) xs)
+own-same p t own found xs e f g = g ∙ rw (f, ← e)
 
 same-none : (xs : List ℕ) → isEmpty xs ≡ same xs []
 unfolding isEmpty same
@@ -111,14 +121,9 @@ module _ (c : Chart) (below kids : List ℕ) (i : ℕ) (own set : RowSet) (is : 
   unfolding isDown all fold
   down-none n b e h f = f ∙ rw (← ours, empty-list (rowsOf set) (sym e ∙ h), ← mine) (same-none (rowsOf own))
 
-  pub down-not : (b : Bool) → b ≡ all (isChildRow c i) (rowsOf set) → b ≡ false → false ≡ isDown c below kids i
+  pub down-some : (b : Bool) → b ≡ (all (isChildRow c i) (rowsOf set) && same (rowsOf own) (fold (withBelow below) [] (rowsOf set))) → b ≡ isDown c below kids i
   unfolding isDown
-  down-not b e h = sym (rw (← ours, ← e, h))
-
-  pub down-same : (b t : Bool) (found : RowSet) → b ≡ all (isChildRow c i) (rowsOf set) → b ≡ true → rowsOf found ≡ fold (withBelow below) [] (rowsOf set) →
-      t ≡ same (rowsOf own) (rowsOf found) → t ≡ isDown c below kids i
-  unfolding isDown
-  down-same b t found e h f g = g ∙ rw (f, ← ours, ← e, h, ← mine)
+  down-some b e = e ∙ rw (← ours, ← mine)
 
 -- the children of a row, read from their column
 pub kids-read : (numbers kids : List ℕ) (i : ℕ) (s : RowSet) → KidsKnown numbers kids → i < rowCount numbers → s ≡ setAt kids (i * 4) → rowsOf s ≡ children (chartOf numbers) i

@@ -1,6 +1,6 @@
 // A chart's numbers into a compiled chart: the sets that the rows give, behind the numbers.
 ghost use mathlib.Core.Path.{_≡_};
-ghost use mathlib.Core.Bool.{cond};
+ghost use mathlib.Core.Bool.{_&&_, cond};
 ghost use mathlib.Core.List.{[], _++_};
 ghost use Prim.Native.Nat.{_+_, _*_, _≤_, _<_};
 ghost use lib.ListN.{length, drop};
@@ -13,7 +13,7 @@ ghost use Rattle.compiler.specs.Results.{Compiles};
 ghost use Rattle.rowset.specs.Member.{rowsOf};
 ghost use Rattle.compiler.specs.Writing.{putAt, columnOver};
 ghost use Rattle.compiler.specs.Compilable.{Compilable, RowRoom, TransitionRoom, TargetRoom, PairRoom, ColumnsRoom, childrenAndTargets};
-ghost use Rattle.compiler.specs.Judged.{isAbove, isJoined, isChildRow, withBelow, isDown, isAimed, isAnchored, TreeRoom, AboveKnown, SetsIn, KidsKnown};
+ghost use Rattle.compiler.specs.Judged.{isAbove, isJoined, isChildRow, withBelow, isDown, isAimed, isAnchored, TreeRoom, AboveKnown, KidsKnown};
 ghost use Rattle.compiler.specs.Targets.{WithChildren, RowKept, TransitionKept};
 use definition::Answer;
 use numbers::Row;
@@ -329,41 +329,27 @@ fn is_child_row(numbers: &[u64], p: Row, x: Row) -> bool
     (q < x.0 as u64) & (p.0 as u64 == q)
 }
 
-// Whether every row of the set is a child of row p.
-fn are_child_rows(numbers: &[u64], p: Row, set: RowSet) -> bool
-    requires { ⌜ Compilable (now numbers) ⌝ }
-    ensures { λ b. ⌜ b ≡ all (isChildRow (chartOf (now (numbers .entry))) (p .0)) (rowsOf set) ⌝ }
-{
-    let mut k = 0;
-    loop {
-        let Found::At(x) = set.next_from(k) else {
-            return true;
-        };
-        if !is_child_row(numbers, p, x) {
-            return false;
-        }
-        k = x.0 as u16 + 1;
-    }
-}
-
-// The rows of the set, with all that each of them has below it.
-fn gather(below: &[u64], set: RowSet) -> RowSet
-    requires { ⌜ SetsIn (now below) (rowsOf set) ⌝ }
-    ensures { λ s. ⌜ rowsOf s ≡ fold (withBelow (now (below .entry))) [] (rowsOf set) ⌝ }
+// Whether every row of the set is a child of row p, and these and all that they have below them are its own descendants: one walk judges and gathers.
+fn are_own(numbers: &[u64], below: &[u64], p: Row, set: RowSet, own: RowSet) -> bool
+    requires { ⌜ RowRoom (now numbers) (now below) ⌝ }
+    ensures { λ b. ⌜ b ≡ (all (isChildRow (chartOf (now (numbers .entry))) (p .0)) (rowsOf set) && same (rowsOf own) (fold (withBelow (now (below .entry))) [] (rowsOf set))) ⌝ }
 {
     let mut all = RowSet::empty();
     let mut k = 0;
     loop {
         let Found::At(x) = set.next_from(k) else {
-            return all;
+            return own.same(all);
         };
-        let own = chart::set_at(below, x.0 as usize * SET_WIDTH).with(x);
-        all = all.union(own);
+        if !is_child_row(numbers, p, x) {
+            return false;
+        }
+        let more = chart::set_at(below, x.0 as usize * SET_WIDTH).with(x);
+        all = all.union(more);
         k = x.0 as u16 + 1;
     }
 }
 
-// A row's descendants are its children and theirs.
+// A row's descendants are its children and theirs. Most rows have none.
 fn down_holds(numbers: &[u64], below: &[u64], kids: &[u64], i: usize) -> bool
     requires { ⌜ RowRoom (now numbers) (now below) × RowRoom (now numbers) (now kids) × (i < rowCount (now numbers)) ⌝ }
     ensures { λ b. ⌜ b ≡ isDown (chartOf (now (numbers .entry))) (now (below .entry)) (now (kids .entry)) i ⌝ }
@@ -373,10 +359,7 @@ fn down_holds(numbers: &[u64], below: &[u64], kids: &[u64], i: usize) -> bool
     if set.is_empty() {
         return own.is_empty();
     }
-    if !are_child_rows(numbers, Row(i as u8), set) {
-        return false;
-    }
-    own.same(gather(below, set))
+    are_own(numbers, below, Row(i as u8), set, own)
 }
 
 fn all_down(numbers: &[u64], below: &[u64], kids: &[u64]) -> bool

@@ -1,7 +1,5 @@
 use borrow.Author.Needs.{needs}
-use borrow.Author.Tests.{not-true, not-false}
-use Rattle.definition.specs.Tables.{chartOf}
-use Rattle.compiler.specs.Judging.{down-none, down-not, down-same, sets-in}
+use Rattle.compiler.specs.Judging.{down-none, down-some}
 use Rattle.compiler.proofs.down_holds.Statement.{statement}
 use Rattle.compiler.proofs.down_holds.Tie as tie
 
@@ -26,23 +24,14 @@ is-empty-requires-2 c κs = search needs
 returns : tie.Need-returns
 returns c = down-none _ _ _ _ _ _ (c .before .before .before .before .set-at .ensures) (c .before .before .before .set-at2 .ensures) _ _ (c .before .before .is-empty .ensures) (c .before .if1 .taken) (c .is-empty2 .ensures)
 
-cast-t10 : tie.Need-cast-t10
-cast-t10 c = search needs
+cast-t9 : tie.Need-cast-t9
+cast-t9 c = search needs
 
-are-child-rows-requires : tie.Need-are-child-rows-requires
-are-child-rows-requires c κs = search needs
+are-own-requires : tie.Need-are-own-requires
+are-own-requires c κs = search needs
 
 returns-2 : tie.Need-returns-2
-returns-2 c = down-not _ _ _ _ _ _ (c .before .before .before .before .before .set-at .ensures) (c .before .before .before .before .set-at2 .ensures) _ (c .before .are-child-rows .ensures) (not-true _ (c .if2 .taken))
-
-gather-requires : tie.Need-gather-requires
-gather-requires c κs = sets-in (chartOf (c .before .before .before .before .before .before .before .before .before .args .numbers .now)) _ _ _ _ (c .before .before .before .before .before .before .before .before .before .pre .0 .room) (c .before .are-child-rows .ensures) (not-false _ (c .if2 .left))
-
-same-requires : tie.Need-same-requires
-same-requires c κs = search needs
-
-returns-3 : tie.Need-returns-3
-returns-3 c = down-same _ _ _ _ _ _ (c .before .before .before .before .before .before .before .set-at .ensures) (c .before .before .before .before .before .before .set-at2 .ensures) _ _ _ (c .before .before .before .are-child-rows .ensures) (not-false _ (c .before .before .if2 .left)) (c .before .gather .ensures) (c .same .ensures)
+returns-2 c = down-some _ _ _ _ _ _ (c .before .before .before .before .set-at .ensures) (c .before .before .before .set-at2 .ensures) _ (c .are-own .ensures)
 
 pub down-holds-spec : {M : Type 1} → statement M
 down-holds-spec =
@@ -55,9 +44,6 @@ down-holds-spec =
     is-empty-requires
     is-empty-requires-2
     returns
-    cast-t10
-    are-child-rows-requires
-    returns-2
-    gather-requires
-    same-requires
-    returns-3)
+    cast-t9
+    are-own-requires
+    returns-2)
