@@ -1,23 +1,23 @@
 -- The tests of the code over one row and over a set of rows, as the definition has them.
 use mathlib.Core.Path.{_≡_, refl, sym, ap, _∙_}
-use mathlib.Core.Bool.{Bool, true, false, not, _||_}
-use mathlib.Core.List.{List}
+use mathlib.Core.Bool.{Bool, true, false, not, _&&_, _||_, cond}
+use mathlib.Core.List.{List, []}
 use Prim.Native.Nat.{ℕ, zero, suc, _+_, _≤_, _<_, min}
 use native.Mathlib.Omega.{arith}
 use lib.Dec.{leb}
 use borrow.Author.Tests.{not-true, not-false, ltb-true}
 use Rattle.definition.specs.declared.Kind.{Kind}
 use Rattle.definition.specs.declared.Kind.the-variants.{Root, State, Parallel, Final, Shallow, Deep}
-use Rattle.definition.specs.Rows.{from, mem, any, all, isSet, isSingle, intersection, subset}
-use Rattle.definition.specs.Chart.{Chart, kind, parent, isRoot, isParallel, isFinal, isHistory}
+use Rattle.definition.specs.Rows.{from, mem, any, all, isEmpty, isSet, isSingle, intersection, minus, subset}
+use Rattle.definition.specs.Chart.{Chart, kind, parent, isRoot, isState, isParallel, isFinal, isHistory}
 use Rattle.definition.specs.Tables.{rowCount, kindAt, chartOf}
-use Rattle.definition.specs.Tree.{children, isDomainKind}
-use Rattle.follower.specs.Follower.{isFinalUnderRoot}
-use Rattle.follower.specs.Legal.{childrenFit, rowFits, isLegal}
+use Rattle.definition.specs.Tree.{children, isCompound, isDomainKind}
+use Rattle.definition.specs.Follower.{isFinalUnderRoot}
+use Rattle.definition.specs.Legal.{childrenFit, rowFits, isLegal}
 use Rattle.laws.specs.Bools.{no, both-ways, clash, and-true, and-left, and-right}
 use Rattle.laws.specs.Sets.{Ascends, mem-below, mem-from, mem-intersection}
-use Rattle.laws.specs.Lists.{any-true, any-mem, subset-mem, mem-subset, ascends-set, set-below}
-use Rattle.accepted.specs.Tree.{Tree, root-kind, root-zero, child-of, children-mem}
+use Rattle.laws.specs.Lists.{any-true, any-mem, empty-list, subset-mem, mem-subset, ascends-set, set-below}
+use Rattle.theory.specs.Tree.{Tree, root-kind, root-zero, child-of, children-mem}
 use Rattle.chart.specs.Ready.{Ready, RowReady}
 use Rattle.rowset.specs.declared.RowSet.{RowSet}
 use Rattle.rowset.specs.Member.{rowsOf}
@@ -55,6 +55,18 @@ module _ (c : Chart) (set : List ℕ) (i : ℕ) where
       both ≡ intersection kids set → b ≡ isSingle both → b ≡ childrenFit c set i
   unfolding childrenFit
   fit-single kids both d b p e n k q h = rw (p, ← e, not-false d n, ← k, ← q) h
+
+  -- a row without children, which is not the root
+  pub fit-empty : (kids : List ℕ) (b : Bool) → isRoot (kind c i) ≡ false → kids ≡ children c i → b ≡ isEmpty kids → b ≡ true → true ≡ childrenFit c set i
+  unfolding childrenFit isDomainKind isCompound subset minus isEmpty
+  fit-empty kids b r e f h =
+      let none : children c i ≡ [] = sym e ∙ empty-list kids (sym f ∙ h) in
+      sym (rw (r, none) (go (isParallel (kind c i)) (isState (kind c i)) _))
+    where
+      go : (p s x : Bool) → cond p true (not (false || (s && false)) || x) ≡ true
+      go true s x = refl
+      go false true x = refl
+      go false false x = refl
 
   pub row-root : isRoot (kind c i) ≡ true → false ≡ rowFits c set i
   unfolding rowFits

@@ -39,7 +39,7 @@ fn is_held(chart: &[u64], conf: RowSet, r: Row) -> bool
     conf.has(p)
 }
 
-// An active row is neither root nor history, its parent is active, and its children fit.
+// An active row is neither root nor history, its parent is active, and its children fit: no call is made for a row that has none.
 fn row_fits(chart: &[u64], conf: RowSet, r: Row) -> bool
     requires { ⌜ RowReady (now chart) (r .0) ⌝ }
     ensures { λ b. ⌜ b ≡ rowFits (chartOf (now (chart .entry))) (rowsOf conf) (r .0) ⌝ }
@@ -53,6 +53,10 @@ fn row_fits(chart: &[u64], conf: RowSet, r: Row) -> bool
     }
     if !is_held(chart, conf, r) {
         return false;
+    }
+    let children = chart::children_of(chart, r);
+    if children.is_empty() {
+        return true;
     }
     children_fit(chart, conf, r)
 }
