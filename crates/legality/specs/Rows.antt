@@ -12,12 +12,12 @@ use Rattle.definition.specs.Rows.{from, mem, any, all, isEmpty, isSet, isSingle
 use Rattle.definition.specs.Chart.{Chart, kind, parent, isRoot, isState, isParallel, isFinal, isHistory}
 use Rattle.definition.specs.Tables.{rowCount, kindAt, chartOf}
 use Rattle.definition.specs.Tree.{children, isCompound, isDomainKind}
-use Rattle.definition.specs.Follower.{isFinalUnderRoot}
-use Rattle.definition.specs.Legal.{childrenFit, rowFits, isLegal}
+use Rattle.follower.specs.Follower.{isFinalUnderRoot}
+use Rattle.follower.specs.Legal.{childrenFit, rowFits, isLegal}
 use Rattle.laws.specs.Bools.{no, both-ways, clash, and-true, and-left, and-right}
 use Rattle.laws.specs.Sets.{Ascends, mem-below, mem-from, mem-intersection}
 use Rattle.laws.specs.Lists.{any-true, any-mem, empty-list, subset-mem, mem-subset, ascends-set, set-below}
-use Rattle.theory.specs.Tree.{Tree, root-kind, root-zero, child-of, children-mem}
+use Rattle.accepted.specs.Tree.{Tree, root-kind, root-zero, child-of, children-mem}
 use Rattle.chart.specs.Ready.{Ready, RowReady}
 use Rattle.rowset.specs.declared.RowSet.{RowSet}
 use Rattle.rowset.specs.Member.{rowsOf}
