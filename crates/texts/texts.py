@@ -1,7 +1,7 @@
 #!/usr/bin/env python3
 """Texts and what they mean, written as theorems that the definitions of crates grammar and reading meet by computation.
 
-texts.py           writes specs/Faults.antt, Refusals.antt and Charts.antt
+texts.py           writes specs/Faults.antt, Refusals.antt, Charts.antt and Calls.antt
 texts.py --check   tells whether they hold what would be written
 
 What is expected here was not computed by the definitions: it was worked out from document 02 by hand or by another reader."""
@@ -292,6 +292,20 @@ CHARTS = {
     ),
 }
 
+LEAST = "<scxml><state id='a'/></scxml>"
+
+# name: the text, the lengths of the two places, the answer, the offset; each place holds sevens. Where the answer is 0 the text is LEAST.
+CALLS = {
+    "exact-places": (LEAST, 28, 64, 0, 0),
+    "longer-places": (LEAST, 30, 67, 0, 0),
+    "one-number-short": (LEAST, 27, 64, 1, 0),
+    "one-byte-short": (LEAST, 28, 63, 1, 0),
+    "rule-3": ("<scxml><final id='f'><state id='s'/></final></scxml>", 39, 128, 3, 0),
+    "too-small-before-rule-3": ("<scxml><final id='f'><state id='s'/></final></scxml>", 38, 128, 1, 0),
+    "fault-before-too-small": ("<scxml><state/></scxml>", 0, 0, 12, 7),
+    "not-of-the-grammar": ("<scxml><state id='a'/>", 2, 3, 12, 22),
+}
+
 USES = """use mathlib.Core.Path.{_≡_, refl}
 use mathlib.Core.List.{List, [], _∷_, _++_}
 use Prim.Native.Nat.{ℕ}
@@ -299,6 +313,13 @@ use Rattle.reading.specs.Tags.{tagsOf}
 use Rattle.reading.specs.Content.{contentOf, slotsOf}
 use Rattle.reading.specs.Layout.{numbersOf, namesOf, readOf, faulty, refused, tables}
 use Rattle.reading.specs.Print.{print}
+use Rattle.texts.specs.Opened.{everything}
+"""
+
+CALL_USES = """use mathlib.Core.Path.{_≡_, refl}
+use mathlib.Core.List.{List, [], _∷_}
+use Prim.Native.Nat.{ℕ}
+use Rattle.reading.specs.Calls.{callOf}
 use Rattle.texts.specs.Opened.{everything}
 """
 
@@ -367,9 +388,26 @@ def charts():
     return out
 
 
+def calls():
+    out = "-- Texts read into places of sevens: the answer, the offset, and the places behind the call. Written by texts.py.\n" + CALL_USES + "\n"
+    for name, (text, room, name_room, answer, at) in CALLS.items():
+        place, name_place, sizes = [7] * room, [7] * name_room, (0, 0)
+        if answer == 0:
+            cells, slot = CHARTS["delete-byte"][1], [97] + [0] * 63
+            sizes = len(cells), len(slot)
+            place, name_place = cells + place[len(cells):], slot + name_place[len(slot):]
+        out += shown(text) + "\n" + constant("text-%s" % name, text)
+        out += theorem(
+            name,
+            "callOf text-%s (%s) (%s) ≡ record { answer = %d; offset = %d; cells = %d; bytes = %d; numbers = %s; names = %s }"
+            % ((name, numbers([7] * room), numbers([7] * name_room), answer, at) + sizes + (numbers(place), numbers(name_place))),
+        )
+    return out
+
+
 def main():
     wrong = 0
-    for name, write in {"Faults": faults, "Refusals": refusals, "Charts": charts}.items():
+    for name, write in {"Faults": faults, "Refusals": refusals, "Charts": charts, "Calls": calls}.items():
         path = os.path.join(here, name + ".antt")
         if "--check" not in sys.argv:
             open(path, "w", encoding="utf-8").write(write())

@@ -2,3 +2,4 @@ pub mod Opened
 pub mod Faults
 pub mod Refusals
 pub mod Charts
+pub mod Calls
