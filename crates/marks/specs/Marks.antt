@@ -47,6 +47,17 @@ isMark Nothing = false
 isMark (Valued e w a b) = true
 isMark (Tagged a s e) = true
 
+-- where a value begins and where its quote stands; 0 of a mark that is none
+abbrev pub valueFrom : Mark → ℕ
+valueFrom Nothing = 0
+valueFrom (Valued e w a b) = a
+valueFrom (Tagged a s e) = 0
+
+abbrev pub valueTo : Mark → ℕ
+valueTo Nothing = 0
+valueTo (Valued e w a b) = b
+valueTo (Tagged a s e) = 0
+
 -- the last "<" before i or at it
 abbrev pub beganAt : Zone → ℕ → ℕ → ℕ
 beganAt y i at = cond (isBegun y) i at

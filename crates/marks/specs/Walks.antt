@@ -13,25 +13,33 @@ use Rattle.grammar.specs.declared.Place.the-variants as places
 use Rattle.grammar.specs.declared.Step.{Step}
 use Rattle.grammar.specs.declared.Step.the-variants as steps
 use Rattle.markup.specs.declared.Cursor.{Cursor}
-use Rattle.grammar.specs.Grammar.{isChar, stepOf, dead, live}
+use Rattle.grammar.specs.Grammar.{attribute, isChar, stepOf, dead, live}
 use Rattle.markup.specs.Growth.{wordAt}
 use Rattle.markup.specs.Stack.{levels, stateAt, stateOf, Landed, by-advance}
 use Rattle.reading.specs.declared.Zone.{Zone}
+use Rattle.reading.specs.declared.Zone.the-variants as zones
 use Rattle.marks.specs.declared.Mark.{Mark}
 use Rattle.marks.specs.declared.Mark.the-variants.{Nothing, Valued, Tagged}
 use Rattle.marks.specs.declared.Walk.{Walk}
 use Rattle.reading.specs.Zones.{zone, landing, isBegun, isValue, elementIn}
-use Rattle.marks.specs.Marks.{markOf, marked, isMark, marksFrom}
+use Rattle.marks.specs.Marks.{slashMark, endMark, markOf, marked, isMark, valueFrom, valueTo, marksFrom, marksOf}
 
 -- what is left of the marks
 abbrev pub restOf : List ℕ → List ℕ → Walk → List Mark
 restOf text xs w = marksFrom (stateOf xs (w .cursor)) (w .at) (w .element) (w .from) (w .index) (drop (w .index) text)
+
+-- a mark of the byte i whose value begins at from: the value begins before its quote, and its quote is the byte
+pub record Ordered (from i : ℕ) (m : Mark) : Type 0 where
+  pub quote : valueTo m ≤ i
+  pub first : from ≤ i → valueFrom m ≤ valueTo m
 
 pub record Noted (xs ys : List ℕ) (p : Place) (t d at e from i b : ℕ) (r : Walk) : Type 0 where
   pub long : length ys ≡ length xs
   pub deep : r .cursor .depth ≤ d + 1
   pub word : wordAt (r .cursor .place) ≤ wordAt p + 1
   pub index-is : r .index ≡ i + 1
+  pub begun : from ≤ i → r .from ≤ i + 1
+  pub ordered : Ordered from i (r .mark)
   pub marks : (bs : List ℕ) → marksFrom (live p t (levels xs d)) at e from i (b ∷ bs) ≡ marked (r .mark) (marksFrom (stateOf ys (r .cursor)) (r .at) (r .element) (r .from) (i + 1) bs)
 
 pub record Standing (text xs : List ℕ) (w : Walk) : Type 0 where
@@ -39,25 +47,62 @@ pub record Standing (text xs : List ℕ) (w : Walk) : Type 0 where
   pub short : length text ≤ 32768
   pub deep : w .cursor .depth ≤ w .index
   pub word : wordAt (w .cursor .place) ≤ w .index
+  pub begun : w .from ≤ w .index
   pub room : length xs ≡ 32768
 
--- the mark r .mark is the first of what was left, the others are left; there is none where none was left; each is found further on
+-- the mark r .mark is the first of what was left, the others are left; there is none where none was left; each is found further on, and a
+-- value stands in the text
 pub record Next (text xs ys : List ℕ) (w r : Walk) : Type 0 where
   pub standing : Standing text ys r
   pub rest : restOf text xs w ≡ marked (r .mark) (restOf text ys r)
   pub none : isMark (r .mark) ≡ false → restOf text xs w ≡ []
   pub further : isMark (r .mark) ≡ true → w .index < r .index
+  pub first : valueFrom (r .mark) ≤ valueTo (r .mark)
+  pub quote : valueTo (r .mark) ≤ length text
 
 dead-none : (bs : List ℕ) (at e from i : ℕ) → marksFrom dead at e from i bs ≡ []
 unfolding marksFrom
 dead-none [] at e from i = refl
 dead-none (b ∷ bs) at e from i = refl
 
+-- ---- where the values stand
+
+no-value : (from i : ℕ) (m : Mark) → valueFrom m ≡ 0 → valueTo m ≡ 0 → Ordered from i m
+no-value from i m a b = record { quote = omega arith; first = λ h. omega arith }
+
+slash-ordered : (z : Zone) (at e from i : ℕ) → Ordered from i (slashMark z at e)
+slash-ordered zones.Outside at e from i = no-value from i Nothing refl refl
+slash-ordered zones.Begun at e from i = no-value from i Nothing refl refl
+slash-ordered (zones.InTag d) at e from i = no-value from i Nothing refl refl
+slash-ordered (zones.InValue d j) at e from i = no-value from i Nothing refl refl
+slash-ordered zones.Slash at e from i = no-value from i (Tagged at 1 e) refl refl
+
+end-ordered : (s : Step) (z : Zone) (t at e from i : ℕ) → Ordered from i (endMark s z t at e)
+end-ordered steps.Fault z t at e from i = no-value from i Nothing refl refl
+end-ordered (steps.Go p u) z t at e from i = slash-ordered z at e from i
+end-ordered (steps.Open u v) z t at e from i = no-value from i (Tagged at 0 e) refl refl
+end-ordered steps.Shut z t at e from i = no-value from i (Tagged at 2 _) refl refl
+
+value-ordered : (inside : Bool) (d w from i : ℕ) → Ordered from i (cond inside Nothing (Valued d w from i))
+value-ordered true d w from i = no-value from i Nothing refl refl
+value-ordered false d w from i = record { quote = omega arith; first = λ h. h }
+
+mark-ordered : (s : Step) (z : Zone) (t at e from i : ℕ) → Ordered from i (markOf s z t at e from i)
+mark-ordered s zones.Outside t at e from i = end-ordered s zones.Outside t at e from i
+mark-ordered s zones.Begun t at e from i = end-ordered s zones.Begun t at e from i
+mark-ordered s (zones.InTag d) t at e from i = end-ordered s (zones.InTag d) t at e from i
+mark-ordered s (zones.InValue d j) t at e from i = value-ordered (isValue (landing s)) d (attribute d j) from i
+mark-ordered s zones.Slash t at e from i = end-ordered s zones.Slash t at e from i
+
+either-below : (inside : Bool) (from i : ℕ) → from ≤ i → cond inside from (i + 1) ≤ i + 1
+either-below true from i h = omega arith
+either-below false from i h = omega arith
+
 pub note-none : (xs : List ℕ) (p : Place) (t d at e from i b : ℕ) (plain : Bool) → plain ≡ isChar b → not plain ≡ true →
     Noted xs xs p t d at e from i b (record { cursor = record { place = places.Content; top = 0; depth = 0; live = false }; at = at; element = e; from = from; index = i + 1; mark = Nothing })
 unfolding marksFrom
 note-none xs p t d at e from i b plain f g =
-    record { long = refl; deep = omega arith; word = omega arith; index-is = refl; marks = λ bs. rw (sym f ∙ not-true plain g) (sym (dead-none bs at e from (i + 1))) }
+    record { long = refl; deep = omega arith; word = omega arith; index-is = refl; begun = λ h. omega arith; ordered = no-value from i Nothing refl refl; marks = λ bs. rw (sym f ∙ not-true plain g) (sym (dead-none bs at e from (i + 1))) }
 
 pub note-plain : (xs ys : List ℕ) (p : Place) (t d at e from i b : ℕ) (plain : Bool) → plain ≡ isChar b → not plain ≡ false →
     (s : Step) → s ≡ stepOf p t b → (z : Zone) → z ≡ zone p → (y : Zone) → y ≡ landing s → (el : ℕ) → el ≡ elementIn z e → (begun : Bool) → begun ≡ isBegun y →
@@ -71,6 +116,8 @@ note-plain xs ys p t d at e from i b plain f g s es z ez y ey el ee begun eb at'
       deep = st .deep;
       word = st .word;
       index-is = refl;
+      begun = λ h. rw ef (either-below inside from i h);
+      ordered = rw em (mark-ordered s z t at' el from i);
       marks = λ bs. rw (st .steps, sym f ∙ not-false plain g, em, ef, en, ea, eb, ee, ey, ez, es) refl;
     }
 
@@ -106,13 +153,16 @@ module _ (text xs₀ : List ℕ) (w₀ : Walk) (xs : List ℕ) (w : Walk) (i : �
         n .marks (drop (i + 1) text) ∙
         ap (λ (j : ℕ). marked (r .mark) (marksFrom (stateOf ys (r .cursor)) (r .at) (r .element) (r .from) j (drop j text))) (sym (n .index-is))
 
+    behind : w .from ≤ i
+    behind = let q = k .index-is in let b = k .standing .begun in omega arith
+
     stands : Standing text ys r
     stands =
         let q = k .index-is in let a = n .index-is in let dd = k .standing .deep in let ww = k .standing .word in let d2 = n .deep in let w2 = n .word in
-        record { within = omega arith; short = k .standing .short; deep = omega arith; word = omega arith; room = n .long ∙ k .standing .room }
+        record { within = omega arith; short = k .standing .short; deep = omega arith; word = omega arith; begun = rw a (n .begun behind); room = n .long ∙ k .standing .room }
 
     pub walk-found : (found : Bool) → found ≡ isMark (r .mark) → found ≡ true → Next text xs₀ ys w₀ r
-    walk-found found q t = let e : isMark (r .mark) ≡ true = sym q ∙ t in let a = n .index-is in let b = k .begun in record { standing = stands; rest = one; further = λ f. omega arith; none = λ f. absurd (let z : true ≡ false = sym e ∙ f in let z2 : _≡_ {A = ℕ} 0 1 = cc in omega arith) }
+    walk-found found q t = let e : isMark (r .mark) ≡ true = sym q ∙ t in let a = n .index-is in let b = k .begun in let o = n .ordered .quote in record { standing = stands; rest = one; further = λ f. omega arith; first = n .ordered .first behind; quote = omega arith; none = λ f. absurd (let z : true ≡ false = sym e ∙ f in let z2 : _≡_ {A = ℕ} 0 1 = cc in omega arith) }
 
     pub walk-more : (found : Bool) → found ≡ isMark (r .mark) → found ≡ false → Walking text xs₀ w₀ ys r (i + 1)
     walk-more found q t = let e : isMark (r .mark) ≡ false = sym q ∙ t in let b = k .begun in record { standing = stands; index-is = n .index-is; begun = omega arith; rest = one ∙ no-mark (r .mark) (restOf text ys r) e }
@@ -123,8 +173,8 @@ module _ (text xs₀ : List ℕ) (w₀ : Walk) (xs : List ℕ) (w : Walk) (i : �
 
   stays : restOf text xs₀ w₀ ≡ [] → Next text xs₀ xs w₀ stay
   stays e =
-      let q = k .index-is in let dd = k .standing .deep in let ww = k .standing .word in let wi = k .standing .within in
-      record { standing = record { within = omega arith; short = k .standing .short; deep = omega arith; word = omega arith; room = k .standing .room }; rest = here; none = λ f. e; further = λ f. absurd (let z2 : _≡_ {A = ℕ} 0 1 = cc in omega arith) }
+      let q = k .index-is in let dd = k .standing .deep in let ww = k .standing .word in let wi = k .standing .within in let bb = k .standing .begun in
+      record { standing = record { within = omega arith; short = k .standing .short; deep = omega arith; word = omega arith; begun = omega arith; room = k .standing .room }; rest = here; none = λ f. e; first = omega arith; quote = omega arith; further = λ f. absurd (let z2 : _≡_ {A = ℕ} 0 1 = cc in omega arith) }
 
   pub walk-dead : not (w .cursor .live) ≡ true → Next text xs₀ xs w₀ stay
   walk-dead e =
@@ -139,3 +189,15 @@ pub walk-ready : (text xs₀ : List ℕ) (w₀ : Walk) (xs : List ℕ) (w : Walk
 walk-ready text xs₀ w₀ xs w i k h =
     let q = k .index-is in let dd = k .standing .deep in let ww = k .standing .word in let ss = k .standing .short in let rr = k .standing .room in
     (omega arith, omega arith, omega arith)
+
+-- ---- the whole walk
+
+abbrev pub beginning : Walk
+beginning = record { cursor = record { place = places.Content; top = 0; depth = 0; live = true }; at = 0; element = 48; from = 0; index = 0; mark = Nothing }
+
+pub begin-stands : (text xs : List ℕ) → length text ≤ 32768 → length xs ≡ 32768 → Standing text xs beginning
+begin-stands text xs s l = record { within = omega arith; short = s; deep = omega arith; word = omega arith; begun = omega arith; room = l }
+
+pub begin-rest : (text xs : List ℕ) → restOf text xs beginning ≡ marksOf text
+unfolding marksOf levels
+begin-rest text xs = refl

@@ -8,7 +8,7 @@ ghost use Rattle.grammar.specs.Grammar.{stepOf};
 ghost use Rattle.markup.specs.Growth.{wordAt};
 ghost use Rattle.reading.specs.Zones.{zone, landing, isBegun, isValue, elementIn};
 ghost use Rattle.marks.specs.Marks.{slashMark, endMark, valueMark, markOf, isMark};
-ghost use Rattle.marks.specs.Walks.{Noted, Standing, Next};
+ghost use Rattle.marks.specs.Walks.{beginning, Noted, Standing, Next};
 use grammar::Place;
 use grammar::Step;
 use markup::Cursor;
@@ -35,6 +35,25 @@ pub struct Walk {
     pub from: usize,
     pub index: usize,
     pub mark: Mark,
+}
+
+// Before the first byte of a text.
+pub fn begin() -> Walk
+    ensures { λ r. ⌜ r ≡ beginning ⌝ }
+{
+    Walk {
+        cursor: Cursor {
+            place: Place::Content,
+            top: 0,
+            depth: 0,
+            live: true,
+        },
+        at: 0,
+        element: 48,
+        from: 0,
+        index: 0,
+        mark: Mark::Nothing,
+    }
 }
 
 // What of a place the tags go by.
@@ -222,7 +241,7 @@ fn note_byte(
     }
 }
 
-fn is_mark(m: Mark) -> bool
+pub fn is_mark(m: Mark) -> bool
     ensures { λ r. ⌜ r ≡ isMark m ⌝ }
 {
     match m {
