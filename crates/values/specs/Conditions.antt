@@ -301,3 +301,23 @@ module _ (v : List ℕ) (from : ℕ) (f : from ≡ openedAt v) where
 
       pub cond-other : (named && closed) ≡ false → Other ≡ conditionOf v
       cond-other q = rw (whole ∙ q) refl
+
+-- In's name stands in the value
+and-left : (a b : Bool) → (a && b) ≡ true → a ≡ true
+and-left true b e = refl
+and-left false b e = e
+
+opened-in : (v : List ℕ) → isCondition v ≡ true → conditionAt v ≡ openedAt v
+unfolding isCondition openedAt
+opened-in v e =
+    let closed = same (drop (apostrophe (behindName v)) (behindName v)) (41 ∷ []) in
+    let quoted = leb 1 (apostrophe (behindName v)) in
+    let opened = and-left (isOpened v) (spelt true (inner v)) (and-left (isOpened v && spelt true (inner v)) quoted (and-left (isOpened v && spelt true (inner v) && quoted) closed e)) in
+    sym (rw opened refl)
+
+pub condition-inside : (v : List ℕ) → isCondition v ≡ true → conditionAt v + nameBytes (drop (conditionAt v) v) ≤ length v
+condition-inside v e =
+    let a = from-inside v (conditionAt v) (opened-in v e) in
+    let i = name-inside (drop (conditionAt v) v) in
+    let d : length (drop (conditionAt v) v) ≡ length v - conditionAt v = length-drop (conditionAt v) v in
+    omega arith

@@ -133,7 +133,7 @@ pub fn is_id(text: &[u8], ids: &[u16], n: usize, name: &[u8]) -> bool
 }
 
 // "a name or descriptor over 63 bytes", or, if the name refers to a row, "A reference to an id .. that does not exist".
-fn is_bad(text: &[u8], ids: &[u16], n: usize, refers: bool, name: &[u8]) -> bool
+pub fn is_bad(text: &[u8], ids: &[u16], n: usize, refers: bool, name: &[u8]) -> bool
     requires { ⌜ Noted (now text) (now ids) n ⌝ }
     ensures { λ r. ⌜ r ≡ isBad refers (idsFrom (now (text .entry)) (now (ids .entry)) n 0) (now (name .entry)) ⌝ }
 {

@@ -1,0 +1,67 @@
+use borrow.Author.Needs.{needs}
+use Prim.Native.Nat.{_-_}
+use Rattle.gather.specs.Ids.{Gathering, ids-start, ids-end, ids-room, ids-less, ids-more}
+use lib.ListN.{length}
+use Rattle.gather.proofs.ids.gather_ids.Statement.{statement}
+use Rattle.gather.proofs.ids.gather_ids.Tie as tie
+
+abbrev Inv-loop : tie.InvT-loop
+Inv-loop text levels₀ ids₀ w₀ id₀ n₀ levels ids w id n = Gathering text levels ids w id n
+
+abbrev μ-loop : tie.MeasureT-loop
+μ-loop text levels₀ ids₀ w₀ id₀ n₀ levels ids w id n = length text - w .index
+
+begin-requires : tie.Need-begin-requires Inv-loop μ-loop
+begin-requires c κs = search needs
+
+loop-holds : tie.Need-loop-holds Inv-loop μ-loop
+loop-holds c = search (needs, ids-start)
+
+next-mark-requires : tie.Need-next-mark-requires Inv-loop μ-loop
+next-mark-requires c κs = search needs
+
+is-mark-requires : tie.Need-is-mark-requires Inv-loop μ-loop
+is-mark-requires c κs = search needs
+
+same-length : tie.Need-same-length Inv-loop μ-loop
+same-length c = search needs
+
+same-length-2 : tie.Need-same-length-2 Inv-loop μ-loop
+same-length-2 c = search needs
+
+returns : tie.Need-returns Inv-loop μ-loop
+returns c = search (needs, ids-end)
+
+is-row-mark-requires : tie.Need-is-row-mark-requires Inv-loop μ-loop
+is-row-mark-requires c κs = search needs
+
+push-id-requires : tie.Need-push-id-requires Inv-loop μ-loop
+push-id-requires c κs = search (needs, ids-room)
+
+id-after-requires : tie.Need-id-after-requires Inv-loop μ-loop
+id-after-requires c κs = search needs
+
+loop-less : tie.Need-loop-less Inv-loop μ-loop
+loop-less c = search (needs, ids-less)
+
+loop-again : tie.Need-loop-again Inv-loop μ-loop
+loop-again c = search (needs, ids-more)
+
+pub gather-ids-spec : {M : Type 1} → statement M
+gather-ids-spec =
+    tie.close
+    (tie.spec
+    Inv-loop
+    μ-loop
+    begin-requires
+    loop-holds
+    next-mark-requires
+    is-mark-requires
+    same-length
+    same-length-2
+    returns
+    is-row-mark-requires
+    push-id-requires
+    id-after-requires
+    loop-less
+    loop-again)

@@ -1,0 +1,119 @@
+// The ids of a text's rows, by place and length.
+ghost use mathlib.Core.Path.{_≡_};
+ghost use mathlib.Core.Bool.{not, _&&_};
+ghost use Prim.Native.Nat.{_≤_, _<_};
+ghost use Rattle.marks.specs.Marks.{valueFrom, valueTo};
+ghost use Rattle.marks.specs.Grouped.{shapeOf};
+ghost use Rattle.reading.specs.Faults.{isClosing, isRowTag};
+ghost use Rattle.gather.specs.Ids.{withValue, idAfter, isRowMark, PushRoom, Pushed, Begun, Gathered};
+use marks::Mark;
+use marks::begin;
+use marks::is_mark;
+use marks::next_mark;
+
+// The id that a tag states: whether it states one, where it begins, how long it is.
+pub struct Id {
+    pub stated: bool,
+    pub at: usize,
+    pub long: usize,
+}
+
+// The first value of an id counts.
+fn with_value(id: Id, word: u8, from: usize, to: usize) -> Id
+    requires { ⌜ from ≤ to ⌝ }
+    ensures { λ r. ⌜ r ≡ withValue id word from to ⌝ }
+{
+    let stated = id.stated;
+    if stated {
+        return id;
+    }
+    if word == 26 {
+        return Id {
+            stated: true,
+            at: from,
+            long: to - from,
+        };
+    }
+    id
+}
+
+// The id of the tag that goes on behind the mark.
+pub fn id_after(id: Id, m: Mark) -> Id
+    requires { ⌜ valueFrom m ≤ valueTo m ⌝ }
+    ensures { λ r. ⌜ r ≡ idAfter id m ⌝ }
+{
+    match m {
+        Mark::Nothing => id,
+        Mark::Valued(e, w, a, b) => with_value(id, w, a, b),
+        Mark::Tagged(a, s, e) => Id {
+            stated: false,
+            at: 0,
+            long: 0,
+        },
+    }
+}
+
+// A start tag of a state, parallel, final or history.
+pub fn is_row(shape: u8, element: u8) -> bool
+    ensures { λ r. ⌜ r ≡ (not (isClosing (shapeOf shape)) && isRowTag element) ⌝ }
+{
+    (shape < 2) & ((1 <= element) & (element <= 4))
+}
+
+pub fn is_row_mark(m: Mark) -> bool
+    ensures { λ r. ⌜ r ≡ isRowMark m ⌝ }
+{
+    match m {
+        Mark::Nothing => false,
+        Mark::Valued(e, w, a, b) => false,
+        Mark::Tagged(a, s, e) => is_row(s, e),
+    }
+}
+
+fn narrow(x: usize) -> u16
+    requires { ⌜ x < 65536 ⌝ }
+    ensures { λ r. ⌜ r ≡ x ⌝ }
+{
+    x as u16
+}
+
+// The id behind the n that are noted, if the tag is a row's.
+fn push_id(ids: &mut [u16], n: usize, row: bool, at: usize, long: usize) -> usize
+    requires { ⌜ PushRoom (now ids) n at long ⌝ }
+    ensures { λ r. ⌜ Pushed (now (ids .entry)) (now (ids .exit)) n row at long r ⌝ }
+{
+    if row {
+        ids[n * 2] = narrow(at);
+        ids[n * 2 + 1] = narrow(long);
+        return n + 1;
+    }
+    n
+}
+
+// How many rows the text has beside the root; the place and the length of each one's id, 0 and 0 where it states none.
+pub fn gather_ids(text: &[u8], levels: &mut [u8], ids: &mut [u16]) -> usize
+    requires { ⌜ Begun (now text) (now levels) (now ids) ⌝ }
+    ensures { λ n. ⌜ Gathered (now (text .entry)) (now (levels .exit)) (now (ids .exit)) n ⌝ }
+{
+    let mut w = begin();
+    let mut id = Id {
+        stated: false,
+        at: 0,
+        long: 0,
+    };
+    let mut n: usize = 0;
+    loop {
+        let next = next_mark(text, levels, w);
+        let m = next.mark;
+        let found = is_mark(m);
+        if !found {
+            return n;
+        }
+        let row = is_row_mark(m);
+        let at = id.at;
+        let long = id.long;
+        n = push_id(ids, n, row, at, long);
+        id = id_after(id, m);
+        w = next;
+    }
+}
