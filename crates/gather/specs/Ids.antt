@@ -88,10 +88,13 @@ stating-more text id ps e w a b h l m = by (id .stated) refl (eqb w idWord) refl
   where
     p : Part
     p = partAt text e w a b
+
     now : Id
     now = record { stated = true; at = a; long = b - a }
+
     with-is : (z : Bool) → id .stated ≡ z → (y : Bool) → eqb w idWord ≡ y → withValue id w a b ≡ cond z id (cond y now id)
     with-is z q y r = ap (λ (x : Bool). cond x id (cond (eqb w idWord) now id)) q ∙ ap (λ (x : Bool). cond z id (cond x now id)) r
+
     by : (z : Bool) → id .stated ≡ z → (y : Bool) → eqb w idWord ≡ y → Stating text (withValue id w a b) (ps ++ p ∷ [])
     by true q y r =
         let st : states idWord ps ≡ true = sym (h .stated-is) ∙ q in
@@ -288,6 +291,7 @@ module _ (text levels ids : List ℕ) (w : Walk) (id : Id) (n : ℕ) (k : Gather
               stating = rw (id-is, g) (stating-more text id (k .parts) d v a b (k .stating) first last);
               left = rw (same-ids, same-count) (left-with (Valued d v a b) g);
             }
+
         tagged : (a s d : ℕ) (z : Bool) → r .mark ≡ Tagged a s d → isRowMark (Tagged a s d) ≡ z → Gathering text levels' ids' r id' n'
         tagged a s d true g z =
             let is-row : row ≡ true = rw-is ∙ ap isRowMark g ∙ z in
@@ -317,6 +321,7 @@ module _ (text levels ids : List ℕ) (w : Walk) (id : Id) (n : ℕ) (k : Gather
               stating = rw (id-is, g) (stating-none text);
               left = rw (same-ids, same-count) (left-with (Tagged a s d) g ∙ noted-none a s d z);
             }
+
         by : (m : Mark) → r .mark ≡ m → Gathering text levels' ids' r id' n'
         by Nothing g = absurd (let t : isMark (r .mark) ≡ true = sym e ∙ not-false found q in let z : true ≡ false = sym t ∙ ap isMark g in let z2 : _≡_ {A = ℕ} 0 1 = cc in omega arith)
         by (Valued d v a b) g = valued d v a b g

@@ -158,7 +158,7 @@ pub struct Scanned {
 }
 
 // The stack of levels has a place for each byte, so it never overflows.
-fn scan_with(text: &[u8], stack: &mut [u8]) -> Scanned
+pub fn scan_with(text: &[u8], stack: &mut [u8]) -> Scanned
     requires { ⌜ length (now stack) ≡ 32768 ⌝ }
     ensures { λ r. ⌜ Found (now (text .entry)) (r .at) (r .whole) ⌝ }
 {

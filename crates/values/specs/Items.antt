@@ -61,7 +61,7 @@ module _ (v : List ℕ) (i j : ℕ) (k : Spreading v i j) where
 
 -- ---- the first name of a value, and the others
 
-spread-inside : (v : List ℕ) → spread v ≤ length v
+pub spread-inside : (v : List ℕ) → spread v ≤ length v
 unfolding spread
 spread-inside [] = omega arith
 spread-inside (b ∷ bs) = by (isSpace b) (spread-inside bs)
@@ -71,10 +71,10 @@ spread-inside (b ∷ bs) = by (isSpace b) (spread-inside bs)
     by false h = omega arith
 
 -- the name that a value begins with, at the offset k
-abbrev firstItem : ℕ → List ℕ → Item
+abbrev pub firstItem : ℕ → List ℕ → Item
 firstItem k v = record { from = k; bytes = take (spread v) v }
 
-abbrev otherItems : ℕ → List ℕ → List Item
+abbrev pub otherItems : ℕ → List ℕ → List Item
 otherItems k v = itemsAt (k + spread v) (drop (spread v) v)
 
 second : (z w : Bool) (x y u : List Item) → z ≡ false → w ≡ true → cond z x (cond w y u) ≡ y
@@ -83,7 +83,7 @@ second z w x y u e q = rw (e, q) refl
 third : (z w : Bool) (x y u : List Item) → z ≡ false → w ≡ false → cond z x (cond w y u) ≡ u
 third z w x y u e q = rw (e, q) refl
 
-first-item : (bs : List ℕ) (k b : ℕ) → isSpace b ≡ false → itemsAt k (b ∷ bs) ≡ firstItem k (b ∷ bs) ∷ otherItems k (b ∷ bs)
+pub first-item : (bs : List ℕ) (k b : ℕ) → isSpace b ≡ false → itemsAt k (b ∷ bs) ≡ firstItem k (b ∷ bs) ∷ otherItems k (b ∷ bs)
 unfolding itemsAt spread
 first-item [] k b e = rw e refl
 first-item (c ∷ cs) k b e = by (isSpace c) refl (first-item cs (suc k) c)
