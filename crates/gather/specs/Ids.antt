@@ -150,21 +150,21 @@ ids-snoc text ids (suc n) k =
     shift : (a b : ℕ) → suc a + b ≡ a + suc b
     shift a b = omega arith
 
-abbrev grown : List ℕ → ℕ → ℕ → ℕ → List ℕ
+abbrev pub grown : List ℕ → ℕ → ℕ → ℕ → List ℕ
 grown ids n at long = set (set ids (n * 2) at) (n * 2 + 1) long
 
 module _ (ids : List ℕ) (n at long : ℕ) (room : n * 2 + 1 < length ids) where
-  grown-kept : (c : ℕ) → c < n * 2 → getD (grown ids n at long) c 0 ≡ getD ids c 0
+  pub grown-kept : (c : ℕ) → c < n * 2 → getD (grown ids n at long) c 0 ≡ getD ids c 0
   grown-kept c h =
       getD-set-other (set ids (n * 2) at) (n * 2 + 1) c long 0 (λ e. omega arith) ∙ getD-set-other ids (n * 2) c at 0 (λ e. omega arith)
 
-  grown-at : getD (grown ids n at long) (n * 2) 0 ≡ at
+  pub grown-at : getD (grown ids n at long) (n * 2) 0 ≡ at
   grown-at = getD-set-other (set ids (n * 2) at) (n * 2 + 1) (n * 2) long 0 (λ e. omega arith) ∙ getD-set-same ids (n * 2) at 0 (omega arith)
 
-  grown-long : getD (grown ids n at long) (n * 2 + 1) 0 ≡ long
+  pub grown-long : getD (grown ids n at long) (n * 2 + 1) 0 ≡ long
   grown-long = getD-set-same (set ids (n * 2) at) (n * 2 + 1) long 0 (let l = length-set ids (n * 2) at in omega arith)
 
-  grown-ids : (text : List ℕ) → idsFrom text (grown ids n at long) (n + 1) 0 ≡ idsFrom text ids n 0 ++ take long (drop at text) ∷ []
+  pub grown-ids : (text : List ℕ) → idsFrom text (grown ids n at long) (n + 1) 0 ≡ idsFrom text ids n 0 ++ take long (drop at text) ∷ []
   unfolding idAt
   grown-ids text =
       ap (λ (k : ℕ). idsFrom text (grown ids n at long) k 0) (add-one n) ∙ ids-snoc text (grown ids n at long) n 0 ∙

@@ -78,7 +78,7 @@ fn narrow(x: usize) -> u16
 }
 
 // The id behind the n that are noted, if the tag is a row's.
-fn push_id(ids: &mut [u16], n: usize, row: bool, at: usize, long: usize) -> usize
+pub fn push_id(ids: &mut [u16], n: usize, row: bool, at: usize, long: usize) -> usize
     requires { ⌜ PushRoom (now ids) n at long ⌝ }
     ensures { λ r. ⌜ Pushed (now (ids .entry)) (now (ids .exit)) n row at long r ⌝ }
 {
