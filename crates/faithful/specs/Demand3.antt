@@ -84,8 +84,8 @@ module _ (numbers names place namePlace chart slots : List ℕ) (a : Answer) (ma
     alikeEnded = faithful-ended numbers names chart slots accepted means;
     formed = λ f room calls. (unfold follow startedOutcome in start-keeps numbers names accepted room, unfold follow startedOutcome in calls-keep numbers names accepted calls _ (start-keeps numbers names accepted room));
     formedEnded = all-calls-keep numbers names accepted;
-    legal = λ s room calls. every-first _ steps-legal _ _ (formed-from-start numbers names chart slots accepted means s (endedFollower (chartOf numbers)) room calls);
-    legalEnded = λ calls. every-first _ steps-legal _ _ (formed-from-zeros numbers names chart slots accepted means calls);
+    legal = λ s room calls. every-first (LegalStep (chartOf numbers)) steps-legal (callAll chart slots s (starts room ∷ calls)) (followAll (chartOf numbers) (nameAt names) (endedFollower (chartOf numbers)) (starts room ∷ calls)) (formed-from-start numbers names chart slots accepted means s (endedFollower (chartOf numbers)) room calls);
+    legalEnded = λ calls. every-first (LegalStep (chartOf numbers)) steps-legal (callAll chart slots endedSession calls) (followAll (chartOf numbers) (nameAt names) (endedFollower (chartOf numbers)) calls) (formed-from-zeros numbers names chart slots accepted means calls);
     completed = completed numbers names chart slots accepted means;
     rounds = round-keeps numbers names accepted;
     disjoint = round-disjoint numbers names accepted;

@@ -129,11 +129,11 @@ module _ (numbers names chart slots : List ℕ) (accepted : keepsRules numbers n
   -- ---- every list of calls, from the session that spells a well-formed state
 
   -- the program spells the follower's state, which is well formed
-  Spells : Session → Follower → Type 0
+  abbrev Spells : Session → Follower → Type 0
   Spells s f = (s ≡ sessionOf f) × WellFormed c f
 
   -- a step and an outcome are alike, and the outcome's state is well formed
-  pub AlikeFormed : Step → Outcome → Type 0
+  abbrev pub AlikeFormed : Step → Outcome → Type 0
   AlikeFormed x o = Alike (rowCount numbers) x o × WellFormed c (o .after)
 
   step-spells : (s : Session) (f : Follower) (x : Call) → Spells s f →
@@ -159,11 +159,13 @@ module _ (numbers names chart slots : List ℕ) (accepted : keepsRules numbers n
 
   pub faithful : (s : Session) (f : Follower) (room : ℕ) (calls : List Call) →
       AllAlike (rowCount numbers) (callAll chart slots s (starts room ∷ calls)) (followAll c (nameAt names) f (starts room ∷ calls))
-  faithful s f room calls = pairwise-map _ (λ x o h. h .0) _ _ (formed-from-start s f room calls)
+  faithful s f room calls =
+      pairwise-map (Alike (rowCount numbers)) (λ x o h. h .0) (callAll chart slots s (starts room ∷ calls)) (followAll c (nameAt names) f (starts room ∷ calls)) (formed-from-start s f room calls)
 
   -- and from a session of zeros, before any start
   pub formed-from-zeros : (calls : List Call) → Pairwise AlikeFormed (callAll chart slots endedSession calls) (followAll c (nameAt names) (endedFollower c) calls)
   formed-from-zeros calls = rw (ended-spells c) (calls-alike calls (endedFollower c) (ended-well-formed numbers names accepted))
 
   pub faithful-ended : (calls : List Call) → AllAlike (rowCount numbers) (callAll chart slots endedSession calls) (followAll c (nameAt names) (endedFollower c) calls)
-  faithful-ended calls = pairwise-map _ (λ x o h. h .0) _ _ (formed-from-zeros calls)
+  faithful-ended calls =
+      pairwise-map (Alike (rowCount numbers)) (λ x o h. h .0) (callAll chart slots endedSession calls) (followAll c (nameAt names) (endedFollower c) calls) (formed-from-zeros calls)
