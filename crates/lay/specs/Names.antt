@@ -6,7 +6,7 @@ use native.Mathlib.Omega.{arith}
 use native.Mathlib.Numerals.{add-one}
 use lib.ListN.{length, getD, take, drop, set, length-append, length-drop, length-set}
 use lib.Seq.{paste, paste-zero, paste-suc, take-all, take-at, drop-append-add, drop-drop}
-use Rattle.definition.specs.Marked.{slotOf}
+use Rattle.definition.specs.Tables.{slotOf}
 use Rattle.definition.specs.Rows.{flat}
 use Rattle.reading.specs.Layout.{namesOf}
 use Rattle.values.specs.Ids.{idAt, idsFrom, Noted}

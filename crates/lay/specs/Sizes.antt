@@ -11,8 +11,7 @@ use lib.Seq.{length-take-le}
 use borrow.Author.Tests.{lt-leb}
 use Rattle.definition.specs.declared.Answer.the-variants.{Size}
 use Rattle.definition.specs.Rows.{flat}
-use Rattle.definition.specs.Marked.{slotOf}
-use Rattle.definition.specs.Tables.{mostRows, mostTransitions, mostNames, mostDescriptors, mostTargets, mostActions, rowCount, transitionCount, referenceCount, descriptorCount, actionCount, nameCount}
+use Rattle.definition.specs.Tables.{slotOf, mostRows, mostTransitions, mostNames, mostDescriptors, mostTargets, mostActions, rowCount, transitionCount, referenceCount, descriptorCount, actionCount, nameCount}
 use Rattle.definition.specs.Rules.{countsFit, rule1, firstBroken, verdict, keepsRules}
 use Rattle.reading.specs.Content.{Act, raises, hosts, ifIn, elseifIn, otherwise, endIf, sends, cancels, Row, Transition, Content, placeOf}
 use Rattle.reading.specs.Layout.{actCells, rowActs, rowCells, transitionCells, rowList, targetList, descriptorList, transitionActs, numbersOf, namesOf}
