@@ -12,7 +12,7 @@ use Rattle.definition.specs.Chart.{Chart, Names, kind, isHistory}
 use Rattle.definition.specs.Tables.{chartOf, nameAt}
 use Rattle.definition.specs.Tree.{defaultTargets}
 use Rattle.definition.specs.Rules.{keepsRules}
-use Rattle.follower.specs.Selection.{History, effectiveTargets, domain, exitSet, selected}
+use Rattle.follower.specs.Selection.{History, chooser, effectiveTargets, domain, exitSet, selected}
 use Rattle.follower.specs.Blocks.{Effect}
 use Rattle.follower.specs.Microstep.{addExits, exits, stored, storing, pathsBelow, addTargets, targeted, entrySet, storedIn, staying, historyAfter, entryOf, configurationAfter}
 use Rattle.follower.specs.Follower.{Follower, Round, idle, over, did, taking, selectedBy, closingRound, round}
@@ -169,7 +169,7 @@ module _ (c : Chart) (g : Sound c) (names : Names) (s : Follower) (w : WellForme
         ends = λ us r.
             order c g (s .configuration) (set-eq (c .rows) (s .configuration) (f .0)) (f .1) (s .history) (w .places) history-ok us (selected c names (s .configuration) (storedIn (s .history)) event)
             (selected-taken c (g .tree) names (s .configuration) (f .1 .part) (storedIn (s .history)) event)
-            (rw (taken-effects c (s .configuration) (storedIn (s .history)) (selected c names (s .configuration) (storedIn (s .history)) event)) at r);
+            (rw (taken-effects c (s .configuration) (storedIn (s .history)) (chooser c names (s .configuration) event) (selected c names (s .configuration) (storedIn (s .history)) event)) at r);
       })
 
 -- R-13: "the transitions taken in a completed round of a running session, each kept with the domain it was selected with, their exits and

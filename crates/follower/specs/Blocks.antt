@@ -12,6 +12,8 @@ use Rattle.definition.specs.Chart.{Chart, Names}
 -- "1 exited row, 2 transition, 3 entered row, 4 host action, 5 raised name, 6 done event of row" (68)
 pub data Effect : Type 0 where
   exited taken entered acted raised done : ℕ → Effect
+  -- 7, the row that chose the transition: "the trace gains kind 7 with that row" (R-6)
+  chosen : ℕ → Effect
 
 -- "Trace entries are 32-bit numbers, kind × 65,536 + index" (68)
 unfoldable pub traceNo : Effect → ℕ
@@ -21,6 +23,8 @@ traceNo (entered i) = 3 * 65536 + i
 traceNo (acted n) = 4 * 65536 + n
 traceNo (raised n) = 5 * 65536 + n
 traceNo (done i) = 6 * 65536 + i
+-- (R-6)
+traceNo (chosen i) = 7 * 65536 + i
 
 -- the names that an effect puts into the internal queue
 unfoldable pub queued : Chart → Names → Effect → List Name
@@ -30,6 +34,8 @@ queued c names (entered i) = []
 queued c names (acted n) = []
 queued c names (raised n) = names n ∷ []
 queued c names (done i) = doneName (names ((c .row) i .id)) ∷ []
+-- (R-6)
+queued c names (chosen i) = []
 
 unfoldable pub perform : Action → Effect
 perform (Raise n) = raised n

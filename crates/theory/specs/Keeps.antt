@@ -129,7 +129,7 @@ module _ (c : Chart) (g : Sound c) (names : Names) where
           storedSets = λ h n. kept-stored c g h _ (q h (kept h n) (list-full _ n));
         }
 
-  taking-fits : (s : Follower) (internal external : List Name) (event : Option Name) → Live c s → FitAfter c (taking c names s internal external (selectedBy c names s event))
+  taking-fits : (s : Follower) (internal external : List Name) (event : Option Name) → Live c s → FitAfter c (taking c names s event internal external (selectedBy c names s event))
   unfolding taking selectedBy
   taking-fits s internal external event f =
       inl (record {

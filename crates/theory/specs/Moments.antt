@@ -14,7 +14,7 @@ use Rattle.definition.specs.declared.Answer.the-variants.{Full}
 use Rattle.definition.specs.Rows.{mem, flat}
 use Rattle.definition.specs.Names.{Name}
 use Rattle.definition.specs.Chart.{Chart, Names}
-use Rattle.follower.specs.Blocks.{Effect, exited, taken, entered, acted, raised, done, queued}
+use Rattle.follower.specs.Blocks.{Effect, exited, taken, entered, acted, raised, done, chosen, queued}
 use Rattle.follower.specs.Follower.{Follower, mostQueued, Round, idle, over, did, taking, closingRound, round, refusalIf, refusal, firstEffects, firstFollower}
 use Rattle.laws.specs.Bools.{no}
 use Rattle.laws.specs.Sets.{mem-head}
@@ -31,6 +31,7 @@ module _ (c : Chart) (names : Names) where
   queued-one (acted n) = omega arith
   queued-one (raised n) = omega arith
   queued-one (done i) = omega arith
+  queued-one (chosen i) = omega arith
 
   -- the lengths of the queue: at first, which is without the taken event, and after each effect
   unfoldable pub moments : List Name → List Effect → List ℕ

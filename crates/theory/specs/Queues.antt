@@ -21,7 +21,7 @@ use Rattle.definition.specs.Tables.{rowCount, transitionCount, referenceCount, 
 use Rattle.definition.specs.Rules.{each, inside, optionalBelow, countsFit, sizesFit, blockFits, rowInRange, transitionInRange, referenceInRange, descriptorInRange, actionInRange, compiledSize, rule1, slotFits, idDiffers, idFits, raiseFits, actionNamed, rule2}
 use Rattle.follower.specs.Blocks.{Effect, done, queued, perform, performed}
 use Rattle.follower.specs.Microstep.{exitEffects, exiting, transitionEffects, Entry, initialBlock, defaultBlock, isDoneAbove, doneEffects, activeAt, defaultEffects, entryEffects, entering, exits, storedIn, effects, staying}
-use Rattle.follower.specs.Selection.{History}
+use Rattle.follower.specs.Selection.{History, chooser}
 use Rattle.definition.specs.Answers.{answerNo}
 use Rattle.follower.specs.Follower.{Follower, mostQueued, Round, idle, over, did, taking, selectedBy, closingRound, round, refusal, firstEntry, firstEffects, firstFollower, startOr, start, endedFollower, isEnded, postAnswer, withExternal, post, run}
 use Rattle.laws.specs.Bools.{no, and3, and4, clash, bool-case, and-left, and-right, and-true}
@@ -230,9 +230,9 @@ module _ (numbers names : List ℕ) (r1 : rule1 numbers names (compiledSize numb
   unfolding exitEffects all queuesNames queued
   exit-named conf out i = performed-names (chartOf numbers) names _ (exitAt numbers i) (row-blocks i .1)
 
-  transition-named : (stay : List ℕ) (u : ℕ) → u < transitionCount numbers → all (queuesNames (chartOf numbers) (nameAt names)) (transitionEffects (chartOf numbers) stay u) ≡ true
+  transition-named : (stay : List ℕ) (by : ℕ → ℕ) (u : ℕ) → u < transitionCount numbers → all (queuesNames (chartOf numbers) (nameAt names)) (transitionEffects (chartOf numbers) stay by u) ≡ true
   unfolding transitionEffects all queuesNames queued
-  transition-named stay u l = performed-names (chartOf numbers) names stay (transitionBlockAt numbers u) (transition-block u l)
+  transition-named stay by u l = performed-names (chartOf numbers) names stay (transitionBlockAt numbers u) (transition-block u l)
 
   entry-named : (stay : List ℕ) (e : Entry) (fell : List ℕ) (i : ℕ) → all (queuesNames (chartOf numbers) (nameAt names)) (entryEffects (chartOf numbers) stay e fell i) ≡ true
   unfolding entryEffects initialBlock defaultBlock defaultEffects all queuesNames queued
@@ -262,14 +262,14 @@ module _ (numbers names : List ℕ) (r1 : rule1 numbers names (compiledSize numb
   exiting-named conf out = all-flat (queuesNames (chartOf numbers) (nameAt names)) (exitEffects (chartOf numbers) conf out) (backwards out) (λ i m. exit-named conf out i)
 
   -- the effects of transitions of the table queue names
-  pub effects-named : (conf : List ℕ) (hist : History) (ts : List ℕ) → ((u : ℕ) → mem u ts ≡ true → u < transitionCount numbers) →
-      all isName (flat (queued (chartOf numbers) (nameAt names)) (effects (chartOf numbers) conf hist ts)) ≡ true
+  pub effects-named : (conf : List ℕ) (hist : History) (by : ℕ → ℕ) (ts : List ℕ) → ((u : ℕ) → mem u ts ≡ true → u < transitionCount numbers) →
+      all isName (flat (queued (chartOf numbers) (nameAt names)) (effects (chartOf numbers) conf hist by ts)) ≡ true
   unfolding effects
-  effects-named conf hist ts f =
-      queued-names (chartOf numbers) (nameAt names) (effects (chartOf numbers) conf hist ts)
-      (all-both (queuesNames (chartOf numbers) (nameAt names)) (exiting (chartOf numbers) conf (exits (chartOf numbers) conf hist ts) ++ flat (transitionEffects (chartOf numbers) (staying (chartOf numbers) conf hist ts)) ts) _
+  effects-named conf hist by ts f =
+      queued-names (chartOf numbers) (nameAt names) (effects (chartOf numbers) conf hist by ts)
+      (all-both (queuesNames (chartOf numbers) (nameAt names)) (exiting (chartOf numbers) conf (exits (chartOf numbers) conf hist ts) ++ flat (transitionEffects (chartOf numbers) (staying (chartOf numbers) conf hist ts) by) ts) _
       (all-both (queuesNames (chartOf numbers) (nameAt names)) (exiting (chartOf numbers) conf (exits (chartOf numbers) conf hist ts)) _ (exiting-named conf (exits (chartOf numbers) conf hist ts))
-      (all-flat (queuesNames (chartOf numbers) (nameAt names)) (transitionEffects (chartOf numbers) (staying (chartOf numbers) conf hist ts)) ts (λ u m. transition-named _ u (f u m))))
+      (all-flat (queuesNames (chartOf numbers) (nameAt names)) (transitionEffects (chartOf numbers) (staying (chartOf numbers) conf hist ts) by) ts (λ u m. transition-named _ by u (f u m))))
       (entering-named _ _ _))
 
   -- those of a start too
@@ -279,11 +279,11 @@ module _ (numbers names : List ℕ) (r1 : rule1 numbers names (compiledSize numb
 
   -- ---- rounds
 
-  taking-named : (s : Follower) (internal external : List Name) (ts : List ℕ) → ((u : ℕ) → mem u ts ≡ true → u < transitionCount numbers) →
-      all isName internal ≡ true → all isName external ≡ true → length external ≤ mostQueued → NamedAfter (taking (chartOf numbers) (nameAt names) s internal external ts)
+  taking-named : (s : Follower) (event : Option Name) (internal external : List Name) (ts : List ℕ) → ((u : ℕ) → mem u ts ≡ true → u < transitionCount numbers) →
+      all isName internal ≡ true → all isName external ≡ true → length external ≤ mostQueued → NamedAfter (taking (chartOf numbers) (nameAt names) s event internal external ts)
   unfolding taking
-  taking-named s internal external ts f h k l =
-      record { internal = all-both isName internal _ h (effects-named (s .configuration) (storedIn (s .history)) ts f); external = k; short = l }
+  taking-named s event internal external ts f h k l =
+      record { internal = all-both isName internal _ h (effects-named (s .configuration) (storedIn (s .history)) (chooser (chartOf numbers) (nameAt names) (s .configuration) event) ts f); external = k; short = l }
 
   -- what a round selects are transitions of the table
   selected-below : (s : Follower) (event : Option Name) (u : ℕ) → mem u (selectedBy (chartOf numbers) (nameAt names) s event) ≡ true → u < transitionCount numbers
@@ -307,7 +307,7 @@ module _ (numbers names : List ℕ) (r1 : rule1 numbers names (compiledSize numb
   round-named s f =
       round-cases (chartOf numbers) (nameAt names) s NamedAfter (λ m. tt) (λ m. tt) (λ m. record { internal = refl; external = refl; short = omega arith })
       (λ m internal external event h. let k = chosen-named s f h in
-      taking-named s internal external (selectedBy (chartOf numbers) (nameAt names) s event) (selected-below s event) (k .0) (k .1) (k .2))
+      taking-named s event internal external (selectedBy (chartOf numbers) (nameAt names) s event) (selected-below s event) (k .0) (k .1) (k .2))
 
   -- ---- calls
 

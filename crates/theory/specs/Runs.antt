@@ -60,7 +60,7 @@ module _ (c : Chart) (names : Names) (s : Follower) where
       (s .mode ≡ Ended → P over) →
       (s .mode ≡ Closing → P (closingRound c s)) →
       (s .mode ≡ Running → (internal external : List Name) (event : Option Name) → ChosenEvent s internal external event →
-      P (taking c names s internal external (selectedBy c names s event))) →
+      P (taking c names s event internal external (selectedBy c names s event))) →
       P (round c names s)
   unfolding round roundIn byEventless byInternal byExternal
   round-cases P i o r t = by-mode (s .mode) refl

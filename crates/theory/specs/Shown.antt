@@ -9,8 +9,8 @@ use Rattle.definition.specs.declared.Action.the-variants.{Raise, Host}
 use Rattle.definition.specs.Rows.{mem, meets, flat, backwards}
 use Rattle.definition.specs.Names.{Name}
 use Rattle.definition.specs.Chart.{Chart, Names, kind, parent, isRoot, isFinal}
-use Rattle.follower.specs.Selection.{History, exitSet}
-use Rattle.follower.specs.Blocks.{Effect, exited, taken, entered, acted, raised, done, perform, performed}
+use Rattle.follower.specs.Selection.{History, exitSet, chooser}
+use Rattle.follower.specs.Blocks.{Effect, exited, taken, entered, acted, raised, done, chosen, perform, performed}
 use Rattle.follower.specs.Microstep.{exits, exitEffects, exiting, transitionEffects, Entry, initialBlock, defaultBlock, isDoneAbove, doneEffects, activeAt, defaultEffects, entryEffects, entering, storedIn, effects, staying}
 use Rattle.follower.specs.Follower.{Follower, Round, idle, over, did, taking, selectedBy, closingRound, round}
 use Rattle.laws.specs.Bools.{no}
@@ -26,6 +26,7 @@ ifTaken (entered i) = []
 ifTaken (acted n) = []
 ifTaken (raised n) = []
 ifTaken (done i) = []
+ifTaken (chosen i) = []
 
 -- the transitions that the effects show, in their order
 unfoldable pub takenIn : List Effect → List ℕ
@@ -76,18 +77,18 @@ taken-entering c stay e fell =
       taken-flat (defaultEffects c (activeAt stay (e .set) i) i) fell (λ h. taken-default c (activeAt stay (e .set) i) i h),
     ) (taken-done c (activeAt stay (e .set) i) i))
 
-taken-blocks : (c : Chart) (stay ts : List ℕ) → takenIn (flat (transitionEffects c stay) ts) ≡ ts
+taken-blocks : (c : Chart) (stay : List ℕ) (by : ℕ → ℕ) (ts : List ℕ) → takenIn (flat (transitionEffects c stay by) ts) ≡ ts
 unfolding transitionEffects takenIn flat ifTaken
-taken-blocks c stay [] = refl
-taken-blocks c stay (t ∷ ts) =
+taken-blocks c stay by [] = refl
+taken-blocks c stay by (t ∷ ts) =
     ap {B = List ℕ} (λ l. t ∷ l)
-    (taken-app (performed stay ((c .transition) t .block)) (flat (transitionEffects c stay) ts) ∙ rw (taken-performed stay ((c .transition) t .block)) (taken-blocks c stay ts))
+    (taken-app (performed stay ((c .transition) t .block)) (flat (transitionEffects c stay by) ts) ∙ rw (taken-performed stay ((c .transition) t .block)) (taken-blocks c stay by ts))
 
-pub taken-effects : (c : Chart) (conf : List ℕ) (hist : History) (ts : List ℕ) → takenIn (effects c conf hist ts) ≡ ts
+pub taken-effects : (c : Chart) (conf : List ℕ) (hist : History) (by : ℕ → ℕ) (ts : List ℕ) → takenIn (effects c conf hist by ts) ≡ ts
 unfolding effects
-taken-effects c conf hist ts =
-    taken-app (exiting c conf (exits c conf hist ts) ++ flat (transitionEffects c (staying c conf hist ts)) ts) _ ∙
-    rw (taken-app (exiting c conf (exits c conf hist ts)) (flat (transitionEffects c (staying c conf hist ts)) ts), taken-exiting c conf (exits c conf hist ts), taken-entering) (append-nil _ ∙ taken-blocks c (staying c conf hist ts) ts)
+taken-effects c conf hist by ts =
+    taken-app (exiting c conf (exits c conf hist ts) ++ flat (transitionEffects c (staying c conf hist ts) by) ts) _ ∙
+    rw (taken-app (exiting c conf (exits c conf hist ts)) (flat (transitionEffects c (staying c conf hist ts) by) ts), taken-exiting c conf (exits c conf hist ts), taken-entering) (append-nil _ ∙ taken-blocks c (staying c conf hist ts) by ts)
 
 -- ---- the exit sets of what a round takes, by the configuration and the history before the round
 
@@ -110,9 +111,9 @@ module _ (c : Chart) (names : Names) (s : Follower) where
         disjoint = selected-apart c names (s .configuration) (storedIn (s .history)) event;
       }
 
-  taking-exits : (internal external : List Name) (ts : List ℕ) → DisjointExits c s ts → Exits (taking c names s internal external ts)
+  taking-exits : (event : Option Name) (internal external : List Name) (ts : List ℕ) → DisjointExits c s ts → Exits (taking c names s event internal external ts)
   unfolding taking
-  taking-exits internal external ts h = rw (taken-effects c (s .configuration) (storedIn (s .history)) ts) h
+  taking-exits event internal external ts h = rw (taken-effects c (s .configuration) (storedIn (s .history)) (chooser c names (s .configuration) event) ts) h
 
   -- of any session, well formed or not
   pub round-disjoint : (next : Follower) (es : List Effect) → round c names s ≡ did next es → DisjointExits c s (takenIn es)
@@ -120,4 +121,4 @@ module _ (c : Chart) (names : Names) (s : Follower) where
   round-disjoint next es e =
       subst Exits e (round-cases c names s Exits (λ m. tt) (λ m. tt)
       (λ m. rw (taken-exiting c (s .configuration) (s .configuration)) (record { once = tt; disjoint = λ t u m n d. absurd (no m) }))
-      (λ m internal external event h. taking-exits internal external (selectedBy c names s event) (selected-exits event)))
+      (λ m internal external event h. taking-exits event internal external (selectedBy c names s event) (selected-exits event)))
