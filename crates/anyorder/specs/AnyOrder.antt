@@ -10,9 +10,8 @@ use Rattle.definition.specs.declared.Answer.the-variants.{Done}
 use Rattle.definition.specs.Rows.{fold, from, those, mem, isIn, union, minus, append}
 use Rattle.definition.specs.Chart.{Chart, Names, kind, isHistory}
 use Rattle.definition.specs.Tables.{chartOf, nameAt}
-use Rattle.definition.specs.Tree.{defaultTargets}
 use Rattle.definition.specs.Rules.{keepsRules}
-use Rattle.follower.specs.Selection.{History, chooser, effectiveTargets, domain, exitSet, selected}
+use Rattle.follower.specs.Selection.{History, chooser, effectiveTargets, initialTargets, domain, exitSet, selected}
 use Rattle.follower.specs.Blocks.{Effect}
 use Rattle.follower.specs.Microstep.{addExits, exits, stored, storing, pathsBelow, addTargets, targeted, entrySet, storedIn, staying, historyAfter, entryOf, configurationAfter}
 use Rattle.follower.specs.Follower.{Follower, Round, idle, over, did, taking, selectedBy, closingRound, round}
@@ -85,7 +84,7 @@ module _ (c : Chart) (g : Sound c) (conf : List ℕ) (ord : conf ≡ those (c .r
   same-conf : configurationAfter c conf (storedIn history) [] ≡ conf
   unfolding configurationAfter staying entryOf exits targeted fold
   same-conf =
-      rw (enters-none c (defaultTargets c)) (ascends-ext 0 0 (union (minus conf []) []) conf
+      rw (enters-none c (initialTargets c (storedIn (historyAfter c conf (storedIn history) [])))) (ascends-ext 0 0 (union (minus conf []) []) conf
       (ascends-union (minus conf []) [] (ascends-minus conf [] up)) up
       (λ a. mem-union a (minus conf []) [] ∙ ap (λ (b : Bool). b || mem a []) (mem-minus a conf []) ∙ plain a))
     where

@@ -5,8 +5,8 @@ use mathlib.Core.List.{List, []}
 use Prim.Native.Nat.{ℕ}
 use Rattle.definition.specs.Rows.{fold, mem, isEmpty, union, intersection, minus}
 use Rattle.definition.specs.Chart.{Chart}
-use Rattle.definition.specs.Tree.{descendants, defaultTargets}
-use Rattle.follower.specs.Selection.{History, effectiveTargets, domain}
+use Rattle.definition.specs.Tree.{descendants}
+use Rattle.follower.specs.Selection.{History, effectiveTargets, initialTargets, domain}
 use Rattle.follower.specs.Microstep.{storing, pathsBelow, entrySet, storedIn}
 use Rattle.follower.specs.Follower.{Follower}
 use Rattle.laws.specs.Sets.{NoTwice}
@@ -30,7 +30,7 @@ exitsUnder c conf d t = cond (isEmpty ((c .transition) t .targets)) [] (intersec
 -- its entries: "effective targets, now by the history as this round's exits left it, and their ancestors below the same domain; then, until nothing is
 -- missing," what default entry adds
 unfoldable pub entersUnder : Chart → History → ℕ → ℕ → List ℕ
-entersUnder c after d t = (entrySet c (defaultTargets c) (pathsBelow c d (effectiveTargets c after ((c .transition) t)))) .set
+entersUnder c after d t = (entrySet c (initialTargets c after) (pathsBelow c d (effectiveTargets c after ((c .transition) t)))) .set
 
 -- exits first: "Before any is removed, each exited owner of a history stores"
 unfoldable pub applied : Chart → List ℕ → History → ℕ → ℕ → List ℕ → Snapshot

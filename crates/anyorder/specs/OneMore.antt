@@ -8,20 +8,21 @@ use native.Mathlib.Omega.{arith}
 use Rattle.definition.specs.Rows.{fold, from, keep, those, mem, isIn, isEmpty, union, intersection, minus, append}
 use Rattle.definition.specs.Chart.{Chart, kind, parent, isHistory, isShallow}
 use Rattle.definition.specs.Tree.{isDescendant, isChild, descendants, children, isAtomic, defaultTargets}
-use Rattle.follower.specs.Selection.{History, atomicStates, standIns, addStandIns, effectiveTargets, domain, exitSet}
+use Rattle.follower.specs.Selection.{History, atomicStates, standIns, addStandIns, resolved, effectiveTargets, initialTargets, domain, exitSet}
 use Rattle.follower.specs.Microstep.{addExits, exits, wouldStore, stored, storing, pathsBelow, addTargets, targeted, entrySet, storedIn, staying, historyAfter, entryOf, configurationAfter}
 use Rattle.follower.specs.Legal.{isAtomicBelow}
 use Rattle.laws.specs.Bools.{no, clash, or-left, or-right, or-false, and-false, both-ways, bool-case, not-so, and-left, and-right}
 use Rattle.laws.specs.Sets.{Ascends, ascends-ext, ascends-keep, ascends-intersection, ascends-union, ascends-minus, ascends-those, mem-head, mem-union, mem-intersection, mem-minus, empty-some}
 use Rattle.laws.specs.Folds.{fold-same}
 use Rattle.laws.specs.Lists.{mem-app}
-use Rattle.laws.specs.Ways.{Way, way-compare, below-way, below-trans}
+use Rattle.laws.specs.Ways.{Way, Below, way-compare, below-way, below-trans, below-trans2}
 use Rattle.accepted.specs.Tree.{under-below, under-plain, below-under, mem-children}
 use Rattle.accepted.specs.Fork.{Legal}
 use Rattle.theory.specs.Entry.{path-descends, down-facts}
 use Rattle.accepted.specs.Unions.{union-mem}
 use Rattle.accepted.specs.Sound.{Sound, mem-descendants}
 use Rattle.theory.specs.Accepted.{HistOk, child-under}
+use Rattle.theory.specs.Resolved.{default-below}
 use Rattle.theory.specs.Domain.{dom, target-stand, effective-of, effective-in}
 use Rattle.theory.specs.Round.{Taken, Moves, exits-of, domains-apart, after-at, next-ascends}
 use Rattle.theory.specs.Storing.{isStoredBy, stored-mem, mem-stored}
@@ -137,7 +138,7 @@ module _ (c : Chart) (g : Sound c) (conf : List ℕ) (ord : conf ≡ those (c .r
   entered-P : (j : ℕ) → mem j ((entryOf c conf hist us) .set) ≡ true → P j
   unfolding entryOf mem
   entered-P j m =
-      entry-union c (defaultTargets c) (defaultTargets c) (defaultTargets c) P Q p-part q-part apart (λ i p. refl) (λ i q. refl) (targeted c hist h₁ us) (targeted c hist h₁ us) []
+      entry-union c (initialTargets c h₁) (initialTargets c h₁) (initialTargets c h₁) P Q p-part q-part apart (λ i p. refl) (λ i q. refl) (targeted c hist h₁ us) (targeted c hist h₁ us) []
       (λ k. sym (or-false (mem k (targeted c hist h₁ us)))) (aim-of h₁) (λ k n. absurd (no n)) .left j m
 
   -- below t's domain, us changes nothing
@@ -248,8 +249,35 @@ module _ (c : Chart) (g : Sound c) (conf : List ℕ) (ord : conf ≡ those (c .r
           )) in
           rw (after-at c g conf ord lc hist ok all tk y yin, after-at c g conf ord lc hist ok us before y yin, exits-all (parent c y), kept, or-false (mem (parent c y) (exits c conf hist us)))
 
+  -- nor do the default entry targets below a domain of us: a history in an initial list has its parent below the owner or is the owner's (R-3)
+  same-listed : (i : ℕ) → P i → (y : ℕ) → mem y (defaultTargets c i) ≡ true → standIns c h₂ y ≡ standIns c h₁ y
+  unfolding standIns stored
+  same-listed i p y m = bool-case (isHistory (kind c y)) (λ q. rw (q, values)) (λ q. rw q)
+    where
+      yin : y < c .rows
+      yin = default-below c g i y m .0
+
+      over : (y : ℕ) → Below (parent c) i y → Q (parent c y) → P (parent c y)
+      over zero b f = absurd b
+      over (suc y) b f = (
+        p .0,
+        p .1,
+        below-under c (g .tree) (d (p .0)) (parent c (suc y)) (under-plain c (g .tree) (d t) (parent c (suc y)) (f .1))
+            (below-trans2 (parent c) (d (p .0)) (under-below c (g .tree) (d (p .0)) i (p .2)) b),
+      )
+
+      values : h₂ y ≡ h₁ y
+      values =
+          let kept : mem (parent c y) (exitSet c conf hist ((c .transition) t)) ≡ false =
+          not-so _ (λ k. let f = exit-facts (parent c y) k .1 in apart (parent c y) (over y (default-below c g i y m .1) f) f) in
+          rw (after-at c g conf ord lc hist ok all tk y yin, after-at c g conf ord lc hist ok us before y yin, exits-all (parent c y), kept, or-false (mem (parent c y) (exits c conf hist us)))
+
+  same-initial : (i : ℕ) → P i → initialTargets c h₂ i ≡ initialTargets c h₁ i
+  unfolding initialTargets resolved addStandIns
+  same-initial i p = fold-same (addStandIns c h₂) (addStandIns c h₁) (defaultTargets c i) [] (λ y set n. ap (union set) (same-listed i p y n))
+
   same-effective : (u : ℕ) → mem u us ≡ true → effectiveTargets c h₂ ((c .transition) u) ≡ effectiveTargets c h₁ ((c .transition) u)
-  unfolding effectiveTargets addStandIns
+  unfolding effectiveTargets resolved addStandIns
   same-effective u m =
       fold-same (addStandIns c h₂) (addStandIns c h₁) ((c .transition) u .targets) []
       (λ y set n. ap (union set) (same-stand u (m, empty-some ((c .transition) u .targets) y n) y n))
@@ -274,10 +302,10 @@ module _ (c : Chart) (g : Sound c) (conf : List ℕ) (ord : conf ≡ those (c .r
 
   -- ---- the entry sets join
 
-  joins : Joins P Q (entryOf c conf hist all) (entryOf c conf hist us) (entrySet c (defaultTargets c) aim-t)
+  joins : Joins P Q (entryOf c conf hist all) (entryOf c conf hist us) (entrySet c (initialTargets c h₂) aim-t)
   unfolding entryOf
   joins =
-      entry-union c (defaultTargets c) (defaultTargets c) (defaultTargets c) P Q p-part q-part apart (λ i p. refl) (λ i q. refl)
+      entry-union c (initialTargets c h₂) (initialTargets c h₁) (initialTargets c h₂) P Q p-part q-part apart same-initial (λ i q. refl)
       (targeted c hist h₂ all) (targeted c hist h₁ us) aim-t aim-all (aim-of h₁) aim-Q
 
   algebra : (a x y e f : Bool) → (e ≡ true → y ≡ true → ⊥) → ((((a && not x) || e) && not y) || f) ≡ ((a && not (x || y)) || (e || f))
@@ -295,7 +323,7 @@ module _ (c : Chart) (g : Sound c) (conf : List ℕ) (ord : conf ≡ those (c .r
   unfolding configurationAfter staying entersUnder
   member i =
       rw (
-        mem-union i (minus (union (minus conf (exits c conf hist us)) ((entryOf c conf hist us) .set)) (exitSet c conf hist ((c .transition) t))) ((entrySet c (defaultTargets c) aim-t) .set),
+        mem-union i (minus (union (minus conf (exits c conf hist us)) ((entryOf c conf hist us) .set)) (exitSet c conf hist ((c .transition) t))) ((entrySet c (initialTargets c h₂) aim-t) .set),
         mem-minus i (union (minus conf (exits c conf hist us)) ((entryOf c conf hist us) .set)) (exitSet c conf hist ((c .transition) t)),
         mem-union i (minus conf (exits c conf hist us)) ((entryOf c conf hist us) .set),
         mem-minus i conf (exits c conf hist us),
@@ -304,7 +332,7 @@ module _ (c : Chart) (g : Sound c) (conf : List ℕ) (ord : conf ≡ those (c .r
         exits-all i,
         joins .rows i,
       )
-      (algebra (mem i conf) (mem i (exits c conf hist us)) (mem i (exitSet c conf hist ((c .transition) t))) (mem i ((entryOf c conf hist us) .set)) (mem i ((entrySet c (defaultTargets c) aim-t) .set))
+      (algebra (mem i conf) (mem i (exits c conf hist us)) (mem i (exitSet c conf hist ((c .transition) t))) (mem i ((entryOf c conf hist us) .set)) (mem i ((entrySet c (initialTargets c h₂) aim-t) .set))
       (λ e y. apart i (entered-P i e) (exit-facts i y .1)))
 
   same-configuration : union (minus (configurationAfter c conf hist us) (exitSet c conf hist ((c .transition) t))) (entersUnder c h₂ (d t) t) ≡ configurationAfter c conf hist all

@@ -10,22 +10,169 @@ use lib.Seq.{getD-drop}
 use borrow.Author.Tests.{lt-ltb, le-ltb, leb-true, ltb-true, ltb-false, not-true}
 use Rattle.definition.specs.declared.Kind.{Kind}
 use Rattle.definition.specs.declared.Kind.the-variants.{Root, State, Parallel, Final, Shallow, Deep}
-use Rattle.definition.specs.Rows.{those, mem, isIn, all, isEmpty, firstOf, intersection}
+use Rattle.definition.specs.declared.Answer.the-variants.{Done}
+use Rattle.definition.specs.Rows.{those, mem, isIn, all, isEmpty, intersection}
 use Rattle.definition.specs.Chart.{Chart, kind, parent, isRoot, isState, isShallow, isHistory}
-use Rattle.definition.specs.Tables.{part}
-use Rattle.definition.specs.Tree.{isDescendant, isChild, descendants, children, isCompound, isAtomic, isDomainKind, listed, defaultTargets, anchor}
-use Rattle.definition.specs.Rules.{inside, each, rule4, rule5, needsChild, areApart, initialFits, defaultFits, listFits, blocksFit, rowListsFit, isNoRoot, targetsFit, isInOrder, isSourceKind, hasUse, conditionFits, spins, transitionFits}
+use Rattle.definition.specs.Tables.{mostRows, mostTransitions, mostNames, mostTargets, rowCount, transitionCount, referenceCount, nameCount, rowCell, transitionCell, referenceCell, referenceBase, part, referencesAt, kindAt, parentAt, listAt, sourceAt, targetsAt, chartOf}
+use Rattle.definition.specs.Tree.{ancestors, isDescendant, isChild, descendants, children, isCompound, isAtomic, isDomainKind, listed, anchor}
+use Rattle.definition.specs.Rules.{inside, each, countsFit, sizesFit, rowInRange, transitionInRange, referenceInRange, compiledSize, rule1, rule2, rule3, rule4, rule5, firstBroken, verdict, keepsRules, needsChild, areApart, initialFits, defaultFits, listFits, blocksFit, rowListsFit, isNoRoot, targetsFit, isInOrder, isSourceKind, hasUse, conditionFits, spins, transitionFits, isUnder}
 use Rattle.follower.specs.Selection.{History, atomicStates, orDefault, standIns}
 use Rattle.follower.specs.Microstep.{wouldStore}
-use Rattle.laws.specs.Bools.{no, and3, and4, clash, or-elim, bool-case, and-left, and-right}
-use Rattle.laws.specs.Sets.{mem-head, mem-intersection}
+use Rattle.laws.specs.Bools.{no, and3, and4, clash, or-elim, bool-case, and-left, and-right, and-true, and7}
+use Rattle.laws.specs.Sets.{mem-head, mem-those, mem-intersection}
 use Rattle.laws.specs.Loops.{each-below}
 use Rattle.laws.specs.Lists.{mem-cases, all-mem, full-mem, keep-mem}
 use Rattle.laws.specs.Ways.{Way, eq-way, Below, below-way, below-trans, siblings}
-use Rattle.accepted.specs.Tree.{low, root-kind, way-zero, has-child, under-below, under-plain, below-under, child-facts, mem-children}
-use Rattle.accepted.specs.Fork.{Legal, Forks, part-forks, list-forks, anchor-self, anchor-parent}
-use Rattle.theory.specs.Entry.{Ini, live-of}
-use Rattle.accepted.specs.Sound.{Sound, mem-descendants}
+use Rattle.accepted.specs.Tree.{Tree, low, root-kind, way-zero, has-child, under-below, under-plain, below-under, child-facts, mem-children}
+use Rattle.accepted.specs.Fork.{anchor-parent, Legal, Forks, part-forks, list-forks, anchor-self}
+use Rattle.theory.specs.Entry.{live-of}
+
+-- ---- a chart that keeps rules 1, 3, 4 and 5, as facts of its rows and transitions
+
+pub record Sound (c : Chart) : Type 0 where
+  pub tree : Tree c
+  -- every number of a list, a source and a target is a row
+  pub listInside : (i x : ℕ) → mem x (listed c i) ≡ true → x < c .rows
+  pub sourceInside : (t : ℕ) → t < c .transitions → (c .transition) t .source < c .rows
+  pub targetInside : (t : ℕ) → t < c .transitions → (x : ℕ) → mem x ((c .transition) t .targets) ≡ true → x < c .rows
+  pub listRule : rule4 c ≡ true
+  pub transitionRule : rule5 c ≡ true
+
+-- ---- what the tables give
+
+-- an element of a stretch of a list, by its place
+mem-take : (n : ℕ) (xs : List ℕ) (x : ℕ) → mem x (take n xs) ≡ true → (k : ℕ) × (k < n) × (getD xs k 0 ≡ x)
+unfolding mem
+mem-take zero xs x h = absurd (no h)
+mem-take (suc n) [] x h = absurd (no h)
+mem-take (suc n) (y ∷ ys) x h =
+    mem-cases x y (take n ys) (λ e. (0, omega arith, sym e))
+    (λ m. let r = mem-take n ys x m in let l = r .1 in (suc (r .0), omega arith, r .2)) h
+
+rules-of : (a b c d e : Bool) → firstBroken a b c d e ≡ Done → (a ≡ true) × (b ≡ true) × (c ≡ true) × (d ≡ true) × (e ≡ true)
+unfolding firstBroken
+rules-of true true true true true h = (refl, refl, refl, refl, refl)
+rules-of true true true true false h = let z : _≡_ {A = ℕ} 0 1 = cc in absurd (omega arith)
+rules-of true true true false e h = let z : _≡_ {A = ℕ} 0 1 = cc in absurd (omega arith)
+rules-of true true false d e h = let z : _≡_ {A = ℕ} 0 1 = cc in absurd (omega arith)
+rules-of true false c d e h = let z : _≡_ {A = ℕ} 0 1 = cc in absurd (omega arith)
+rules-of false b c d e h = let z : _≡_ {A = ℕ} 0 1 = cc in absurd (omega arith)
+
+-- parts of a test of six, from the left
+and6 : (a b c d e f : Bool) → (a && b && c && d && e && f) ≡ true → (a ≡ true) × (b ≡ true) × (c ≡ true) × (d ≡ true) × (e ≡ true) × (f ≡ true)
+and6 true true true d e f h = let k = and3 d e f h in (refl, refl, refl, k .0, k .1, k .2)
+and6 true true false d e f h = absurd (no h)
+and6 true false c d e f h = absurd (no h)
+and6 false b c d e f h = absurd (no h)
+
+-- a row past the count has an empty list
+beyond-list : (numbers : List ℕ) (i : ℕ) → rowCount numbers ≤ i → listAt numbers i ≡ []
+unfolding listAt referencesAt part rowCell
+beyond-list numbers i l = rw (le-ltb i (rowCount numbers) l)
+
+module _ (numbers names : List ℕ) (room nameRoom : ℕ) (r1 : rule1 numbers names room nameRoom ≡ true) where
+  parts1 : (countsFit numbers ≡ true) × (each (rowCount numbers) (rowInRange numbers) ≡ true) ×
+      (each (transitionCount numbers) (transitionInRange numbers) ≡ true) × (each (referenceCount numbers) (referenceInRange numbers) ≡ true)
+  unfolding rule1
+  parts1 =
+      let k = and7 (countsFit numbers) (sizesFit numbers names room nameRoom) (each (rowCount numbers) (rowInRange numbers))
+      (each (transitionCount numbers) (transitionInRange numbers)) (each (referenceCount numbers) (referenceInRange numbers)) _ _ r1 in
+      (k .0, k .2, k .3, k .4)
+
+  some-row : 0 < rowCount numbers
+  unfolding countsFit
+  some-row =
+      leb-true _ _ (and7 (leb 1 (rowCount numbers)) (leb (rowCount numbers) mostRows) (leb (transitionCount numbers) mostTransitions) (leb (nameCount numbers) mostNames)
+      _ _ _ (parts1 .0) .0)
+
+  reference-inside : (start count x : ℕ) → start + count ≤ referenceCount numbers → mem x (referencesAt numbers start count) ≡ true → x < rowCount numbers
+  unfolding referencesAt part referenceInRange referenceCell
+  reference-inside start count x l h =
+      let r = mem-take count (drop (referenceBase numbers + start) numbers) x h in
+      let k = r .1 in
+      let i : start + r .0 < referenceCount numbers = omega arith in
+      let q : referenceBase numbers + start + r .0 ≡ referenceBase numbers + (start + r .0) = omega arith in
+      let e : getD numbers (referenceBase numbers + (start + r .0)) 0 ≡ x = ap (λ (k : ℕ). getD numbers k 0) (sym q) ∙ sym (getD-drop (referenceBase numbers + start) numbers (r .0) 0) ∙ r .2 in
+      rw (← e) (ltb-true _ _ (each-below (referenceInRange numbers) (referenceCount numbers) (parts1 .3) (start + r .0) i))
+
+  list-inside : (i x : ℕ) → mem x (listAt numbers i) ≡ true → x < rowCount numbers
+  unfolding listAt rowInRange mem
+  list-inside i x h =
+      bool-case (ltb i (rowCount numbers))
+      (λ e. reference-inside (rowCell numbers i 7) (rowCell numbers i 8) x
+      (leb-true _ _ (and7 (leb (rowCell numbers i 0) 5) _ _ _ _ (inside (referenceCount numbers) (rowCell numbers i 7) (rowCell numbers i 8)) _
+      (each-below (rowInRange numbers) (rowCount numbers) (parts1 .1) i (ltb-true _ _ e)) .5)) h)
+      (λ e. absurd (no (rw (beyond-list numbers i (ltb-false _ _ e)) at h)))
+
+  transition-parts : (t : ℕ) → t < transitionCount numbers →
+      (transitionCell numbers t 0 < rowCount numbers) × (transitionCell numbers t 5 + transitionCell numbers t 6 ≤ referenceCount numbers)
+  unfolding transitionInRange
+  transition-parts t l =
+      let k = and6 (ltb (transitionCell numbers t 0) (rowCount numbers)) _ _ _
+      (inside (referenceCount numbers) (transitionCell numbers t 5) (transitionCell numbers t 6) && leb (transitionCell numbers t 6) mostTargets) _
+      (each-below (transitionInRange numbers) (transitionCount numbers) (parts1 .2) t l) in
+      (ltb-true _ _ (k .0), leb-true _ _ (and-left (inside (referenceCount numbers) (transitionCell numbers t 5) (transitionCell numbers t 6)) _ (k .4)))
+
+-- tables with no rule broken mean a sound chart, whatever places they are compiled into
+module _ (numbers names : List ℕ) (room nameRoom : ℕ) (h : verdict numbers names room nameRoom ≡ Done) where
+  rules : (rule1 numbers names room nameRoom ≡ true) × (rule2 numbers names ≡ true) × (rule3 (chartOf numbers) ≡ true) × (rule4 (chartOf numbers) ≡ true) × (rule5 (chartOf numbers) ≡ true)
+  unfolding verdict
+  rules = rules-of (rule1 numbers names room nameRoom) (rule2 numbers names) (rule3 (chartOf numbers)) (rule4 (chartOf numbers)) (rule5 (chartOf numbers)) h
+
+  pub verdict-rule1 : rule1 numbers names room nameRoom ≡ true
+  verdict-rule1 = rules .0
+
+  pub verdict-rule2 : rule2 numbers names ≡ true
+  verdict-rule2 = rules .1
+
+  verdict-tree : Tree (chartOf numbers)
+  unfolding kindAt parentAt rowCell
+  verdict-tree =
+      record {
+        rule = rules .2;
+        some = some-row numbers names room nameRoom verdict-rule1;
+        beyondKind = λ i l. rw (le-ltb i (rowCount numbers) l);
+        beyondParent = λ i l. rw (le-ltb i (rowCount numbers) l);
+      }
+
+  pub verdict-sound : Sound (chartOf numbers)
+  unfolding sourceAt targetsAt
+  verdict-sound =
+      record {
+        tree = verdict-tree;
+        listInside = list-inside numbers names room nameRoom verdict-rule1;
+        sourceInside = λ t l. transition-parts numbers names room nameRoom verdict-rule1 t l .0;
+        targetInside = λ t l x m. reference-inside numbers names room nameRoom verdict-rule1 (transitionCell numbers t 5) (transitionCell numbers t 6) x
+            (transition-parts numbers names room nameRoom verdict-rule1 t l .1) m;
+        listRule = rules .3;
+        transitionRule = rules .4;
+      }
+
+-- an accepted chart is sound
+module _ (numbers names : List ℕ) (h : keepsRules numbers names ≡ Done) where
+  pub accepted-rule1 : rule1 numbers names (compiledSize numbers) (length names) ≡ true
+  unfolding keepsRules
+  accepted-rule1 = verdict-rule1 numbers names (compiledSize numbers) (length names) h
+
+  pub accepted-rule2 : rule2 numbers names ≡ true
+  unfolding keepsRules
+  accepted-rule2 = verdict-rule2 numbers names (compiledSize numbers) (length names) h
+
+  pub accepted-sound : Sound (chartOf numbers)
+  unfolding keepsRules
+  accepted-sound = verdict-sound numbers names (compiledSize numbers) (length names) h
+
+-- ---- the set of descendants
+
+pub mem-descendants : (c : Chart) (a i : ℕ) → mem i (descendants c a) ≡ true → (i < c .rows) × (isDescendant c a i ≡ true)
+unfolding descendants
+mem-descendants c a i h =
+    let k : (ltb i (c .rows) && isDescendant c a i) ≡ true = sym (mem-those (c .rows) (isDescendant c a) i) ∙ h in
+    (ltb-true _ _ (and-left (ltb i (c .rows)) _ k), and-right (ltb i (c .rows)) _ k)
+
+pub descendants-mem : (c : Chart) (a i : ℕ) → i < c .rows → isDescendant c a i ≡ true → mem i (descendants c a) ≡ true
+unfolding descendants
+descendants-mem c a i l h = mem-those (c .rows) (isDescendant c a) i ∙ and-true (ltb i (c .rows)) _ (lt-ltb i (c .rows) l) h
 
 -- ---- what rules 4 and 5 say of a row and a transition
 
@@ -58,7 +205,7 @@ history-no-initial Shallow h = (refl, refl)
 history-no-initial Deep h = (refl, refl)
 
 -- the rows of a list with one element
-only : (a y : ℕ) → mem a (y ∷ []) ≡ true → a ≡ y
+pub only : (a y : ℕ) → mem a (y ∷ []) ≡ true → a ≡ y
 unfolding mem
 only a y m = mem-cases a y [] (λ e. e) (λ k. absurd (no k)) m
 
@@ -85,21 +232,25 @@ module _ (c : Chart) (g : Sound c) where
   target-not-root t l x m =
       not-true _ (all-mem (isNoRoot c) ((c .transition) t .targets) (and-right (areApart c ((c .transition) t .targets)) _ (transition4 t l)) x m)
 
+  rule5-transitions : each (c .transitions) (transitionFits c) ≡ true
+  unfolding rule5
+  rule5-transitions = g .transitionRule
+
   transition5 : (t : ℕ) → t < c .transitions →
       (isInOrder c t ≡ true) × (isSourceKind (kind c ((c .transition) t .source)) ≡ true) × (hasUse ((c .transition) t) ≡ true) × (conditionFits c ((c .transition) t .condition) ≡ true)
-  unfolding rule5 transitionFits
+  unfolding transitionFits
   transition5 t l =
       and4 (isInOrder c t) (isSourceKind (kind c ((c .transition) t .source))) (hasUse ((c .transition) t)) (conditionFits c ((c .transition) t .condition))
       (and-left (isInOrder c t && isSourceKind (kind c ((c .transition) t .source)) && hasUse ((c .transition) t) && conditionFits c ((c .transition) t .condition)) _
-      (each-below (transitionFits c) (c .transitions) (g .transitionRule) t l))
+      (each-below (transitionFits c) (c .transitions) rule5-transitions t l))
 
   -- no transition spins
   pub not-spins : (t : ℕ) → t < c .transitions → spins ((c .transition) t) ≡ false
-  unfolding rule5 transitionFits
+  unfolding transitionFits
   not-spins t l =
       not-true _
       (and-right (isInOrder c t && isSourceKind (kind c ((c .transition) t .source)) && hasUse ((c .transition) t) && conditionFits c ((c .transition) t .condition)) _
-      (each-below (transitionFits c) (c .transitions) (g .transitionRule) t l))
+      (each-below (transitionFits c) (c .transitions) rule5-transitions t l))
 
   pub sources-in-order : (t : ℕ) → t < c .transitions → isInOrder c t ≡ true
   sources-in-order t l = transition5 t l .0
@@ -117,10 +268,10 @@ module _ (c : Chart) (g : Sound c) where
   pub list-apart : (i : ℕ) → i < c .rows → areApart c (listed c i) ≡ true
   list-apart i l = row4 i l .0
 
-  pub initial-list : (i : ℕ) → i < c .rows → isDomainKind c i ≡ true → (x : ℕ) → mem x (listed c i) ≡ true → isDescendant c i x ≡ true
-  unfolding listFits initialFits
+  pub initial-list : (i : ℕ) → i < c .rows → isDomainKind c i ≡ true → (x : ℕ) → mem x (listed c i) ≡ true → mem i (ancestors c x) ≡ true
+  unfolding listFits initialFits isUnder
   initial-list i l q x m =
-      all-mem (isDescendant c i) (listed c i) (and-left (all (isDescendant c i) (listed c i)) _ (rw q at (row4 i l .1))) x m
+      all-mem (isUnder c i) (listed c i) (and-left (all (isUnder c i) (listed c i)) _ (rw q at (row4 i l .1))) x m
 
   pub history-no-domain : (i : ℕ) → isHistory (kind c i) ≡ true → isDomainKind c i ≡ false
   unfolding isDomainKind isCompound
@@ -151,40 +302,12 @@ module _ (c : Chart) (g : Sound c) where
   alone-forks y a b m n i j v w e q =
       siblings (parent c) (low c (g .tree)) i j y (rw (only a y m) at v) (rw (only b y n) at w) e
 
-  -- ---- default entry
-
-  ini-of : (k : ℕ) (xs : List ℕ) → defaultTargets c k ≡ xs → ((x : ℕ) → mem x xs ≡ true → x < c .rows) → ((x : ℕ) → mem x xs ≡ true → isDescendant c k x ≡ true) →
-      Forks c xs → isEmpty xs ≡ false → Ini c k
-  ini-of k xs e h u f n =
-      record {
-        inside = λ x m. h x (rw e at m);
-        beneath = λ x m. u x (rw e at m);
-        forks = λ a b m n′. f a b (rw e at m) (rw e at n′);
-        full = (full-mem xs n .0, rw e (full-mem xs n .1));
-      }
-
-  first-ini : (k : ℕ) (ys : List ℕ) → children c k ≡ ys → isEmpty ys ≡ false → defaultTargets c k ≡ firstOf (children c k) → Ini c k
-  unfolding firstOf isEmpty
-  first-ini k [] e n q = absurd (no (sym n))
-  first-ini k (y ∷ ys) e n q =
-      let m : mem y (children c k) ≡ true = rw e (mem-head y ys) in
-      let f = mem-children c (g .tree) k y m in
-      ini-of k (y ∷ []) (q ∙ rw e) (λ x m. rw (only x y m) (f .0)) (λ x m. rw (only x y m) (child-under k y (f .1))) (alone-forks y) refl
-
   -- the root and a compound have a child
   pub domain-child : (k : ℕ) → k < c .rows → isDomainKind c k ≡ true → isEmpty (children c k) ≡ false
   unfolding isDomainKind isCompound needsChild
   domain-child k l q =
       or-elim (isRoot (kind c k)) (isState (kind c k) && not (isEmpty (children c k)))
       (λ e. has-child c (g .tree) k l (rw e)) (λ e. not-true _ (and-right (isState (kind c k)) _ e)) q
-
-  pub ini : (k : ℕ) → k < c .rows → isDomainKind c k ≡ true → Ini c k
-  unfolding defaultTargets
-  ini k l q =
-      bool-case (isEmpty (listed c k))
-      (λ e. first-ini k (children c k) refl (domain-child k l q) (rw (q, e)))
-      (λ e. ini-of k (listed c k) (rw (q, e)) (g .listInside k) (initial-list k l q)
-      (list-forks c (g .tree) (listed c k) (list-apart k l) (λ x m. under-plain c (g .tree) k x (initial-list k l q x m))) e)
 
   -- ---- stand-ins
 

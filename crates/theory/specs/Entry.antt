@@ -11,7 +11,7 @@ use Rattle.definition.specs.declared.Kind.{Kind}
 use Rattle.definition.specs.declared.Kind.the-variants.{Root, State, Parallel, Final, Shallow, Deep}
 use Rattle.definition.specs.Rows.{fold, from, with, mem, any, insert, union, meets}
 use Rattle.definition.specs.Chart.{Chart, kind, parent, isRoot, isState, isParallel, isHistory}
-use Rattle.definition.specs.Tree.{ancestors, descendants, isDescendant, isChild, children, isCompound, isDomainKind, defaultTargets}
+use Rattle.definition.specs.Tree.{ancestors, descendants, isDescendant, isChild, children, isCompound, isDomainKind}
 use Rattle.follower.specs.Microstep.{addPath, pathsBelow, Entry, hasNoChildIn, complete, entrySet}
 use Rattle.laws.specs.Bools.{no, clash, or-elim, or-left, or-right, or-false, bool-case, not-so, eq-case, and-left, and-right, and-true}
 use Rattle.laws.specs.Sets.{Ascends, mem-those, those-low, mem-insert, mem-one, mem-insert-one, mem-union, mem-intersection, ascends-insert, ascends-union, ascends-intersection}
@@ -337,10 +337,6 @@ pub record Initial (c : Chart) (k : ℕ) (xs : List ℕ) : Type 0 where
   pub beneath : (x : ℕ) → mem x xs ≡ true → isDescendant c k x ≡ true
   pub forks : Forks c xs
   pub full : (x : ℕ) × (mem x xs ≡ true)
-
--- what rule 4 gives of default entry
-abbrev pub Ini : Chart → ℕ → Type 0
-Ini c k = Initial c k (defaultTargets c k)
 
 pub live-of : (on : ℕ → Bool) (k : ℕ) → on k ≡ true → live on k ≡ true
 live-of on zero h = refl

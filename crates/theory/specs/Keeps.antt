@@ -12,8 +12,7 @@ use Rattle.definition.specs.declared.Answer.{Answer}
 use Rattle.definition.specs.Rows.{from, isEmpty, nothingAt}
 use Rattle.definition.specs.Names.{Name}
 use Rattle.definition.specs.Chart.{Chart, Names, kind, isHistory}
-use Rattle.definition.specs.Tree.{defaultTargets}
-use Rattle.follower.specs.Selection.{selected}
+use Rattle.follower.specs.Selection.{initialTargets, selected}
 use Rattle.follower.specs.Microstep.{storedIn, historyAfter, configurationAfter, targeted, entryOf}
 use Rattle.definition.specs.Answers.{answerNo}
 use Rattle.follower.specs.Follower.{Follower, noHistory, endedFollower, modeOf, Round, idle, over, did, taking, selectedBy, closingRound, round, refusal, firstEffects, firstFollower, startOr, start, isEnded, postAnswer, withExternal, post, run}
@@ -104,7 +103,7 @@ module _ (c : Chart) (g : Sound c) (names : Names) where
         (eq-set (c .rows) _ (next-order c g conf o (k .1) (storedIn history) (history-ok history f) (selected c names conf (storedIn history) event) ts))
         (next-legal c g conf o (k .1) (storedIn history) (history-ok history f) (selected c names conf (storedIn history) event) ts)
 
-    entry-after : EntrySet c (defaultTargets c)
+    entry-after : EntrySet c (initialTargets c (storedIn (historyAfter c conf (storedIn history) (selected c names conf (storedIn history) event))))
         (targeted c (storedIn history) (storedIn (historyAfter c conf (storedIn history) (selected c names conf (storedIn history) event))) (selected c names conf (storedIn history) event))
         (entryOf c conf (storedIn history) (selected c names conf (storedIn history) event))
     entry-after =
@@ -144,7 +143,7 @@ module _ (c : Chart) (g : Sound c) (names : Names) where
 
   -- the entry set of a running session's round, in the document's words
   pub round-entry : (s : Follower) → Fit c s → s .mode ≡ Running → (event : Option Name) →
-      EntrySet c (defaultTargets c)
+      EntrySet c (initialTargets c (storedIn (historyAfter c (s .configuration) (storedIn (s .history)) (selectedBy c names s event))))
       (targeted c (storedIn (s .history)) (storedIn (historyAfter c (s .configuration) (storedIn (s .history)) (selectedBy c names s event))) (selectedBy c names s event))
       (entryOf c (s .configuration) (storedIn (s .history)) (selectedBy c names s event))
   unfolding selectedBy

@@ -2,6 +2,7 @@ pub mod MarkedRuns
 pub mod Entry
 pub mod EntryOrder
 pub mod Accepted
+pub mod Resolved
 pub mod Disjoint
 pub mod Domain
 pub mod Round

@@ -23,7 +23,7 @@ use Rattle.follower.specs.Blocks.{Effect, done, queued, perform, performed}
 use Rattle.follower.specs.Microstep.{exitEffects, exiting, transitionEffects, Entry, initialBlock, defaultBlock, isDoneAbove, doneEffects, activeAt, defaultEffects, entryEffects, entering, exits, storedIn, effects, staying}
 use Rattle.follower.specs.Selection.{History, chooser}
 use Rattle.definition.specs.Answers.{answerNo}
-use Rattle.follower.specs.Follower.{Follower, mostQueued, Round, idle, over, did, taking, selectedBy, closingRound, round, refusal, firstEntry, firstEffects, firstFollower, startOr, start, endedFollower, isEnded, postAnswer, withExternal, post, run}
+use Rattle.follower.specs.Follower.{Follower, mostQueued, Round, idle, over, did, taking, selectedBy, closingRound, round, refusal, firstEntry, firstFallen, firstEffects, firstFollower, startOr, start, endedFollower, isEnded, postAnswer, withExternal, post, run}
 use Rattle.laws.specs.Bools.{no, and3, and4, clash, bool-case, and-left, and-right, and-true}
 use Rattle.laws.specs.Loops.{each-below}
 use Rattle.laws.specs.Lists.{all-both, all-flat}
@@ -275,7 +275,7 @@ module _ (numbers names : List ℕ) (r1 : rule1 numbers names (compiledSize numb
   -- those of a start too
   pub first-named : all isName (flat (queued (chartOf numbers) (nameAt names)) (firstEffects (chartOf numbers))) ≡ true
   unfolding firstEffects
-  first-named = queued-names (chartOf numbers) (nameAt names) (firstEffects (chartOf numbers)) (entering-named [] (firstEntry (chartOf numbers)) [])
+  first-named = queued-names (chartOf numbers) (nameAt names) (firstEffects (chartOf numbers)) (entering-named [] (firstEntry (chartOf numbers)) (firstFallen (chartOf numbers)))
 
   -- ---- rounds
 

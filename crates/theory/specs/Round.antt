@@ -15,8 +15,8 @@ use Rattle.definition.specs.declared.Kind.the-variants.{Root, State, Parallel, 
 use Rattle.definition.specs.Rows.{from, those, mem, isIn, isEmpty, union, intersection}
 use Rattle.definition.specs.Names.{Name}
 use Rattle.definition.specs.Chart.{Chart, Names, kind, parent, isRoot, isState, isParallel, isHistory}
-use Rattle.definition.specs.Tree.{isDescendant, descendants, children, isCompound, isDomainKind, defaultTargets}
-use Rattle.follower.specs.Selection.{History, standIns, effectiveTargets, domain, exitSet, selected}
+use Rattle.definition.specs.Tree.{isDescendant, descendants, children, isCompound, isDomainKind}
+use Rattle.follower.specs.Selection.{History, standIns, effectiveTargets, initialTargets, domain, exitSet, selected}
 use Rattle.follower.specs.Microstep.{addExits, exits, wouldStore, stored, storing, pathsBelow, addTargets, targeted, storedIn, staying, historyAfter, entryOf, configurationAfter}
 use Rattle.laws.specs.Bools.{no, clash, or-elim, or-left, or-right, bool-case, not-so, eq-case, and-left, and-right, and-true, and-false}
 use Rattle.laws.specs.Sets.{Ascends, mem-those, ascends-those, ascends-ext, mem-union, mem-intersection, mem-minus, ascends-minus, ascends-union, empty-some}
@@ -28,7 +28,8 @@ use Rattle.theory.specs.Entry.{live-of, live-more, way-plain, path-insid
 use Rattle.theory.specs.EntryOrder.{EntrySet, entry-set}
 use Rattle.accepted.specs.Unions.{union-mem, mem-in-union, ascends-fold-union}
 use Rattle.accepted.specs.Sound.{Sound, mem-descendants, descendants-mem}
-use Rattle.theory.specs.Accepted.{HistOk, Kept, Stand, ini}
+use Rattle.theory.specs.Accepted.{HistOk, Kept, Stand}
+use Rattle.theory.specs.Resolved.{ini}
 use Rattle.theory.specs.Disjoint.{Disjoint, candidate-of, candidate-live, selected-apart, selected-candidate}
 use Rattle.theory.specs.Domain.{Dom, dom, target-stand, effective-of, effective-in, effective-full, effective-forks, effective-inside}
 
@@ -418,7 +419,7 @@ module _ (c : Chart) (g : Sound c) (conf : List ℕ) (ord : conf ≡ those (c .r
   gone-no t zero gt b h = b
   gone-no t (suc k) gt b h = below-gone t (suc k) gt b h
 
-  ready : Ready c (g .tree) (ini c g) stay stay-part aim
+  ready : Ready c (g .tree) (ini c g after after-ok) stay stay-part aim
   ready =
       record {
         inv = record { part = aim-part; new = λ i m. not-so (stay i) (λ s. let k = aim-of i m in stay-of i s .1 (k .by) (k .moves) (k .under)) };
@@ -440,22 +441,22 @@ module _ (c : Chart) (g : Sound c) (conf : List ℕ) (ord : conf ≡ those (c .r
   -- the entry set is a set, and no row that stays is entered
   pub entered-ascends : Ascends 0 ((entryOf c conf hist ts) .set)
   unfolding entryOf
-  entered-ascends = entry-ascends c (defaultTargets c) aim aim-ascends
+  entered-ascends = entry-ascends c (initialTargets c after) aim aim-ascends
 
   pub entered-new : (i : ℕ) → mem i ((entryOf c conf hist ts) .set) ≡ true → mem i (staying c conf hist ts) ≡ false
   unfolding entryOf
-  entered-new i m = (entering-inv c (g .tree) (ini c g) stay stay-part aim (ready .inv)) .new i m
+  entered-new i m = (entering-inv c (g .tree) (ini c g after after-ok) stay stay-part aim (ready .inv)) .new i m
 
   -- the entry set of a round, in the document's words
-  pub entered-means : EntrySet c (defaultTargets c) (targeted c hist (storedIn (historyAfter c conf hist ts)) ts) (entryOf c conf hist ts)
+  pub entered-means : EntrySet c (initialTargets c (storedIn (historyAfter c conf hist ts))) (targeted c hist (storedIn (historyAfter c conf hist ts)) ts) (entryOf c conf hist ts)
   unfolding entryOf
-  entered-means = entry-set c (g .tree) (ini c g) stay stay-part aim (ready .inv) aim-ascends
+  entered-means = entry-set c (g .tree) (ini c g after after-ok) stay stay-part aim (ready .inv) aim-ascends
 
   pub next-legal : Legal c (isIn (configurationAfter c conf hist ts))
   unfolding entryOf configurationAfter
   next-legal =
       subst (Legal c) (fun-ext (λ i. sym (mem-union i (staying c conf hist ts) ((entryOf c conf hist ts) .set))))
-      (filled-legal c (g .tree) (ini c g) stay stay-part aim ready)
+      (filled-legal c (g .tree) (ini c g after after-ok) stay stay-part aim ready)
 
   pub next-ascends : Ascends 0 (configurationAfter c conf hist ts)
   unfolding staying configurationAfter

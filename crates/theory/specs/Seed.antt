@@ -1,15 +1,16 @@
 -- Rows whose ways part only at parallels, completed from the root down, give a legal configuration that holds them.
-use mathlib.Core.Path.{_≡_, refl}
+use mathlib.Core.Path.{_≡_, refl, sym}
 use mathlib.Core.Bool.{Bool, true, false}
 use mathlib.Core.List.{List}
 use mathlib.Core.Logic.{⊎-elim}
 use Prim.Native.Nat.{ℕ, zero, suc, _<_}
 use native.Mathlib.Omega.{arith}
-use Rattle.definition.specs.Rows.{mem, isIn}
+use Rattle.definition.specs.Rows.{mem, isIn, isEmpty, nothingAt}
 use Rattle.definition.specs.Chart.{Chart, kind, parent, isRoot}
-use Rattle.definition.specs.Tree.{isDescendant, isCompound, isDomainKind, defaultTargets}
+use Rattle.definition.specs.Tree.{isDescendant, isCompound, isDomainKind}
 use Rattle.follower.specs.Microstep.{pathsBelow, entrySet}
 use Rattle.follower.specs.Follower.{firstEntry}
+use Rattle.follower.specs.Selection.{initialTargets}
 use Rattle.follower.specs.Legal.{isLegal}
 use Rattle.laws.specs.Bools.{no, not-so, or-left}
 use Rattle.laws.specs.Lists.{ascends-set}
@@ -17,7 +18,8 @@ use Rattle.laws.specs.Ways.{Way, here, up, Below, way-cases, way-le}
 use Rattle.accepted.specs.Tree.{Tree, low, root-kind, under-below, under-plain, below-under, parent-plain}
 use Rattle.accepted.specs.Fork.{live, Partial}
 use Rattle.accepted.specs.Sound.{Sound}
-use Rattle.theory.specs.Accepted.{ini}
+use Rattle.theory.specs.Accepted.{HistOk}
+use Rattle.theory.specs.Resolved.{ini}
 use Rattle.theory.specs.Entry.{Initial, live-of, down-facts, down-intro, path-inside, path-descends, path-up, ascends-paths, first-child, entry-holds, entry-ascends, entry-inside, Ready, filled-legal}
 use Rattle.theory.specs.EntryOrder.{EntrySet, entry-set}
 use Rattle.theory.specs.LegalTest.{facts-legal}
@@ -89,20 +91,28 @@ module _ (c : Chart) (t : Tree c) {targets : ℕ → List ℕ} (initials : (k : 
             (down-intro c t 0 xs j x (omega (arith, way-le (parent c) (low c t) w, s .inside x m)) u m w);
       }
 
+-- nothing is stored when a session starts
+pub nothing-ok : (c : Chart) → HistOk c nothingAt
+unfolding HistOk isEmpty
+nothing-ok c h q n = absurd (no (sym n))
+
+first-ini : (c : Chart) → Sound c → (k : ℕ) → k < c .rows → isDomainKind c k ≡ true → Initial c k (initialTargets c nothingAt k)
+first-ini c g k l q = ini c g nothingAt (nothing-ok c) k l q
+
 -- in a sound chart, by default entry
 pub grown : (c : Chart) (g : Sound c) (xs : List ℕ) → Initial c 0 xs → Grown c xs
-grown c g xs s = seed-grown c (g .tree) (ini c g) xs s
+grown c g xs s = seed-grown c (g .tree) (first-ini c g) xs s
 
 -- the configuration that a start enters is legal
 pub first-legal : (c : Chart) → Sound c → isLegal c ((firstEntry c) .set) ≡ true
 unfolding firstEntry isDomainKind
 first-legal c g =
-    seed-legal c (g .tree) (ini c g) (defaultTargets c 0) (ini c g 0 (g .tree .some) (or-left (isRoot (kind c 0)) (isCompound c 0) (root-kind c (g .tree))))
+    seed-legal c (g .tree) (first-ini c g) (initialTargets c nothingAt 0) (first-ini c g 0 (g .tree .some) (or-left (isRoot (kind c 0)) (isCompound c 0) (root-kind c (g .tree))))
 
 -- the entry set of a start, in the document's words
-pub first-means : (c : Chart) → Sound c → EntrySet c (defaultTargets c) (pathsBelow c 0 (defaultTargets c 0)) (firstEntry c)
+pub first-means : (c : Chart) → Sound c → EntrySet c (initialTargets c nothingAt) (pathsBelow c 0 (initialTargets c nothingAt 0)) (firstEntry c)
 unfolding firstEntry isDomainKind
 first-means c g =
-    entry-set c (g .tree) (ini c g) noneStays (none-part c) (pathsBelow c 0 (defaultTargets c 0))
-    ((seed-ready c (g .tree) (ini c g) (defaultTargets c 0) (ini c g 0 (g .tree .some) (or-left (isRoot (kind c 0)) (isCompound c 0) (root-kind c (g .tree))))) .inv)
-    (ascends-paths c 0 (defaultTargets c 0))
+    entry-set c (g .tree) (first-ini c g) noneStays (none-part c) (pathsBelow c 0 (initialTargets c nothingAt 0))
+    ((seed-ready c (g .tree) (first-ini c g) (initialTargets c nothingAt 0) (first-ini c g 0 (g .tree .some) (or-left (isRoot (kind c 0)) (isCompound c 0) (root-kind c (g .tree))))) .inv)
+    (ascends-paths c 0 (initialTargets c nothingAt 0))

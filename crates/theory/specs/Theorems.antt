@@ -8,12 +8,12 @@ use Prim.Native.Nat.{ℕ}
 use Rattle.definition.specs.declared.Mode.the-variants.{Running, Closing, Ended}
 use Rattle.definition.specs.declared.Answer.{Answer}
 use Rattle.definition.specs.declared.Answer.the-variants.{Done}
-use Rattle.definition.specs.Rows.{any}
+use Rattle.definition.specs.Rows.{any, nothingAt}
 use Rattle.definition.specs.Names.{Name}
 use Rattle.definition.specs.Chart.{Chart, Names}
 use Rattle.definition.specs.Tables.{chartOf, nameAt}
 use Rattle.definition.specs.Rules.{keepsRules}
-use Rattle.definition.specs.Tree.{defaultTargets}
+use Rattle.follower.specs.Selection.{initialTargets}
 use Rattle.follower.specs.Blocks.{Effect}
 use Rattle.follower.specs.Microstep.{pathsBelow, targeted, storedIn, historyAfter, entryOf}
 use Rattle.follower.specs.Follower.{Follower, endedFollower, isFinalUnderRoot, did, round, refusal, selectedBy, firstEntry, firstFollower, firstEffects, startOr, start, post, run}
@@ -132,12 +132,13 @@ module _ (numbers names : List ℕ) (accepted : keepsRules numbers names ≡ Don
 
   -- ---- the entry set in the words of document 01, and in any order
 
-  pub start-entry : EntrySet (chartOf numbers) (defaultTargets (chartOf numbers)) (pathsBelow (chartOf numbers) 0 (defaultTargets (chartOf numbers) 0)) (firstEntry (chartOf numbers))
+  pub start-entry : EntrySet (chartOf numbers) (initialTargets (chartOf numbers) nothingAt) (pathsBelow (chartOf numbers) 0 (initialTargets (chartOf numbers) nothingAt 0)) (firstEntry (chartOf numbers))
   start-entry = first-means (chartOf numbers) sound
 
   -- of the round that takes what the event selects, or no event
   pub round-entry : (s : Follower) → WellFormed (chartOf numbers) s → s .mode ≡ Running → (event : Option Name) →
-      EntrySet (chartOf numbers) (defaultTargets (chartOf numbers))
+      EntrySet (chartOf numbers)
+      (initialTargets (chartOf numbers) (storedIn (historyAfter (chartOf numbers) (s .configuration) (storedIn (s .history)) (selectedBy (chartOf numbers) (nameAt names) s event))))
       (targeted (chartOf numbers) (storedIn (s .history))
       (storedIn (historyAfter (chartOf numbers) (s .configuration) (storedIn (s .history)) (selectedBy (chartOf numbers) (nameAt names) s event))) (selectedBy (chartOf numbers) (nameAt names) s event))
       (entryOf (chartOf numbers) (s .configuration) (storedIn (s .history)) (selectedBy (chartOf numbers) (nameAt names) s event))
