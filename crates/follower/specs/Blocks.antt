@@ -1,10 +1,12 @@
 -- What the parts of a round do, one effect after the other, and the effects of a block. The trace, the queued names and the refusals are
 -- read off the list of effects.
 use mathlib.Core.Bool.{Bool, true, false, cond}
-use mathlib.Core.List.{List, [], _∷_, _++_, map}
+use mathlib.Core.List.{List, [], _∷_, _++_}
 use Prim.Native.Nat.{ℕ, zero, suc, _+_, _*_}
 use Rattle.definition.specs.declared.Action.{Action}
-use Rattle.definition.specs.declared.Action.the-variants.{Raise, Host}
+use Rattle.definition.specs.declared.Action.the-variants.{Raise, Host, If, ElseIf, Else, End}
+use Rattle.definition.specs.declared.Reach.{Reach}
+use Rattle.definition.specs.declared.Reach.the-variants.{Live, Waiting, Past}
 use Rattle.definition.specs.Rows.{mem}
 use Rattle.definition.specs.Names.{Name, doneName}
 use Rattle.definition.specs.Chart.{Chart, Names}
@@ -37,10 +39,58 @@ queued c names (done i) = doneName (names ((c .row) i .id)) ∷ []
 -- (R-6)
 queued c names (chosen i) = []
 
-unfoldable pub perform : Action → Effect
-perform (Raise n) = raised n
-perform (Host n) = acted n
+-- ---- a block, performed where the rows conf are active: "In reads the configuration at that moment" (R-5)
 
--- the effects of a block, performed where the rows conf are active
+-- an if of that test begins (R-5)
+unfoldable pub atIf : Bool → Reach → Reach
+atIf b Live = cond b Live (Waiting 0)
+atIf b (Waiting n) = Waiting (suc n)
+atIf b (Past n) = Past (suc n)
+
+-- another branch of it, of that test; an else has the test true (R-5)
+unfoldable pub atElse : Bool → Reach → Reach
+atElse b Live = Past 0
+atElse b (Waiting zero) = cond b Live (Waiting 0)
+atElse b (Waiting (suc n)) = Waiting (suc n)
+atElse b (Past n) = Past n
+
+-- (R-5)
+unfoldable pub atEnd : Reach → Reach
+atEnd Live = Live
+atEnd (Waiting zero) = Live
+atEnd (Waiting (suc n)) = Waiting n
+atEnd (Past zero) = Live
+atEnd (Past (suc n)) = Past n
+
+-- where an action leads (R-5)
+unfoldable pub after : List ℕ → Action → Reach → Reach
+after conf (Raise n) r = r
+after conf (Host n) r = r
+after conf (If i) r = atIf (mem i conf) r
+after conf (ElseIf i) r = atElse (mem i conf) r
+after conf Else r = atElse true r
+after conf End r = atEnd r
+
+unfoldable pub perform : Action → List Effect
+perform (Raise n) = raised n ∷ []
+perform (Host n) = acted n ∷ []
+-- (R-5)
+perform (If i) = []
+perform (ElseIf i) = []
+perform Else = []
+perform End = []
+
+-- "only the branch taken" (R-5)
+unfoldable pub performIf : Reach → Action → List Effect
+performIf Live a = perform a
+performIf (Waiting n) a = []
+performIf (Past n) a = []
+
+-- (R-5)
+unfoldable pub performedFrom : List ℕ → Reach → List Action → List Effect
+performedFrom conf r [] = []
+performedFrom conf r (a ∷ rest) = performIf r a ++ performedFrom conf (after conf a r) rest
+
+-- the effects of a block
 unfoldable pub performed : List ℕ → List Action → List Effect
-performed conf block = map perform block
+performed conf block = performedFrom conf Live block

@@ -15,7 +15,7 @@ use Rattle.definition.specs.Rows.{those, mem, isIn, all, isEmpty, intersection}
 use Rattle.definition.specs.Chart.{Chart, kind, parent, isRoot, isState, isShallow, isHistory}
 use Rattle.definition.specs.Tables.{mostRows, mostTransitions, mostNames, mostTargets, rowCount, transitionCount, referenceCount, nameCount, rowCell, transitionCell, referenceCell, referenceBase, part, referencesAt, kindAt, parentAt, listAt, sourceAt, targetsAt, chartOf}
 use Rattle.definition.specs.Tree.{ancestors, isDescendant, isChild, descendants, children, isCompound, isAtomic, isDomainKind, listed, anchor}
-use Rattle.definition.specs.Rules.{inside, each, countsFit, sizesFit, rowInRange, transitionInRange, referenceInRange, compiledSize, rule1, rule2, rule3, rule4, rule5, firstBroken, verdict, keepsRules, needsChild, areApart, initialFits, defaultFits, listFits, blocksFit, rowListsFit, isNoRoot, targetsFit, isInOrder, isSourceKind, hasUse, conditionFits, spins, transitionFits, isUnder}
+use Rattle.definition.specs.Rules.{inside, each, countsFit, sizesFit, rowInRange, transitionInRange, referenceInRange, compiledSize, rule1, rule2, rule3, rule4, rule5, firstBroken, verdict, keepsRules, needsChild, areApart, initialFits, defaultFits, listFits, blocksFit, rowListsFit, isNoRoot, targetsFit, isInOrder, isSourceKind, hasUse, conditionFits, spins, transitionFits, isUnder, rowBranchesFit, transitionBranchesFit}
 use Rattle.follower.specs.Selection.{History, atomicStates, orDefault, standIns}
 use Rattle.follower.specs.Microstep.{wouldStore}
 use Rattle.laws.specs.Bools.{no, and3, and4, clash, or-elim, bool-case, and-left, and-right, and-true, and7}
@@ -234,7 +234,7 @@ module _ (c : Chart) (g : Sound c) where
 
   rule5-transitions : each (c .transitions) (transitionFits c) ≡ true
   unfolding rule5
-  rule5-transitions = g .transitionRule
+  rule5-transitions = and3 (each (c .transitions) (transitionFits c)) (each (c .rows) (rowBranchesFit c)) (each (c .transitions) (transitionBranchesFit c)) (g .transitionRule) .0
 
   transition5 : (t : ℕ) → t < c .transitions →
       (isInOrder c t ≡ true) × (isSourceKind (kind c ((c .transition) t .source)) ≡ true) × (hasUse ((c .transition) t) ≡ true) × (conditionFits c ((c .transition) t .condition) ≡ true)

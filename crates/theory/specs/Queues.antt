@@ -11,7 +11,9 @@ use borrow.Author.Tests.{ltb-true, ltb-false, leb-true, leb-false, not-true}
 use Rattle.definition.specs.declared.Kind.{Kind}
 use Rattle.definition.specs.declared.Kind.the-variants.{Root, State, Parallel, Final, Shallow, Deep}
 use Rattle.definition.specs.declared.Action.{Action}
-use Rattle.definition.specs.declared.Action.the-variants.{Raise, Host}
+use Rattle.definition.specs.declared.Action.the-variants.{Raise, Host, If, ElseIf, Else, End}
+use Rattle.definition.specs.declared.Reach.{Reach}
+use Rattle.definition.specs.declared.Reach.the-variants.{Live, Waiting, Past}
 use Rattle.definition.specs.declared.Answer.{Answer}
 use Rattle.definition.specs.declared.Answer.the-variants.{Done, NotAName, Full, SessionEnded}
 use Rattle.definition.specs.Rows.{from, mem, all, flat, backwards}
@@ -19,7 +21,7 @@ use Rattle.definition.specs.Names.{Name, isName, isId, doneName}
 use Rattle.definition.specs.Chart.{Chart, Names, kind, parent, isRoot, isParallel, isFinal}
 use Rattle.definition.specs.Tables.{rowCount, transitionCount, referenceCount, descriptorCount, actionCount, rowCell, transitionCell, actionAt, blockAt, entryAt, exitAt, idAt, listBlockAt, transitionBlockAt, nameAt, chartOf, noNumber, mostDescriptors, mostTargets, nameCount}
 use Rattle.definition.specs.Rules.{each, inside, optionalBelow, countsFit, sizesFit, blockFits, rowInRange, transitionInRange, referenceInRange, descriptorInRange, actionInRange, compiledSize, rule1, slotFits, idDiffers, idFits, raiseFits, actionNamed, rule2}
-use Rattle.follower.specs.Blocks.{Effect, done, queued, perform, performed}
+use Rattle.follower.specs.Blocks.{Effect, done, queued, perform, performIf, performedFrom, performed, after}
 use Rattle.follower.specs.Microstep.{exitEffects, exiting, transitionEffects, Entry, initialBlock, defaultBlock, isDoneAbove, doneEffects, activeAt, defaultEffects, entryEffects, entering, exits, storedIn, effects, staying}
 use Rattle.follower.specs.Selection.{History, chooser}
 use Rattle.definition.specs.Answers.{answerNo}
@@ -45,13 +47,28 @@ queued-names c names (e ∷ es) h =
     all-both isName (queued c names e) (flat (queued c names) es) (and-left (queuesNames c names e) _ h)
     (queued-names c names es (and-right (queuesNames c names e) _ h))
 
-performed-names : (c : Chart) (names active : List ℕ) (block : List Action) → all (raiseFits names) block ≡ true → all (queuesNames c (nameAt names)) (performed active block) ≡ true
-unfolding all performed perform raiseFits queuesNames queued
-performed-names c names active [] h = refl
-performed-names c names active (Raise n ∷ block) h =
-    and-true (isName (nameAt names n) && true) _ (and-true (isName (nameAt names n)) true (and-left (isName (nameAt names n)) _ h) refl)
-    (performed-names c names active block (and-right (isName (nameAt names n)) _ h))
-performed-names c names active (Host n ∷ block) h = performed-names c names active block h
+-- an action that is performed, or passed over
+perform-names : (c : Chart) (names : List ℕ) (r : Reach) (a : Action) → raiseFits names a ≡ true → all (queuesNames c (nameAt names)) (performIf r a) ≡ true
+unfolding all perform performIf raiseFits queuesNames queued
+perform-names c names Live (Raise n) h = and-true (isName (nameAt names n) && true) true (and-true (isName (nameAt names n)) true h refl) refl
+perform-names c names Live (Host n) h = refl
+perform-names c names Live (If i) h = refl
+perform-names c names Live (ElseIf i) h = refl
+perform-names c names Live Else h = refl
+perform-names c names Live End h = refl
+perform-names c names (Waiting k) a h = refl
+perform-names c names (Past k) a h = refl
+
+performed-from-names : (c : Chart) (names conf : List ℕ) (r : Reach) (block : List Action) → all (raiseFits names) block ≡ true → all (queuesNames c (nameAt names)) (performedFrom conf r block) ≡ true
+unfolding all performedFrom
+performed-from-names c names conf r [] h = refl
+performed-from-names c names conf r (a ∷ block) h =
+    all-both (queuesNames c (nameAt names)) (performIf r a) (performedFrom conf (after conf a r) block) (perform-names c names r a (and-left (raiseFits names a) _ h))
+    (performed-from-names c names conf (after conf a r) block (and-right (raiseFits names a) _ h))
+
+performed-names : (c : Chart) (names conf : List ℕ) (block : List Action) → all (raiseFits names) block ≡ true → all (queuesNames c (nameAt names)) (performed conf block) ≡ true
+unfolding performed
+performed-names c names conf block h = performed-from-names c names conf Live block h
 
 -- ---- queues
 

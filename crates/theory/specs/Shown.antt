@@ -5,12 +5,14 @@ use mathlib.Core.List.{List, [], _∷_, _++_, append-nil}
 use mathlib.Core.Option.{Option}
 use Prim.Native.Nat.{ℕ}
 use Rattle.definition.specs.declared.Action.{Action}
-use Rattle.definition.specs.declared.Action.the-variants.{Raise, Host}
+use Rattle.definition.specs.declared.Action.the-variants.{Raise, Host, If, ElseIf, Else, End}
+use Rattle.definition.specs.declared.Reach.{Reach}
+use Rattle.definition.specs.declared.Reach.the-variants.{Live, Waiting, Past}
 use Rattle.definition.specs.Rows.{mem, meets, flat, backwards}
 use Rattle.definition.specs.Names.{Name}
 use Rattle.definition.specs.Chart.{Chart, Names, kind, parent, isRoot, isFinal}
 use Rattle.follower.specs.Selection.{History, exitSet, chooser}
-use Rattle.follower.specs.Blocks.{Effect, exited, taken, entered, acted, raised, done, chosen, perform, performed}
+use Rattle.follower.specs.Blocks.{Effect, exited, taken, entered, acted, raised, done, chosen, perform, performIf, performedFrom, performed, after}
 use Rattle.follower.specs.Microstep.{exits, exitEffects, exiting, transitionEffects, Entry, initialBlock, defaultBlock, isDoneAbove, doneEffects, activeAt, defaultEffects, entryEffects, entering, storedIn, effects, staying}
 use Rattle.follower.specs.Follower.{Follower, Round, idle, over, did, taking, selectedBy, closingRound, round}
 use Rattle.laws.specs.Bools.{no}
@@ -36,11 +38,25 @@ taken-app : (xs ys : List Effect) → takenIn (xs ++ ys) ≡ takenIn xs ++ taken
 unfolding takenIn
 taken-app xs ys = flat-app ifTaken xs ys
 
-taken-performed : (active : List ℕ) (block : List Action) → takenIn (performed active block) ≡ []
-unfolding takenIn performed perform flat ifTaken
-taken-performed active [] = refl
-taken-performed active (Raise n ∷ block) = taken-performed active block
-taken-performed active (Host n ∷ block) = taken-performed active block
+taken-perform : (r : Reach) (a : Action) → takenIn (performIf r a) ≡ []
+unfolding takenIn performIf perform flat ifTaken
+taken-perform Live (Raise n) = refl
+taken-perform Live (Host n) = refl
+taken-perform Live (If i) = refl
+taken-perform Live (ElseIf i) = refl
+taken-perform Live Else = refl
+taken-perform Live End = refl
+taken-perform (Waiting k) a = refl
+taken-perform (Past k) a = refl
+
+taken-performed-from : (conf : List ℕ) (r : Reach) (block : List Action) → takenIn (performedFrom conf r block) ≡ []
+unfolding takenIn performedFrom flat
+taken-performed-from conf r [] = refl
+taken-performed-from conf r (a ∷ block) = taken-app (performIf r a) (performedFrom conf (after conf a r) block) ∙ rw (taken-perform r a) (taken-performed-from conf (after conf a r) block)
+
+taken-performed : (conf : List ℕ) (block : List Action) → takenIn (performed conf block) ≡ []
+unfolding performed
+taken-performed conf block = taken-performed-from conf Live block
 
 taken-flat : (f : ℕ → List Effect) (xs : List ℕ) → ((x : ℕ) → takenIn (f x) ≡ []) → takenIn (flat f xs) ≡ []
 unfolding takenIn flat
