@@ -1,0 +1,4 @@
+pub mod Play
+pub mod Choosers
+pub mod Histories
+pub mod Branches
