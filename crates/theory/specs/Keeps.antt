@@ -13,7 +13,7 @@ use Rattle.definition.specs.Rows.{from, isEmpty, nothingAt}
 use Rattle.definition.specs.Names.{Name}
 use Rattle.definition.specs.Chart.{Chart, Names, kind, isHistory}
 use Rattle.follower.specs.Selection.{initialTargets, selected}
-use Rattle.follower.specs.Microstep.{storedIn, historyAfter, configurationAfter, targeted, entryOf}
+use Rattle.follower.specs.Microstep.{storedIn, historyAfter, configurationAfter, targeted, entryOf, fallenOf}
 use Rattle.definition.specs.Answers.{answerNo}
 use Rattle.follower.specs.Follower.{Follower, noHistory, endedFollower, modeOf, Round, idle, over, did, taking, selectedBy, closingRound, round, refusal, firstEffects, firstFollower, startOr, start, isEnded, postAnswer, withExternal, post, run}
 use Rattle.follower.specs.Legal.{isLegal, StoredFrom}
@@ -25,6 +25,7 @@ use Rattle.theory.specs.EntryOrder.{EntrySet}
 use Rattle.theory.specs.Round.{entered-means, selected-taken, next-legal, next-order, after-ok, after-size, after-plain}
 use Rattle.theory.specs.LegalTest.{legal-facts, facts-legal}
 use Rattle.theory.specs.Seed.{first-legal}
+use Rattle.theory.specs.DefaultBlocks.{DefaultBlocks, round-default-blocks}
 use Rattle.theory.specs.Storing.{stored-kept, kept-stored}
 use Rattle.theory.specs.Runs.{round-cases, run-invariant}
 use Rattle.theory.specs.Queues.{post-free}
@@ -112,6 +113,13 @@ module _ (c : Chart) (g : Sound c) (names : Names) where
         let o = set-eq (c .rows) conf (k .0) in
         entered-means c g conf o (k .1) (storedIn history) (history-ok history f) (selected c names conf (storedIn history) event) ts
 
+    blocks-after : DefaultBlocks c (entryOf c conf (storedIn history) (selected c names conf (storedIn history) event)) (fallenOf c conf (storedIn history) (selected c names conf (storedIn history) event))
+    blocks-after =
+        let k = legal-facts c (g .tree) conf l in
+        let ts = selected-taken c (g .tree) names conf (k .1 .part) (storedIn history) event in
+        let o = set-eq (c .rows) conf (k .0) in
+        round-default-blocks c g conf o (k .1) (storedIn history) (history-ok history f) (selected c names conf (storedIn history) event) ts
+
     histories-after : Histories c (historyAfter c conf (storedIn history) (selected c names conf (storedIn history) event))
     unfolding HistOk
     histories-after =
@@ -148,6 +156,12 @@ module _ (c : Chart) (g : Sound c) (names : Names) where
       (entryOf c (s .configuration) (storedIn (s .history)) (selectedBy c names s event))
   unfolding selectedBy
   round-entry s f m event = let a = running-live s f m in entry-after (s .configuration) (s .history) event (a .legal) (a .history)
+
+  -- the default blocks that run in it
+  pub round-blocks : (s : Follower) → Fit c s → s .mode ≡ Running → (event : Option Name) →
+      DefaultBlocks c (entryOf c (s .configuration) (storedIn (s .history)) (selectedBy c names s event)) (fallenOf c (s .configuration) (storedIn (s .history)) (selectedBy c names s event))
+  unfolding selectedBy
+  round-blocks s f m event = let a = running-live s f m in blocks-after (s .configuration) (s .history) event (a .legal) (a .history)
 
   pub round-fits : (s : Follower) → Fit c s → FitAfter c (round c names s)
   unfolding closingRound

@@ -8,6 +8,7 @@ pub mod Domain
 pub mod Round
 pub mod LegalTest
 pub mod Seed
+pub mod DefaultBlocks
 pub mod Storing
 pub mod Runs
 pub mod Moments

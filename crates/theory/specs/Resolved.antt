@@ -130,6 +130,13 @@ module _ (c : Chart) (g : Sound c) where
   unfolding defaultTargets mem
   default-below k x m = bool-case (isDomainKind c k) (λ q. default-facts k (domain-inside k q) q .2 x m) (λ q. absurd (no (rw q at m)))
 
+  pub default-apart : (k : ℕ) → areApart c (defaultTargets c k) ≡ true
+  unfolding defaultTargets areApart
+  default-apart k = bool-case (isDomainKind c k) (λ q. default-facts k (domain-inside k q) q .0) (λ q. rw q)
+
+  pub default-stand : (hist : History) → HistOk c hist → (k x : ℕ) → mem x (defaultTargets c k) ≡ true → Stand c x (standIns c hist x)
+  default-stand hist ok k x m = let f = default-below k x m in stand c g hist ok x (f .0) (under-rootless k x (f .1))
+
   -- what rule 4 gives of default entry, whatever is stored
   pub ini : (hist : History) → HistOk c hist → (k : ℕ) → k < c .rows → isDomainKind c k ≡ true → Initial c k (initialTargets c hist k)
   unfolding initialTargets

@@ -15,8 +15,8 @@ use Rattle.definition.specs.Tables.{chartOf, nameAt}
 use Rattle.definition.specs.Rules.{keepsRules}
 use Rattle.follower.specs.Selection.{initialTargets}
 use Rattle.follower.specs.Blocks.{Effect}
-use Rattle.follower.specs.Microstep.{pathsBelow, targeted, storedIn, historyAfter, entryOf}
-use Rattle.follower.specs.Follower.{Follower, endedFollower, isFinalUnderRoot, did, round, refusal, selectedBy, firstEntry, firstFollower, firstEffects, startOr, start, post, run}
+use Rattle.follower.specs.Microstep.{pathsBelow, targeted, storedIn, historyAfter, entryOf, fallenOf}
+use Rattle.follower.specs.Follower.{Follower, endedFollower, isFinalUnderRoot, did, round, refusal, selectedBy, firstEntry, firstFallen, firstFollower, firstEffects, startOr, start, post, run}
 use Rattle.follower.specs.Calls.{Call, starts, posts, runs, Outcome, startedOutcome, ranOutcome, follow, followAll}
 use Rattle.follower.specs.Legal.{isLegal, WellFormed, isWellFormed}
 use Rattle.laws.specs.Simulation.{Every, Answers, simulation, every-first}
@@ -27,6 +27,7 @@ use Rattle.theory.specs.Shown.{takenIn, DisjointExits}
 use Rattle.theory.specs.Shown as shown
 use Rattle.theory.specs.EntryOrder.{EntrySet}
 use Rattle.theory.specs.Seed.{first-means}
+use Rattle.theory.specs.DefaultBlocks.{DefaultBlocks, start-default-blocks}
 use Rattle.theory.specs.Keeps as keeps
 use Rattle.theory.specs.Keeps.{Fit, FitAfter, ended-over, first-fits, start-fits, post-fits, round-fits, run-fits}
 use Rattle.theory.specs.WellFormed.{parts-well-formed, well-formed-queues, well-formed-fit, well-formed-exact}
@@ -143,3 +144,14 @@ module _ (numbers names : List ℕ) (accepted : keepsRules numbers names ≡ Don
       (storedIn (historyAfter (chartOf numbers) (s .configuration) (storedIn (s .history)) (selectedBy (chartOf numbers) (nameAt names) s event))) (selectedBy (chartOf numbers) (nameAt names) s event))
       (entryOf (chartOf numbers) (s .configuration) (storedIn (s .history)) (selectedBy (chartOf numbers) (nameAt names) s event))
   round-entry s w m event = keeps.round-entry (chartOf numbers) sound (nameAt names) s (well-formed-fit (chartOf numbers) sound s w) m event
+
+  -- ---- default blocks: an entered row has at most one, and beside its initial block only that of the history which its own initial list
+  -- names alone (R-3)
+
+  pub start-blocks : DefaultBlocks (chartOf numbers) (firstEntry (chartOf numbers)) (firstFallen (chartOf numbers))
+  start-blocks = start-default-blocks (chartOf numbers) sound
+
+  pub round-blocks : (s : Follower) → WellFormed (chartOf numbers) s → s .mode ≡ Running → (event : Option Name) →
+      DefaultBlocks (chartOf numbers) (entryOf (chartOf numbers) (s .configuration) (storedIn (s .history)) (selectedBy (chartOf numbers) (nameAt names) s event))
+      (fallenOf (chartOf numbers) (s .configuration) (storedIn (s .history)) (selectedBy (chartOf numbers) (nameAt names) s event))
+  round-blocks s w m event = keeps.round-blocks (chartOf numbers) sound (nameAt names) s (well-formed-fit (chartOf numbers) sound s w) m event
