@@ -9,22 +9,24 @@ use lib.Dec.{eqb}
 use lib.ListN.{length, getD, length-map}
 use Rattle.definition.specs.declared.Mode.the-variants.{Running, Ended}
 use Rattle.definition.specs.declared.Answer.{Answer}
-use Rattle.definition.specs.Rows.{from, isEmpty, nothingAt}
+use Rattle.definition.specs.Rows.{nothingAt, from, those, mem, isIn, isEmpty}
 use Rattle.definition.specs.Names.{Name}
 use Rattle.definition.specs.Chart.{Chart, Names, kind, isHistory}
-use Rattle.follower.specs.Selection.{initialTargets, selected}
+use Rattle.follower.specs.Selection.{initialTargets, selected, chooser}
 use Rattle.follower.specs.Microstep.{storedIn, historyAfter, configurationAfter, targeted, entryOf, fallenOf}
 use Rattle.definition.specs.Answers.{answerNo}
 use Rattle.follower.specs.Follower.{Follower, noHistory, endedFollower, modeOf, Round, idle, over, did, taking, selectedBy, closingRound, round, refusal, firstEffects, firstFollower, startOr, start, isEnded, postAnswer, withExternal, post, run}
 use Rattle.follower.specs.Legal.{isLegal, StoredFrom}
 use Rattle.laws.specs.Bools.{clash, bool-case}
-use Rattle.laws.specs.Lists.{empty-list, full-list, list-full, set-eq, eq-set, length-from}
+use Rattle.laws.specs.Sets.{ascends-those}
+use Rattle.laws.specs.Lists.{length-from, empty-list, full-list, list-full, set-eq, eq-set}
 use Rattle.accepted.specs.Sound.{Sound}
 use Rattle.theory.specs.Accepted.{HistOk}
 use Rattle.theory.specs.EntryOrder.{EntrySet}
 use Rattle.theory.specs.Round.{entered-means, selected-taken, next-legal, next-order, after-ok, after-size, after-plain}
 use Rattle.theory.specs.LegalTest.{legal-facts, facts-legal}
 use Rattle.theory.specs.Seed.{first-legal}
+use Rattle.theory.specs.Choosers.{FirstChooser, chooser-first}
 use Rattle.theory.specs.DefaultBlocks.{DefaultBlocks, round-default-blocks}
 use Rattle.theory.specs.Storing.{stored-kept, kept-stored}
 use Rattle.theory.specs.Runs.{round-cases, run-invariant}
@@ -156,6 +158,15 @@ module _ (c : Chart) (g : Sound c) (names : Names) where
       (entryOf c (s .configuration) (storedIn (s .history)) (selectedBy c names s event))
   unfolding selectedBy
   round-entry s f m event = let a = running-live s f m in entry-after (s .configuration) (s .history) event (a .legal) (a .history)
+
+  -- each transition that it takes has its first chooser
+  pub round-choosers : (s : Follower) → Fit c s → s .mode ≡ Running → (event : Option Name) (t : ℕ) → mem t (selectedBy c names s event) ≡ true →
+      FirstChooser c names (s .configuration) event t (chooser c names (s .configuration) event t)
+  unfolding selectedBy
+  round-choosers s f m event t n =
+      let k = legal-facts c (g .tree) (s .configuration) (running-live s f m .legal) in
+      let o : s .configuration ≡ those (c .rows) (isIn (s .configuration)) = set-eq (c .rows) (s .configuration) (k .0) in
+      chooser-first c names (s .configuration) (storedIn (s .history)) event (rw o (ascends-those (c .rows) (isIn (s .configuration)))) t n
 
   -- the default blocks that run in it
   pub round-blocks : (s : Follower) → Fit c s → s .mode ≡ Running → (event : Option Name) →

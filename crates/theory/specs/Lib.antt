@@ -4,12 +4,15 @@ pub mod EntryOrder
 pub mod Accepted
 pub mod Resolved
 pub mod Disjoint
+pub mod Choosers
 pub mod Domain
 pub mod Round
 pub mod LegalTest
 pub mod Seed
 pub mod DefaultBlocks
 pub mod Storing
+pub mod NameFacts
+pub mod Branches
 pub mod Runs
 pub mod Moments
 pub mod Queues

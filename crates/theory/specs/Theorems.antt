@@ -8,12 +8,12 @@ use Prim.Native.Nat.{ℕ}
 use Rattle.definition.specs.declared.Mode.the-variants.{Running, Closing, Ended}
 use Rattle.definition.specs.declared.Answer.{Answer}
 use Rattle.definition.specs.declared.Answer.the-variants.{Done}
-use Rattle.definition.specs.Rows.{any, nothingAt}
+use Rattle.definition.specs.Rows.{mem, any, nothingAt}
 use Rattle.definition.specs.Names.{Name}
 use Rattle.definition.specs.Chart.{Chart, Names}
 use Rattle.definition.specs.Tables.{chartOf, nameAt}
 use Rattle.definition.specs.Rules.{keepsRules}
-use Rattle.follower.specs.Selection.{initialTargets}
+use Rattle.follower.specs.Selection.{initialTargets, chooser}
 use Rattle.follower.specs.Blocks.{Effect}
 use Rattle.follower.specs.Microstep.{pathsBelow, targeted, storedIn, historyAfter, entryOf, fallenOf}
 use Rattle.follower.specs.Follower.{Follower, endedFollower, isFinalUnderRoot, did, round, refusal, selectedBy, firstEntry, firstFallen, firstFollower, firstEffects, startOr, start, post, run}
@@ -27,6 +27,7 @@ use Rattle.theory.specs.Shown.{takenIn, DisjointExits}
 use Rattle.theory.specs.Shown as shown
 use Rattle.theory.specs.EntryOrder.{EntrySet}
 use Rattle.theory.specs.Seed.{first-means}
+use Rattle.theory.specs.Choosers.{FirstChooser}
 use Rattle.theory.specs.DefaultBlocks.{DefaultBlocks, start-default-blocks}
 use Rattle.theory.specs.Keeps as keeps
 use Rattle.theory.specs.Keeps.{Fit, FitAfter, ended-over, first-fits, start-fits, post-fits, round-fits, run-fits}
@@ -144,6 +145,13 @@ module _ (numbers names : List ℕ) (accepted : keepsRules numbers names ≡ Don
       (storedIn (historyAfter (chartOf numbers) (s .configuration) (storedIn (s .history)) (selectedBy (chartOf numbers) (nameAt names) s event))) (selectedBy (chartOf numbers) (nameAt names) s event))
       (entryOf (chartOf numbers) (s .configuration) (storedIn (s .history)) (selectedBy (chartOf numbers) (nameAt names) s event))
   round-entry s w m event = keeps.round-entry (chartOf numbers) sound (nameAt names) s (well-formed-fit (chartOf numbers) sound s w) m event
+
+  -- ---- who chose: "with each transition the first active atomic state that chose it" (R-6)
+
+  pub round-choosers : (s : Follower) → WellFormed (chartOf numbers) s → s .mode ≡ Running → (event : Option Name) (t : ℕ) →
+      mem t (selectedBy (chartOf numbers) (nameAt names) s event) ≡ true →
+      FirstChooser (chartOf numbers) (nameAt names) (s .configuration) event t (chooser (chartOf numbers) (nameAt names) (s .configuration) event t)
+  round-choosers s w m event t n = keeps.round-choosers (chartOf numbers) sound (nameAt names) s (well-formed-fit (chartOf numbers) sound s w) m event t n
 
   -- ---- default blocks: an entered row has at most one, and beside its initial block only that of the history which its own initial list
   -- names alone (R-3)
