@@ -21,17 +21,17 @@ record Least (p : ℕ → Bool) (xs : List ℕ) (i : ℕ) : Type 0 where
   passes : p i ≡ true
   before : (k : ℕ) → k < i → mem k xs ≡ true → p k ≡ true → ⊥
 
-first-least : (p : ℕ → Bool) (lo : ℕ) (xs : List ℕ) → Ascends lo xs → any p xs ≡ true → Least p xs (orElse (first p xs) 0)
+least-passing : (p : ℕ → Bool) (lo : ℕ) (xs : List ℕ) → Ascends lo xs → any p xs ≡ true → Least p xs (orElse (first p xs) 0)
 unfolding any first orElse
-first-least p lo [] a h = absurd (no h)
-first-least p lo (x ∷ xs) a h =
+least-passing p lo [] a h = absurd (no h)
+least-passing p lo (x ∷ xs) a h =
     bool-case (p x)
     (λ e. rw e (record {
       there = mem-head x xs;
       passes = e;
       before = λ k l m q. mem-cases k x xs (λ s. omega arith) (λ n. clash _ n (mem-low k (suc x) xs (a .1) (omega arith))) m;
     }))
-    (λ e. let r : Least p xs (orElse (first p xs) 0) = first-least p (suc x) xs (a .1) (rw e at h) in
+    (λ e. let r : Least p xs (orElse (first p xs) 0) = least-passing p (suc x) xs (a .1) (rw e at h) in
     rw e (record {
       there = mem-tail x _ xs (r .there);
       passes = r .passes;
@@ -49,7 +49,7 @@ module _ (c : Chart) (names : Names) (conf : List ℕ) (hist : History) (event :
   unfolding chooser chooses atomicStates
   chooser-first a t m =
       let r = candidate-choice c names conf event t (selected-candidate c names conf hist event t m) in
-      let l = first-least (chooses c names conf event t) 0 (atomicStates c conf) (ascends-keep (isAtomic c) 0 conf a)
+      let l = least-passing (chooses c names conf event t) 0 (atomicStates c conf) (ascends-keep (isAtomic c) 0 conf a)
       (any-mem (chooses c names conf event t) (atomicStates c conf) (r .0) (r .1) (that-is t (choice c names conf event (r .0)) (r .2))) in
       record {
         active = l .there;

@@ -199,8 +199,8 @@ module _ (c : Chart) (targets : ℕ → List ℕ) where
 abbrev pub withChild : Entry → ℕ → Entry
 withChild e j = record { set = insert j (e .set); byDefault = e .byDefault }
 
-abbrev pub withInitial : Chart → (ℕ → List ℕ) → Entry → ℕ → Entry
-withInitial c targets e i = record { set = union (e .set) (pathsBelow c i (targets i)); byDefault = insert i (e .byDefault) }
+abbrev pub withTargets : Chart → (ℕ → List ℕ) → Entry → ℕ → Entry
+withTargets c targets e i = record { set = union (e .set) (pathsBelow c i (targets i)); byDefault = insert i (e .byDefault) }
 
 -- the set before anything is added to what is aimed at
 abbrev pub aimedAt : List ℕ → Entry
@@ -210,7 +210,7 @@ aimedAt aim = record { set = aim; byDefault = [] }
 -- their ancestors below it
 pub data Step (c : Chart) (targets : ℕ → List ℕ) (e : Entry) : Entry → Type 0 where
   child : (i j : ℕ) → mem i (e .set) ≡ true → isParallel (kind c i) ≡ true → mem j (children c i) ≡ true → Step c targets e (withChild e j)
-  initial : (i : ℕ) → mem i (e .set) ≡ true → hasNoChildIn c (e .set) i ≡ true → Step c targets e (withInitial c targets e i)
+  initial : (i : ℕ) → mem i (e .set) ≡ true → hasNoChildIn c (e .set) i ≡ true → Step c targets e (withTargets c targets e i)
 
 pub data Steps (c : Chart) (targets : ℕ → List ℕ) (e : Entry) : Entry → Type 0 where
   begin : Steps c targets e e
