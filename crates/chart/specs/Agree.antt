@@ -9,7 +9,7 @@ use lib.ListN.{length, getD, take, drop}
 use lib.Seq.{getD-take, take-take}
 use borrow.Author.Tests.{ltb-true}
 use Rattle.definition.specs.declared.Action.{Action}
-use Rattle.definition.specs.declared.Action.the-variants.{Raise, Host}
+use Rattle.definition.specs.declared.Action.the-variants.{Raise, Host, If, ElseIf, Else, End}
 use Rattle.definition.specs.Rows.{from}
 use Rattle.definition.specs.Tables.{noRow, kindOf, optional, rowCount, transitionCount, referenceCount, descriptorCount, actionCount, nameCount, transitionBase, referenceBase, descriptorBase, actionBase, tablesSize, rowCell, transitionCell, referenceCell, descriptorCell, actionCell, actionAt, part, referencesAt, descriptorsAt, blockAt, kindAt, parentAt, idAt, entryAt, exitAt, listAt, listBlockAt, sourceAt, eventsAt, conditionAt, internalAt, targetsAt, transitionBlockAt, rowAt, transitionAt, chartOf}
 use Rattle.definition.specs.Rules.{rowInRange, transitionInRange, referenceInRange, descriptorInRange, argumentFits, actionInRange, blockFits, compiledSize}
@@ -241,15 +241,19 @@ module _ (a b : List ℕ) (same : take (tablesSize b) a ≡ take (tablesSize b) 
           cell 8 (omega arith),
         )
 
-    argument-fits : (x : Action) → argumentFits a x ≡ argumentFits b x
+    argument-fits : (x : Action) (n : ℕ) → argumentFits a x n ≡ argumentFits b x n
     unfolding argumentFits
-    argument-fits (Raise n) = rw agree-names
-    argument-fits (Host n) = refl
+    argument-fits (Raise x) n = rw agree-names
+    argument-fits (Host x) n = refl
+    argument-fits (If i) n = rw agree-rows
+    argument-fits (ElseIf i) n = rw agree-rows
+    argument-fits Else n = refl
+    argument-fits End n = refl
 
     action-in-range : (x : ℕ) → x < actionCount b → actionInRange a x ≡ actionInRange b x
     unfolding actionInRange
     action-in-range x l =
-        rw (action-cell x 0 l (omega arith), action-cell x 2 l (omega arith), action-cell x 3 l (omega arith), action-at x l, argument-fits (actionAt b x))
+        rw (action-cell x 0 l (omega arith), action-cell x 1 l (omega arith), action-cell x 2 l (omega arith), action-cell x 3 l (omega arith), action-at x l, argument-fits (actionAt b x) (actionCell b x 1))
 
     pub agree-tables : tablesSize b ≤ length a → InTables a
     unfolding referenceInRange descriptorInRange

@@ -1,14 +1,14 @@
 -- A start and a count inside a table, without a sum that could be too large.
-use mathlib.Core.Path.{_≡_, refl, sym, _∙_}
+use mathlib.Core.Path.{_≡_, sym}
 use mathlib.Core.Bool.{Bool, true, false, _&&_}
-use Prim.Native.Nat.{ℕ, zero, suc, _+_, _-_, _<_, _≤_}
+use Prim.Native.Nat.{ℕ, _+_, _-_, _<_, _≤_}
 use native.Mathlib.Omega.{arith}
 use lib.Dec.{eqb, leb, ltb}
 use borrow.Author.Tests.{eqb-true, leb-true, le-leb, lt-leb, lt-ltb, le-ltb}
 use mathlib.Core.List.{List}
-use Rattle.definition.specs.Tables.{mostActions, rowCount, nameCount, referenceCount, actionCount, rowCell, referenceCell, descriptorCell, actionOf}
-use Rattle.definition.specs.Rules.{inside, optionalBelow, blockFits, rowInRange, referenceInRange, descriptorInRange, argumentFits}
-use Rattle.laws.specs.Bools.{both-ways, and-left, and-right, and-true, and4}
+use Rattle.definition.specs.Tables.{rowCount, nameCount, referenceCell, descriptorCell}
+use Rattle.definition.specs.Rules.{inside, referenceInRange, descriptorInRange}
+use Rattle.laws.specs.Bools.{both-ways}
 
 -- a list inside its table and no longer than it may be
 abbrev pub isShortList : ℕ → ℕ → ℕ → ℕ → Bool
@@ -104,13 +104,3 @@ module _ (numbers : List ℕ) (k x n : ℕ) where
   pub descriptor-out : x ≡ descriptorCell numbers k → n ≡ nameCount numbers → n ≤ x → descriptorInRange numbers k ≡ false
   unfolding descriptorInRange
   descriptor-out e q l = rw (← e, ← q) (le-ltb x n l)
-
-  -- the argument x of an action of kind k
-  pub argument-raise : k ≡ 0 → n ≡ nameCount numbers → ltb x n ≡ argumentFits numbers (actionOf k x)
-  unfolding argumentFits
-  argument-raise e q = rw (e, q)
-
-pub argument-host : (numbers : List ℕ) (k x : ℕ) → (k ≡ 0 → ⊥) → leb x 65535 ≡ argumentFits numbers (actionOf k x)
-unfolding argumentFits
-argument-host numbers zero x d = absurd (d refl)
-argument-host numbers (suc k) x d = refl

@@ -1,4 +1,5 @@
 pub mod Inside
+pub mod Arguments
 pub mod Ids
 pub mod Keys
 pub mod Raises

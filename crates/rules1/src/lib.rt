@@ -21,10 +21,14 @@ use tables::limits;
 
 // ---- rule 1
 
-// The number of the last kind, and of the last host action.
+// The number of the last kind of row, of the last host action, of the last kind of action, and of the last that has a row of In.
 const LAST_KIND: u64 = 5;
 
 const LAST_HOST_ACTION: u64 = 65535;
+
+const LAST_ACTION: u64 = 5;
+
+const LAST_WITH_A_ROW: u64 = 3;
 
 // A start and a count in a table of so many. Their sum may be more than 64 bits hold.
 fn is_inside(total: u64, start: u64, count: u64) -> bool
@@ -160,12 +164,18 @@ fn transition_in_range(numbers: &[u64], t: Transition) -> bool
 }
 
 fn argument_fits(numbers: &[u64], kind: u64, argument: u64) -> bool
-    ensures { λ b. ⌜ b ≡ argumentFits (now (numbers .entry)) (actionOf kind argument) ⌝ }
+    ensures { λ b. ⌜ b ≡ argumentFits (now (numbers .entry)) (actionOf kind argument) argument ⌝ }
 {
     if kind == 0 {
         return argument < tables::name_count(numbers);
     }
-    argument <= LAST_HOST_ACTION
+    if kind == 1 {
+        return argument <= LAST_HOST_ACTION;
+    }
+    if kind <= LAST_WITH_A_ROW {
+        return argument < tables::row_count(numbers);
+    }
+    argument == 0
 }
 
 fn action_in_range(numbers: &[u64], a: u64) -> bool
@@ -174,7 +184,7 @@ fn action_in_range(numbers: &[u64], a: u64) -> bool
 {
     let kind = tables::action_cell(numbers, a, columns::ACTION_KIND);
     let argument = tables::action_cell(numbers, a, columns::ARGUMENT);
-    (kind <= 1)
+    (kind <= LAST_ACTION)
         & argument_fits(numbers, kind, argument)
         & (tables::action_cell(numbers, a, columns::ARGUMENT + 1) == 0)
         & (tables::action_cell(numbers, a, columns::ARGUMENT + 2) == 0)
@@ -450,6 +460,10 @@ fn action_named(numbers: &[u64], names: &[u8], a: u64) -> bool
             NameNumber(n as u16),
         ))),
         Action::Host(_) => true,
+        Action::If(_) => true,
+        Action::ElseIf(_) => true,
+        Action::Else => true,
+        Action::End => true,
     }
 }
 

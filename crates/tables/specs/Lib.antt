@@ -1,3 +1,4 @@
 pub mod Ranges
+pub mod Actions
 pub mod Parts
 pub mod Sets

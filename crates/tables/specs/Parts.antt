@@ -10,16 +10,16 @@ use lib.ListN.{length, getD, take, drop, length-take, length-drop}
 use lib.Seq.{drop-cons, getD-take, getD-drop, length-take-le, take-add, drop-drop}
 use borrow.Author.Tests.{ltb-true, ne-eqb}
 use Rattle.definition.specs.declared.Action.{Action}
-use Rattle.definition.specs.declared.Action.the-variants.{Host}
 use Rattle.numbers.specs.declared.Row.{Row}
 use Rattle.rowset.specs.declared.RowSet.{RowSet}
 use Rattle.definition.specs.Rows.{from, all, insert, with}
 use Rattle.laws.specs.Maps.{map-length, each-map}
 use Rattle.definition.specs.Tables.{mostActions, slotSize, noNumber, rowCount, nameCount, referenceBase, descriptorBase, actionBase, referenceCell, descriptorCell, transitionCell, part, referencesAt, descriptorsAt, blockAt, idAt, conditionAt, slotAt, actionCell, actionAt, actionOf}
-use Rattle.definition.specs.Rules.{optionalBelow, referenceInRange, descriptorInRange, argumentFits}
+use Rattle.definition.specs.Rules.{optionalBelow, referenceInRange, descriptorInRange}
 use Rattle.tables.specs.declared.Condition.{Condition}
 use Rattle.tables.specs.declared.Condition.the-variants.{Always, In}
-use Rattle.tables.specs.Ranges.{RowIn, RowsIn, NamesIn, TransitionIn, ActionIn, SlotIn, ReferencesIn, DescriptorsIn, BlockIn, layout, argument-fits, condition-below}
+use Rattle.tables.specs.Ranges.{RowIn, RowsIn, NamesIn, TransitionIn, ActionIn, SlotIn, ReferencesIn, DescriptorsIn, BlockIn, layout, condition-below}
+use Rattle.tables.specs.Actions.{numberFits, number-fits}
 
 -- the list xs, as a part of the numbers: at most so many, each in its table
 pub record Listed (Within : List ℕ → Type 0) (most : ℕ) (xs l : List ℕ) : Type 0 where
@@ -59,7 +59,7 @@ pub record BlockOf (numbers : List ℕ) (actions : List Action) (b : List ℕ) :
   pub is : actionsOf b ≡ actions
   pub width : length b ≡ 4 * length actions
   pub short : length actions ≤ mostActions
-  pub fits : all (argumentFits numbers) actions ≡ true
+  pub fits : all (numberFits numbers) actions ≡ true
 
 abbrev pub conditionOf : Condition → Option ℕ
 conditionOf Always = none
@@ -160,17 +160,12 @@ part-four place at l =
 
 -- ---- blocks
 
--- what is no raise is a host action
-pub action-host : (k x : ℕ) → (k ≡ 0 → ⊥) → Host x ≡ actionOf k x
-action-host zero x h = absurd (h refl)
-action-host (suc k) x h = refl
-
 -- an action of the table, read by its number
 pub action-read : (numbers : List ℕ) (a k x : ℕ) (y : Action) → ActionIn numbers a → k ≡ actionCell numbers a 0 → x ≡ actionCell numbers a 1 → y ≡ actionOf k x →
-    (y ≡ actionAt numbers a) × (argumentFits numbers y ≡ true)
+    (y ≡ actionAt numbers a) × (numberFits numbers y ≡ true)
 unfolding actionAt
 action-read numbers a k x y h e q z =
-    let w : y ≡ actionAt numbers a = z ∙ rw (e, q) in (w, ap (argumentFits numbers) w ∙ argument-fits numbers a h)
+    let w : y ≡ actionAt numbers a = z ∙ rw (e, q) in (w, ap (numberFits numbers) w ∙ number-fits numbers a h)
 
 -- how many actions a part has
 pub actions-count : (b : List ℕ) → length b / 4 ≡ length (actionsOf b)
@@ -221,7 +216,7 @@ block-listed numbers b start count h e =
       is = actions-from numbers start count (omega arith);
       width = length-take-le (count * 4) (drop (actionBase numbers + start * 4) numbers) (omega (arith, length-drop (actionBase numbers + start * 4) numbers)) ∙ omega arith;
       short = omega arith;
-      fits = each-map (actionAt numbers) (argumentFits numbers) count start (λ k q. argument-fits numbers (start + k) (record { tables = h .tables; below = omega arith }));
+      fits = each-map (actionAt numbers) (numberFits numbers) count start (λ k q. number-fits numbers (start + k) (record { tables = h .tables; below = omega arith }));
     })
 
 pub block-none : (numbers : List ℕ) (start count : ℕ) → count ≡ 0 → BlockOf numbers (blockAt numbers start count) []

@@ -239,10 +239,10 @@ transition-fits numbers t h =
       block = block-fits _ _ _ (p .6);
     }
 
-pub argument-fits : (numbers : List ℕ) (a : ℕ) → ActionIn numbers a → argumentFits numbers (actionAt numbers a) ≡ true
+pub argument-fits : (numbers : List ℕ) (a : ℕ) → ActionIn numbers a → argumentFits numbers (actionAt numbers a) (actionCell numbers a 1) ≡ true
 unfolding actionInRange
 argument-fits numbers a h =
-    and4 (leb (actionCell numbers a 0) 1) (argumentFits numbers (actionAt numbers a)) (eqb (actionCell numbers a 2) 0) (eqb (actionCell numbers a 3) 0)
+    and4 (leb (actionCell numbers a 0) 5) (argumentFits numbers (actionAt numbers a) (actionCell numbers a 1)) (eqb (actionCell numbers a 2) 0) (eqb (actionCell numbers a 3) 0)
     (h .tables .action a (h .below)) .1
 
 -- a number that is not none is below its bound

@@ -3,8 +3,8 @@ ghost use mathlib.Core.Path.{_≡_};
 ghost use mathlib.Core.Bool.{true};
 ghost use lib.ListN.{length, getD};
 ghost use Rattle.definition.specs.Tables.{actionCell, actionOf, actionAt, blockAt, entryAt, exitAt, listBlockAt, transitionBlockAt};
-ghost use Rattle.definition.specs.Rules.{argumentFits};
 ghost use Rattle.tables.specs.Ranges.{CellOfAction, RowIn, TransitionIn, ActionIn, BlockIn};
+ghost use Rattle.tables.specs.Actions.{numberFits};
 ghost use Rattle.tables.specs.Parts.{actionsOf, ActionInBlock, BlockOf};
 use crate::columns;
 use crate::header::action_base;
@@ -76,10 +76,14 @@ pub fn transition_block_of(numbers: &[u64], t: Transition) -> &[u64]
 fn action_from(kind: u64, argument: u64) -> Action
     ensures { λ x. ⌜ x ≡ actionOf kind argument ⌝ }
 {
-    if kind == 0 {
-        return Action::Raise(argument);
+    match kind {
+        0 => Action::Raise(argument),
+        1 => Action::Host(argument),
+        2 => Action::If(argument),
+        3 => Action::ElseIf(argument),
+        4 => Action::Else,
+        _ => Action::End,
     }
-    Action::Host(argument)
 }
 
 // How many actions a block has, and what each does.
@@ -103,7 +107,7 @@ pub fn action_of(block: &[u64], k: usize) -> Action
 // What an action of the whole table does, in a block or not.
 pub fn action_at(numbers: &[u64], a: u64) -> Action
     requires { ⌜ ActionIn (now numbers) a ⌝ }
-    ensures { λ x. ⌜ (x ≡ actionAt (now (numbers .entry)) a) × (argumentFits (now (numbers .entry)) x ≡ true) ⌝ }
+    ensures { λ x. ⌜ (x ≡ actionAt (now (numbers .entry)) a) × (numberFits (now (numbers .entry)) x ≡ true) ⌝ }
 {
     let kind = action_cell(numbers, a, columns::ACTION_KIND);
     let argument = action_cell(numbers, a, columns::ARGUMENT);

@@ -9,7 +9,7 @@ pub const MOST_DESCRIPTORS: u64 = 4;
 
 pub const MOST_TARGETS: u64 = 8;
 
-pub const MOST_ACTIONS: u64 = 8;
+pub const MOST_ACTIONS: u64 = 32;
 
 // The other tables have room for every chart within these.
 pub const ROOM_FOR_REFERENCES: u64 = MOST_ROWS * MOST_ROWS + MOST_TRANSITIONS * MOST_TARGETS;

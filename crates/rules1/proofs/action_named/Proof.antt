@@ -1,6 +1,6 @@
 use borrow.Author.Needs.{needs}
 use native.Mathlib.Omega.{arith}
-use Rattle.rules1.specs.Raises.{raise-low, raise-named, host-named}
+use Rattle.rules1.specs.Raises.{raise-low, raise-named, host-named, if-named, elseif-named, else-named, end-named}
 use Rattle.tables.specs.Ranges.{slot-in}
 use Rattle.rules1.proofs.action_named.Statement.{statement}
 use Rattle.rules1.proofs.action_named.Tie as tie
@@ -32,6 +32,30 @@ returns c = raise-named _ _ _ _ _ (c .before .before .before .before .before .be
 returns-2 : tie.Need-returns-2
 returns-2 c = host-named _ _ _ _ _ (c .before .before .action-at .ensures .0) (c .enum-told .given .1)
 
+enum-told-2 : tie.Need-enum-told-2
+enum-told-2 c = search needs
+
+returns-3 : tie.Need-returns-3
+returns-3 c = if-named _ _ _ _ _ (c .before .before .action-at .ensures .0) (c .enum-told2 .given .1)
+
+enum-told-3 : tie.Need-enum-told-3
+enum-told-3 c = search needs
+
+returns-4 : tie.Need-returns-4
+returns-4 c = elseif-named _ _ _ _ _ (c .before .before .action-at .ensures .0) (c .enum-told3 .given .1)
+
+enum-told-4 : tie.Need-enum-told-4
+enum-told-4 c = search needs
+
+returns-5 : tie.Need-returns-5
+returns-5 c = else-named _ _ _ _ (c .before .before .action-at .ensures .0) (c .enum-told4 .given .1)
+
+enum-told-5 : tie.Need-enum-told-5
+enum-told-5 c = search needs
+
+returns-6 : tie.Need-returns-6
+returns-6 c = end-named _ _ _ _ (c .before .before .action-at .ensures .0) (c .enum-told5 .given .1)
+
 pub action-named-spec : {M : Type 1} → statement M
 action-named-spec =
     tie.close
@@ -43,5 +67,13 @@ action-named-spec =
     name-of-requires
     is-name-requires
     enum-told
+    enum-told-2
+    enum-told-3
+    enum-told-4
+    enum-told-5
     returns
-    returns-2)
+    returns-2
+    returns-3
+    returns-4
+    returns-5
+    returns-6)

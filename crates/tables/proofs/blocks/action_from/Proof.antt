@@ -1,12 +1,27 @@
-use Rattle.tables.specs.Parts.{action-host}
+use mathlib.Core.Path.{sym}
+use native.Mathlib.Omega.{arith}
+use Rattle.tables.specs.Actions.{action-past}
 use Rattle.tables.proofs.blocks.action_from.Statement.{statement}
 use Rattle.tables.proofs.blocks.action_from.Tie as tie
 
 returns : tie.Need-returns
-returns c = rw (c .if1 .taken)
+returns c = rw (c .match .keys1)
 
 returns-2 : tie.Need-returns-2
-returns-2 c = action-host _ _ (c .if1 .left)
+returns-2 c = rw (c .match .keys2)
+
+returns-3 : tie.Need-returns-3
+returns-3 c = rw (c .match .keys3)
+
+returns-4 : tie.Need-returns-4
+returns-4 c = rw (c .match .keys4)
+
+returns-5 : tie.Need-returns-5
+returns-5 c = rw (c .match .keys5)
+
+returns-6 : tie.Need-returns-6
+returns-6 c = sym (action-past (c .before .args .kind) (c .before .args .argument) (omega arith))
 
 pub action-from-spec : {M : Type 1} → statement M
-action-from-spec = tie.close (tie.spec returns returns-2)
+action-from-spec =
+    tie.close (tie.spec returns returns-2 returns-3 returns-4 returns-5 returns-6)
