@@ -9,7 +9,7 @@ use lib.ListN.{length, length-append, length-map}
 use Rattle.definition.specs.Rows.{flat, from, mem, backwards}
 use Rattle.definition.specs.Chart.{parent}
 use Rattle.definition.specs.Tables.{mostRows, mostActions, rowCount, transitionCount, rowCell, transitionCell, blockAt, entryAt, exitAt, listBlockAt, transitionBlockAt, chartOf}
-use Rattle.follower.specs.Blocks.{performed}
+use Rattle.follower.specs.Blocks.{performedFrom, performed}
 use Rattle.follower.specs.Microstep.{exitEffects, exiting, transitionEffects, Entry, initialBlock, defaultBlock, doneEffects, activeLeaving, activeAt, defaultEffects, entryEffects, entering}
 use Rattle.laws.specs.Orders.{mem-backwards}
 use Rattle.laws.specs.Folds.{flat-length, backwards-length, ascends-length}
@@ -19,14 +19,19 @@ use Rattle.rowset.specs.Member.{rowsOf}
 use Rattle.rowset.specs.Rows.{ascends-rows, rows-low}
 use Rattle.tables.specs.Ranges.{InTables, row-fits, transition-fits}
 use Rattle.chart.specs.Within.{Within}
-use Rattle.paths.specs.Lengths.{performed-length, done-few}
+use Rattle.theory.specs.Branches.{performed-few}
+use Rattle.paths.specs.Lengths.{done-few}
 use Rattle.effects.specs.declared.Tally.{Tally}
 use Rattle.effects.specs.Trace.{Room, room-few}
 use Rattle.effects.specs.Entering.{rowEntered, entryIs, entry-pieces, HistoryRows}
 
--- the most effects of an exit and of a transition: itself and its block
+-- the most effects of an exit: itself and its block
 abbrev mostLeft : ℕ
 mostLeft = 1 + mostActions
+
+-- of a transition: itself, the row that chose it, and its block
+abbrev mostTaken : ℕ
+mostTaken = 2 + mostActions
 
 -- of an entry without its done events: itself, its entry block, its initial block, and the default block of each history
 abbrev mostEntered : ℕ
@@ -38,7 +43,7 @@ block-length numbers start count = length-map (from count start) _ ∙ length-fr
 
 -- of a block in the tables
 short : (active numbers : List ℕ) (start count : ℕ) → count ≤ mostActions → length (performed active (blockAt numbers start count)) ≤ mostActions
-short active numbers start count l = let e = performed-length active (blockAt numbers start count) in let f = block-length numbers start count in omega arith
+short active numbers start count l = let e = performed-few active (blockAt numbers start count) in let f = block-length numbers start count in omega arith
 
 pub rows-few : (s : RowSet) → length (rowsOf s) ≤ mostRows
 rows-few s = let h = ascends-length 0 256 (rowsOf s) (ascends-rows s) (rows-low s) (omega arith) in omega arith
@@ -51,9 +56,9 @@ module _ (numbers : List ℕ) (h : InTables numbers) where
       let b = short (activeLeaving conf out i) numbers (rowCell numbers i 5) (rowCell numbers i 6) (f .exit .short) in
       omega arith
 
-  transition-short : (stay : List ℕ) (t : ℕ) → t < transitionCount numbers → length (transitionEffects (chartOf numbers) stay t) ≤ mostLeft
+  transition-short : (stay : List ℕ) (by : ℕ → ℕ) (t : ℕ) → t < transitionCount numbers → length (transitionEffects (chartOf numbers) stay by t) ≤ mostTaken
   unfolding transitionEffects transitionBlockAt
-  transition-short stay t l =
+  transition-short stay by t l =
       let f = transition-fits numbers t (record { tables = h; below = l }) in
       let b = short stay numbers (transitionCell numbers t 7) (transitionCell numbers t 8) (f .block .short) in
       omega arith
@@ -76,7 +81,7 @@ module _ (numbers : List ℕ) (h : InTables numbers) where
     where
       go : (b : Bool) → length (performed active (cond b (listBlockAt numbers i) [])) ≤ mostActions
       go true = list-block active i l
-      go false = unfold performed in omega arith
+      go false = unfold performed performedFrom in omega arith
 
   default-short : (active : List ℕ) (i k : ℕ) → k < rowCount numbers → length (defaultEffects (chartOf numbers) active i k) ≤ mostActions
   unfolding defaultEffects defaultBlock
@@ -84,7 +89,7 @@ module _ (numbers : List ℕ) (h : InTables numbers) where
     where
       go : (b : Bool) → length (performed active (cond b (listBlockAt numbers k) [])) ≤ mostActions
       go true = list-block active k l
-      go false = unfold performed in omega arith
+      go false = unfold performed performedFrom in omega arith
 
   entered-short : (active byDefault : List ℕ) (fell : RowSet) → HistoryRows numbers (rowsOf fell) → (i : ℕ) → i < rowCount numbers → length (rowEntered (chartOf numbers) active byDefault (rowsOf fell) i) ≤ mostEntered
   unfolding rowEntered
@@ -113,9 +118,9 @@ module _ (numbers : List ℕ) (h : InTables numbers) where
       let n = rows-few out in
       omega arith
 
-  taken-few : (stay ts : List ℕ) → length ts ≤ mostRows → Within (transitionCount numbers) ts → length (flat (transitionEffects (chartOf numbers) stay) ts) ≤ mostRows * mostLeft
-  taken-few stay ts l w =
-      let f = flat-length (transitionEffects (chartOf numbers) stay) mostLeft ts (λ t m. transition-short stay t (w .at t m)) in
+  taken-few : (stay : List ℕ) (by : ℕ → ℕ) (ts : List ℕ) → length ts ≤ mostRows → Within (transitionCount numbers) ts → length (flat (transitionEffects (chartOf numbers) stay by) ts) ≤ mostRows * mostTaken
+  taken-few stay by ts l w =
+      let f = flat-length (transitionEffects (chartOf numbers) stay by) mostTaken ts (λ t m. transition-short stay by t (w .at t m)) in
       omega arith
 
   entering-few : (stay : List ℕ) (set defaults fell : RowSet) → Within (rowCount numbers) (rowsOf set) → HistoryRows numbers (rowsOf fell) →
@@ -127,15 +132,15 @@ module _ (numbers : List ℕ) (h : InTables numbers) where
       omega arith
 
   -- the effects of a round, of a start and of a closing round
-  pub round-room : (t : Tally) (conf : List ℕ) (out : RowSet) (ts stay : List ℕ) (set defaults fell : RowSet) → t .entries ≤ 2 ^ 61 → t .names ≤ 2 ^ 61 →
+  pub round-room : (t : Tally) (conf : List ℕ) (out : RowSet) (by : ℕ → ℕ) (ts stay : List ℕ) (set defaults fell : RowSet) → t .entries ≤ 2 ^ 61 → t .names ≤ 2 ^ 61 →
       Within (rowCount numbers) (rowsOf out) → length ts ≤ 256 → Within (transitionCount numbers) ts → Within (rowCount numbers) (rowsOf set) → HistoryRows numbers (rowsOf fell) →
-      Room t (exiting (chartOf numbers) conf (rowsOf out) ++ flat (transitionEffects (chartOf numbers) stay) ts ++ entering (chartOf numbers) stay (entryIs set defaults) (rowsOf fell))
-  round-room t conf out ts stay set defaults fell a b w l v x y =
+      Room t (exiting (chartOf numbers) conf (rowsOf out) ++ flat (transitionEffects (chartOf numbers) stay by) ts ++ entering (chartOf numbers) stay (entryIs set defaults) (rowsOf fell))
+  round-room t conf out by ts stay set defaults fell a b w l v x y =
       let p = exiting-few conf out w in
-      let q = taken-few stay ts l v in
+      let q = taken-few stay by ts l v in
       let r = entering-few stay set defaults fell x y in
-      let e = length-append (exiting (chartOf numbers) conf (rowsOf out) ++ flat (transitionEffects (chartOf numbers) stay) ts) (entering (chartOf numbers) stay (entryIs set defaults) (rowsOf fell)) in
-      let f = length-append (exiting (chartOf numbers) conf (rowsOf out)) (flat (transitionEffects (chartOf numbers) stay) ts) in
+      let e = length-append (exiting (chartOf numbers) conf (rowsOf out) ++ flat (transitionEffects (chartOf numbers) stay by) ts) (entering (chartOf numbers) stay (entryIs set defaults) (rowsOf fell)) in
+      let f = length-append (exiting (chartOf numbers) conf (rowsOf out)) (flat (transitionEffects (chartOf numbers) stay by) ts) in
       room-few t _ a b (omega arith)
 
   pub entering-room : (t : Tally) (stay : List ℕ) (set defaults fell : RowSet) → t .entries ≤ 2 ^ 61 → t .names ≤ 2 ^ 61 →

@@ -13,7 +13,7 @@ use Rattle.definition.specs.Rows.{fold, from, keep, mem, isIn, notIn, any, flat
 use Rattle.definition.specs.Chart.{Chart, kind, parent, isRoot, isParallel, isFinal, isHistory}
 use Rattle.definition.specs.Tables.{rowCount, kindAt, chartOf}
 use Rattle.definition.specs.Tree.{isDescendant, descendants, children, isCompound}
-use Rattle.follower.specs.Blocks.{Effect, exited, entered, done, perform, performed}
+use Rattle.follower.specs.Blocks.{Effect, exited, entered, done, performedFrom, performed}
 use Rattle.follower.specs.Microstep.{exitEffects, Entry, initialBlock, defaultBlock, isActiveFinal, isInFinal, addInFinal, inFinal, isDoneAbove, doneEffects, isPast, isUpTo, activeLeaving, activeAt, defaultEffects, entryEffects}
 use Rattle.laws.specs.Bools.{no, both-ways, and-left, and-right, and-true, or-false, not-so, clash}
 use Rattle.laws.specs.Sets.{mem-intersection, mem-insert, mem-from}
@@ -32,7 +32,6 @@ use Rattle.rowset.specs.Rows.{rows-low}
 use Rattle.effects.specs.declared.Tally.{Tally}
 use Rattle.effects.specs.Trace.{Places, Wrote, Room, wrote-both, room-first, room-next}
 use Rattle.chart.specs.Within.{Within}
-use Rattle.effects.specs.Blocks.{performed-any}
 
 -- ---- the active rows at hand
 
@@ -59,15 +58,15 @@ unfolding activeLeaving minus
 active-behind conf out i n e =
     ap (minus conf) (keep-cong (notIn (from (min n 256) 0)) (isPast i) (rowsOf out) (λ x m. rw e (ap not (mem-from x (min (i + 1) 256) 0) ∙ behind-test i x (rows-low out x m))))
 
--- exiting row i of out while these rows are active: its exit, then its exit block
-module _ (c : Chart) (conf out : List ℕ) (i : ℕ) (active : List ℕ) (h : active ≡ activeLeaving conf out i) (old new : Places) (t r : Tally) (w : Wrote old new t r (exited i ∷ [])) where
-  pub exit-room : Room t (exitEffects c conf out i) → Room r (performed active ((c .row) i .exit))
+-- exiting row i of out: its exit, then its exit block
+module _ (c : Chart) (conf out : List ℕ) (i : ℕ) (old new : Places) (t r : Tally) (w : Wrote old new t r (exited i ∷ [])) where
+  pub exit-room : Room t (exitEffects c conf out i) → Room r (performed (activeLeaving conf out i) ((c .row) i .exit))
   unfolding exitEffects
-  exit-room m = rw h (room-next old new t r (exited i ∷ []) (performed (activeLeaving conf out i) ((c .row) i .exit)) m w)
+  exit-room m = room-next old new t r (exited i ∷ []) (performed (activeLeaving conf out i) ((c .row) i .exit)) m w
 
-  pub exit-wrote : (newer : Places) (s : Tally) → Wrote new newer r s (performed active ((c .row) i .exit)) → Wrote old newer t s (exitEffects c conf out i)
+  pub exit-wrote : (newer : Places) (s : Tally) → Wrote new newer r s (performed (activeLeaving conf out i) ((c .row) i .exit)) → Wrote old newer t s (exitEffects c conf out i)
   unfolding exitEffects
-  exit-wrote newer s v = wrote-both old new newer t r s (exited i ∷ []) (performed (activeLeaving conf out i) ((c .row) i .exit)) w (rw h at v)
+  exit-wrote newer s v = wrote-both old new newer t r s (exited i ∷ []) (performed (activeLeaving conf out i) ((c .row) i .exit)) w v
 
 pub exit-first : (c : Chart) (conf out : List ℕ) (i : ℕ) (t : Tally) → Room t (exitEffects c conf out i) → Room t (exited i ∷ [])
 unfolding exitEffects
@@ -118,35 +117,25 @@ module _ (c : Chart) (active byDefault fell : List ℕ) (i : ℕ) (old : Places)
             (wrote-both old1 old2 old4 t1 t2 t4 (performed active ((c .row) i .entry)) _ w2
             (wrote-both old2 old3 old4 t2 t3 t4 (performed active (initialBlock c byDefault i)) _ w3 w4))
 
--- today no action asks which rows are active, so any may be handed in
-module _ (c : Chart) (a b byDefault fell : List ℕ) (i : ℕ) where
-  default-any : (h : ℕ) → defaultEffects c a i h ≡ defaultEffects c b i h
-  unfolding defaultEffects
-  default-any h = performed-any a b (defaultBlock c i h)
-
-  defaults-any : (hs : List ℕ) → flat (defaultEffects c a i) hs ≡ flat (defaultEffects c b i) hs
-  unfolding flat
-  defaults-any [] = refl
-  defaults-any (h ∷ hs) = rw (default-any h, defaults-any hs) refl
-
-  entered-any : rowEntered c a byDefault fell i ≡ rowEntered c b byDefault fell i
-  unfolding rowEntered
-  entered-any = rw (performed-any a b ((c .row) i .entry), performed-any a b (initialBlock c byDefault i), defaults-any fell)
-
 -- what is entered at a row of the set, and then its done events
-module _ (c : Chart) (stay : List ℕ) (e : Entry) (fell : List ℕ) (i : ℕ) (active : List ℕ) (t : Tally) (m : Room t (entryEffects c stay e fell i)) where
-  both : entryEffects c stay e fell i ≡ rowEntered c active (e .byDefault) fell i ++ doneEffects c (activeAt stay (e .set) i) i
-  both = entry-pieces c stay e fell i ∙ ap (λ (es : List Effect). es ++ doneEffects c (activeAt stay (e .set) i) i) (entered-any c (activeAt stay (e .set) i) active (e .byDefault) fell i)
+module _ (c : Chart) (stay : List ℕ) (e : Entry) (fell : List ℕ) (i : ℕ) (t : Tally) (m : Room t (entryEffects c stay e fell i)) where
+  abbrev both : List Effect
+  both = rowEntered c (activeAt stay (e .set) i) (e .byDefault) fell i ++ doneEffects c (activeAt stay (e .set) i) i
 
-  pub row-room : Room t (rowEntered c active (e .byDefault) fell i)
-  row-room = room-first t (rowEntered c active (e .byDefault) fell i) _ (subst (Room t) both m)
+  both-room : Room t both
+  both-room = subst (Room t) (entry-pieces c stay e fell i) m
 
-  module _ (old new : Places) (r : Tally) (w : Wrote old new t r (rowEntered c active (e .byDefault) fell i)) where
+  pub row-room : Room t (rowEntered c (activeAt stay (e .set) i) (e .byDefault) fell i)
+  row-room = room-first t (rowEntered c (activeAt stay (e .set) i) (e .byDefault) fell i) (doneEffects c (activeAt stay (e .set) i) i) both-room
+
+  module _ (old new : Places) (r : Tally) (w : Wrote old new t r (rowEntered c (activeAt stay (e .set) i) (e .byDefault) fell i)) where
     pub done-room : Room r (doneEffects c (activeAt stay (e .set) i) i)
-    done-room = room-next old new t r (rowEntered c active (e .byDefault) fell i) _ (subst (Room t) both m) w
+    done-room = room-next old new t r (rowEntered c (activeAt stay (e .set) i) (e .byDefault) fell i) (doneEffects c (activeAt stay (e .set) i) i) both-room w
 
     pub row-wrote : (newer : Places) (u : Tally) → Wrote new newer r u (doneEffects c (activeAt stay (e .set) i) i) → Wrote old newer t u (entryEffects c stay e fell i)
-    row-wrote newer u v = subst (Wrote old newer t u) (sym both) (wrote-both old new newer t r u (rowEntered c active (e .byDefault) fell i) _ w v)
+    row-wrote newer u v =
+        subst (Wrote old newer t u) (sym (entry-pieces c stay e fell i))
+        (wrote-both old new newer t r u (rowEntered c (activeAt stay (e .set) i) (e .byDefault) fell i) (doneEffects c (activeAt stay (e .set) i) i) w v)
 
 -- the entry set and its rows whose child came by default
 abbrev pub entryIs : RowSet → RowSet → Entry
@@ -199,7 +188,7 @@ module _ (c : Chart) (active byDefault : List ℕ) (i : ℕ) where
   initial-runs h = rw h
 
   pub initial-not : mem i byDefault ≡ false → performed active (initialBlock c byDefault i) ≡ []
-  unfolding initialBlock performed
+  unfolding initialBlock performed performedFrom
   initial-not h = rw h
 
 module _ (c : Chart) (active : List ℕ) (i h : ℕ) where
@@ -209,7 +198,7 @@ module _ (c : Chart) (active : List ℕ) (i h : ℕ) where
   default-runs e = rw e
 
   pub default-not : eqb i (parent c h) ≡ false → defaultEffects c active i h ≡ []
-  unfolding defaultEffects defaultBlock performed
+  unfolding defaultEffects defaultBlock performed performedFrom
   default-not e = rw e
 
 -- ---- done events

@@ -8,7 +8,7 @@ use lib.Seq.{sets, length-sets, sets-eq}
 use Rattle.definition.specs.Rows.{flat}
 use Rattle.definition.specs.Chart.{Chart, Names}
 use Rattle.laws.specs.Lists.{flat-app}
-use Rattle.follower.specs.Blocks.{Effect, exited, taken, entered, acted, raised, done, traceNo, queued}
+use Rattle.follower.specs.Blocks.{Effect, exited, taken, entered, acted, raised, done, chosen, traceNo, queued}
 use Rattle.effects.specs.declared.Tally.{Tally}
 
 -- ---- numbers put into a list from a place on, each only where the list reaches
@@ -56,6 +56,7 @@ queues (entered i) = 0
 queues (acted n) = 0
 queues (raised n) = 1
 queues (done i) = 1
+queues (chosen i) = 0
 
 unfoldable pub allQueues : List Effect → ℕ
 allQueues [] = 0
@@ -74,6 +75,7 @@ queued-length c names (entered i) = refl
 queued-length c names (acted n) = refl
 queued-length c names (raised n) = refl
 queued-length c names (done i) = refl
+queued-length c names (chosen i) = refl
 
 -- whatever the names are
 pub queues-all : (c : Chart) (names : Names) (es : List Effect) → length (flat (queued c names) es) ≡ allQueues es
@@ -94,6 +96,7 @@ queues-one (entered i) = omega arith
 queues-one (acted n) = omega arith
 queues-one (raised n) = omega arith
 queues-one (done i) = omega arith
+queues-one (chosen i) = omega arith
 
 pub queues-few : (es : List Effect) → allQueues es ≤ length es
 unfolding allQueues
@@ -109,6 +112,7 @@ joining (entered i) = []
 joining (acted n) = []
 joining (raised n) = traceNo (raised n) ∷ []
 joining (done i) = traceNo (done i) ∷ []
+joining (chosen i) = []
 
 unfoldable pub joinsOf : List Effect → List ℕ
 joinsOf es = flat joining es
@@ -129,6 +133,7 @@ joining-length (entered i) = refl
 joining-length (acted n) = refl
 joining-length (raised n) = refl
 joining-length (done i) = refl
+joining-length (chosen i) = refl
 
 pub joins-length : (es : List Effect) → length (joinsOf es) ≡ allQueues es
 unfolding joinsOf allQueues flat

@@ -3,15 +3,19 @@
 ghost use Rattle.definition.specs.Rows.{flat};
 ghost use Rattle.definition.specs.Tables.{rowCount, chartOf};
 ghost use Rattle.follower.specs.Blocks.{performed};
-ghost use Rattle.follower.specs.Microstep.{initialBlock, defaultEffects, entering};
+ghost use Rattle.follower.specs.Microstep.{initialBlock, activeAt, defaultEffects, entering};
 ghost use Rattle.tables.specs.Ranges.{RowIn};
+ghost use Rattle.tables.specs.Parts.{actionsOf};
 ghost use Rattle.rowset.specs.Member.{rowsOf};
 ghost use Rattle.chart.specs.Ready.{Ready, RowReady};
 ghost use Rattle.effects.specs.Trace.{places, Wrote, Room};
+ghost use Rattle.effects.specs.Blocks.{ActionsFit};
 ghost use Rattle.chart.specs.Within.{Within};
 ghost use Rattle.effects.specs.Entering.{rowEntered, entryIs, HistoryRow, HistoryRows};
 use crate::Tally;
-use crate::blocks::perform_block;
+use crate::blocks::perform_plain;
+use crate::blocks::perform_rest;
+use crate::done::active_at;
 use crate::done::done_effects;
 use crate::writing::ENTERED;
 use crate::writing::emit;
@@ -21,65 +25,92 @@ use numbers::row_after;
 use numbers::same_row;
 use rowset::Found;
 use rowset::RowSet;
+use tables::actions_in;
 use tables::entry_block_of;
 use tables::list_block_of;
 
+// A block in the entry of row r. The rows that are active then are worked out for ifs and done events alone.
+fn perform_entering(
+    block: &[u64],
+    stay: RowSet,
+    set: RowSet,
+    r: Row,
+    trace: &mut [u32],
+    joins: &mut [u32],
+    tally: Tally,
+) -> Tally
+    requires { ⌜ ActionsFit (now block) × Room tally (performed (activeAt (rowsOf stay) (rowsOf set) (r .0)) (actionsOf (now block))) ⌝ }
+    ensures { λ s. ⌜ Wrote (places (now (trace .entry)) (now (joins .entry))) (places (now (trace .exit)) (now (joins .exit))) tally s (performed (activeAt (rowsOf stay) (rowsOf set) (r .0)) (actionsOf (now (block .entry)))) ⌝ }
+{
+    let plain = perform_plain(block, trace, joins, tally);
+    let sum = plain.tally;
+    let k = plain.actions;
+    if k == actions_in(block) {
+        return sum;
+    }
+    let active = active_at(stay, set, r);
+    perform_rest(block, k, active, trace, joins, sum)
+}
+
 fn initial_block(
     chart: &[u64],
-    active: RowSet,
+    stay: RowSet,
+    set: RowSet,
     defaults: RowSet,
     r: Row,
     trace: &mut [u32],
     joins: &mut [u32],
     tally: Tally,
 ) -> Tally
-    requires { ⌜ RowIn (now chart) (r .0) × Room tally (performed (rowsOf active) (initialBlock (chartOf (now chart)) (rowsOf defaults) (r .0))) ⌝ }
-    ensures { λ s. ⌜ Wrote (places (now (trace .entry)) (now (joins .entry))) (places (now (trace .exit)) (now (joins .exit))) tally s (performed (rowsOf active) (initialBlock (chartOf (now (chart .entry))) (rowsOf defaults) (r .0))) ⌝ }
+    requires { ⌜ RowIn (now chart) (r .0) × Room tally (performed (activeAt (rowsOf stay) (rowsOf set) (r .0)) (initialBlock (chartOf (now chart)) (rowsOf defaults) (r .0))) ⌝ }
+    ensures { λ s. ⌜ Wrote (places (now (trace .entry)) (now (joins .entry))) (places (now (trace .exit)) (now (joins .exit))) tally s (performed (activeAt (rowsOf stay) (rowsOf set) (r .0)) (initialBlock (chartOf (now (chart .entry))) (rowsOf defaults) (r .0))) ⌝ }
 {
     if !defaults.has(r) {
         return tally;
     }
     let block = list_block_of(chart, r);
-    perform_block(block, active, trace, joins, tally)
+    perform_entering(block, stay, set, r, trace, joins, tally)
 }
 
 fn default_block(
     chart: &[u64],
-    active: RowSet,
+    stay: RowSet,
+    set: RowSet,
     r: Row,
     h: Row,
     trace: &mut [u32],
     joins: &mut [u32],
     tally: Tally,
 ) -> Tally
-    requires { ⌜ HistoryRow (now chart) (h .0) × Room tally (defaultEffects (chartOf (now chart)) (rowsOf active) (r .0) (h .0)) ⌝ }
-    ensures { λ s. ⌜ Wrote (places (now (trace .entry)) (now (joins .entry))) (places (now (trace .exit)) (now (joins .exit))) tally s (defaultEffects (chartOf (now (chart .entry))) (rowsOf active) (r .0) (h .0)) ⌝ }
+    requires { ⌜ HistoryRow (now chart) (h .0) × Room tally (defaultEffects (chartOf (now chart)) (activeAt (rowsOf stay) (rowsOf set) (r .0)) (r .0) (h .0)) ⌝ }
+    ensures { λ s. ⌜ Wrote (places (now (trace .entry)) (now (joins .entry))) (places (now (trace .exit)) (now (joins .exit))) tally s (defaultEffects (chartOf (now (chart .entry))) (activeAt (rowsOf stay) (rowsOf set) (r .0)) (r .0) (h .0)) ⌝ }
 {
     if !same_row(r, parent_row(chart, h)) {
         return tally;
     }
     let block = list_block_of(chart, h);
-    perform_block(block, active, trace, joins, tally)
+    perform_entering(block, stay, set, r, trace, joins, tally)
 }
 
 fn default_blocks(
     chart: &[u64],
-    active: RowSet,
+    stay: RowSet,
+    set: RowSet,
     r: Row,
     fallen: RowSet,
     trace: &mut [u32],
     joins: &mut [u32],
     tally: Tally,
 ) -> Tally
-    requires { ⌜ HistoryRows (now chart) (rowsOf fallen) × Room tally (flat (defaultEffects (chartOf (now chart)) (rowsOf active) (r .0)) (rowsOf fallen)) ⌝ }
-    ensures { λ s. ⌜ Wrote (places (now (trace .entry)) (now (joins .entry))) (places (now (trace .exit)) (now (joins .exit))) tally s (flat (defaultEffects (chartOf (now (chart .entry))) (rowsOf active) (r .0)) (rowsOf fallen)) ⌝ }
+    requires { ⌜ HistoryRows (now chart) (rowsOf fallen) × Room tally (flat (defaultEffects (chartOf (now chart)) (activeAt (rowsOf stay) (rowsOf set) (r .0)) (r .0)) (rowsOf fallen)) ⌝ }
+    ensures { λ s. ⌜ Wrote (places (now (trace .entry)) (now (joins .entry))) (places (now (trace .exit)) (now (joins .exit))) tally s (flat (defaultEffects (chartOf (now (chart .entry))) (activeAt (rowsOf stay) (rowsOf set) (r .0)) (r .0)) (rowsOf fallen)) ⌝ }
 {
     let mut sum = tally;
     let mut k: u16 = 0;
     loop {
         match fallen.next_from(k) {
             Found::At(h) => {
-                sum = default_block(chart, active, r, h, trace, joins, sum);
+                sum = default_block(chart, stay, set, r, h, trace, joins, sum);
                 k = row_after(h);
             }
             Found::Nothing => {
@@ -89,10 +120,11 @@ fn default_blocks(
     }
 }
 
-// Row r is entered, without its done events: these rows are active then, itself among them.
+// Row r is entered, without its done events: active are the rows that stay and those of the set up to it, itself among them.
 fn enter_row(
     chart: &[u64],
-    active: RowSet,
+    stay: RowSet,
+    set: RowSet,
     defaults: RowSet,
     fallen: RowSet,
     r: Row,
@@ -100,18 +132,17 @@ fn enter_row(
     joins: &mut [u32],
     tally: Tally,
 ) -> Tally
-    requires { ⌜ RowReady (now chart) (r .0) × HistoryRows (now chart) (rowsOf fallen) × Room tally (rowEntered (chartOf (now chart)) (rowsOf active) (rowsOf defaults) (rowsOf fallen) (r .0)) ⌝ }
-    ensures { λ s. ⌜ Wrote (places (now (trace .entry)) (now (joins .entry))) (places (now (trace .exit)) (now (joins .exit))) tally s (rowEntered (chartOf (now (chart .entry))) (rowsOf active) (rowsOf defaults) (rowsOf fallen) (r .0)) ⌝ }
+    requires { ⌜ RowReady (now chart) (r .0) × HistoryRows (now chart) (rowsOf fallen) × Room tally (rowEntered (chartOf (now chart)) (activeAt (rowsOf stay) (rowsOf set) (r .0)) (rowsOf defaults) (rowsOf fallen) (r .0)) ⌝ }
+    ensures { λ s. ⌜ Wrote (places (now (trace .entry)) (now (joins .entry))) (places (now (trace .exit)) (now (joins .exit))) tally s (rowEntered (chartOf (now (chart .entry))) (activeAt (rowsOf stay) (rowsOf set) (r .0)) (rowsOf defaults) (rowsOf fallen) (r .0)) ⌝ }
 {
     let s1 = emit(trace, tally, ENTERED, r.0 as u32);
     let block = entry_block_of(chart, r);
-    let s2 = perform_block(block, active, trace, joins, s1);
-    let s3 = initial_block(chart, active, defaults, r, trace, joins, s2);
-    default_blocks(chart, active, r, fallen, trace, joins, s3)
+    let s2 = perform_entering(block, stay, set, r, trace, joins, s1);
+    let s3 = initial_block(chart, stay, set, defaults, r, trace, joins, s2);
+    default_blocks(chart, stay, set, r, fallen, trace, joins, s3)
 }
 
-// Entries in document order. No action asks yet which rows are active: the rows that stay are handed in, and active_at is worked out for
-// done events alone.
+// Entries in document order.
 pub fn entry_effects(
     chart: &[u64],
     stay: RowSet,
@@ -130,7 +161,7 @@ pub fn entry_effects(
     loop {
         match set.next_from(k) {
             Found::At(r) => {
-                sum = enter_row(chart, stay, defaults, fallen, r, trace, joins, sum);
+                sum = enter_row(chart, stay, set, defaults, fallen, r, trace, joins, sum);
                 sum = done_effects(chart, stay, set, r, trace, joins, sum);
                 k = row_after(r);
             }

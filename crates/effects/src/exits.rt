@@ -1,19 +1,24 @@
 // Exits: "descendants first, reverse document order".
 ghost use mathlib.Core.Path.{_≡_};
 ghost use Rattle.definition.specs.Tables.{rowCount, chartOf};
+ghost use Rattle.follower.specs.Blocks.{performed};
 ghost use Rattle.follower.specs.Microstep.{exitEffects, exiting, activeLeaving};
 ghost use Rattle.tables.specs.Ranges.{InTables, RowIn};
+ghost use Rattle.tables.specs.Parts.{actionsOf};
 ghost use Rattle.rowset.specs.Member.{rowsOf};
 ghost use Rattle.effects.specs.Trace.{places, Wrote, Room};
+ghost use Rattle.effects.specs.Blocks.{ActionsFit};
 ghost use Rattle.chart.specs.Within.{Within};
 use crate::Tally;
-use crate::blocks::perform_block;
+use crate::blocks::perform_plain;
+use crate::blocks::perform_rest;
 use crate::writing::EXITED;
 use crate::writing::emit;
 use numbers::Row;
 use numbers::row_after;
 use rowset::Found;
 use rowset::RowSet;
+use tables::actions_in;
 use tables::exit_block_of;
 
 // The rows that are active when row r is exited: those of the configuration, but for the rows of out behind it.
@@ -22,6 +27,29 @@ fn active_out(conf: RowSet, out: RowSet, r: Row) -> RowSet
 {
     let n = row_after(r);
     conf.minus(out.minus(RowSet::below(n)))
+}
+
+// The exit block of row r.
+fn perform_exiting(
+    block: &[u64],
+    conf: RowSet,
+    out: RowSet,
+    r: Row,
+    trace: &mut [u32],
+    joins: &mut [u32],
+    tally: Tally,
+) -> Tally
+    requires { ⌜ ActionsFit (now block) × Room tally (performed (activeLeaving (rowsOf conf) (rowsOf out) (r .0)) (actionsOf (now block))) ⌝ }
+    ensures { λ s. ⌜ Wrote (places (now (trace .entry)) (now (joins .entry))) (places (now (trace .exit)) (now (joins .exit))) tally s (performed (activeLeaving (rowsOf conf) (rowsOf out) (r .0)) (actionsOf (now (block .entry)))) ⌝ }
+{
+    let plain = perform_plain(block, trace, joins, tally);
+    let sum = plain.tally;
+    let k = plain.actions;
+    if k == actions_in(block) {
+        return sum;
+    }
+    let active = active_out(conf, out, r);
+    perform_rest(block, k, active, trace, joins, sum)
 }
 
 fn exit_row(
@@ -37,9 +65,8 @@ fn exit_row(
     ensures { λ s. ⌜ Wrote (places (now (trace .entry)) (now (joins .entry))) (places (now (trace .exit)) (now (joins .exit))) tally s (exitEffects (chartOf (now (chart .entry))) (rowsOf conf) (rowsOf out) (r .0)) ⌝ }
 {
     let sum = emit(trace, tally, EXITED, r.0 as u32);
-    let active = active_out(conf, out, r);
     let block = exit_block_of(chart, r);
-    perform_block(block, active, trace, joins, sum)
+    perform_exiting(block, conf, out, r, trace, joins, sum)
 }
 
 // The rows out of a configuration.

@@ -6,6 +6,7 @@ pub use exits::exit_effects;
 pub use transitions::transition_effects;
 
 mod blocks;
+mod branches;
 mod done;
 pub mod entries;
 pub mod exits;

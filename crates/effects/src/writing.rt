@@ -19,6 +19,8 @@ pub const RAISED: u32 = 5;
 
 pub const DONE: u32 = 6;
 
+pub const CHOSEN: u32 = 7;
+
 // A number at its place, if the list reaches it.
 fn put(list: &mut [u32], place: u64, number: u32)
     ensures { λ _. ⌜ now (list .exit) ≡ set (now (list .entry)) place number ⌝ }

@@ -1,19 +1,12 @@
--- How many effects a block and a final have.
-use mathlib.Core.Path.{_≡_}
+-- How many effects a final has.
 use mathlib.Core.Bool.{Bool, true, false, not, _&&_, cond}
 use mathlib.Core.List.{List, [], _∷_}
 use Prim.Native.Nat.{ℕ, _≤_}
 use native.Mathlib.Omega.{arith}
-use lib.ListN.{length, length-map}
-use Rattle.definition.specs.declared.Action.{Action}
+use lib.ListN.{length}
 use Rattle.definition.specs.Chart.{Chart, kind, parent, isRoot, isFinal}
-use Rattle.follower.specs.Blocks.{done, performed}
+use Rattle.follower.specs.Blocks.{done}
 use Rattle.follower.specs.Microstep.{isDoneAbove, doneEffects}
-
--- an effect an action
-pub performed-length : (active : List ℕ) (block : List Action) → length (performed active block) ≡ length block
-unfolding performed
-performed-length active block = length-map block _
 
 pub done-few : (c : Chart) (active : List ℕ) (i : ℕ) → length (doneEffects c active i) ≤ 2
 unfolding doneEffects

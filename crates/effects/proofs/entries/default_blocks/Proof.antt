@@ -1,7 +1,7 @@
 use Prim.Native.Nat.{_-_}
 use borrow.Author.Needs.{needs}
 use Rattle.definition.specs.Tables.{chartOf}
-use Rattle.follower.specs.Microstep.{defaultEffects}
+use Rattle.follower.specs.Microstep.{activeAt, defaultEffects}
 use Rattle.rowset.specs.Visits.{found-next, rest-at, rest-end, next-less}
 use Rattle.rowset.specs.Search.{restFrom}
 use Rattle.rowset.specs.Member.{rowsOf}
@@ -12,10 +12,10 @@ use Rattle.effects.proofs.entries.default_blocks.Statement.{statement}
 use Rattle.effects.proofs.entries.default_blocks.Tie as tie
 
 abbrev Inv-loop : tie.InvT-loop
-Inv-loop chart active r fallen trace₀ joins₀ sum₀ k₀ trace joins sum k = Emitting (defaultEffects (chartOf chart) (rowsOf active) (r .0)) (places trace₀ joins₀) (places trace joins) sum₀ sum (rowsOf fallen) (restFrom (rowsOf fallen) k)
+Inv-loop chart stay set r fallen trace₀ joins₀ sum₀ k₀ trace joins sum k = Emitting (defaultEffects (chartOf chart) (activeAt (rowsOf stay) (rowsOf set) (r .0)) (r .0)) (places trace₀ joins₀) (places trace joins) sum₀ sum (rowsOf fallen) (restFrom (rowsOf fallen) k)
 
 abbrev μ-loop : tie.MeasureT-loop
-μ-loop chart active r fallen trace₀ joins₀ sum₀ k₀ trace joins sum k = 256 - k
+μ-loop chart stay set r fallen trace₀ joins₀ sum₀ k₀ trace joins sum k = 256 - k
 
 loop-holds : tie.Need-loop-holds Inv-loop μ-loop
 loop-holds c = emitting-up _ _ _ _ (c .before .before .before .pre .1)

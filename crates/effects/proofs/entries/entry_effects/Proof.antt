@@ -28,10 +28,10 @@ enum-known-r : tie.Need-enum-known-r Inv-loop μ-loop
 enum-known-r c = search needs
 
 enter-row-requires : tie.Need-enter-row-requires Inv-loop μ-loop
-enter-row-requires c κs = (record { ready = c .before .before .before .before .before .before .before .before .before .before .pre .0; inside = c .before .before .before .before .before .before .before .before .before .before .pre .1 .at _ (found-next _ _ _ (c .before .before .before .before .before .next-from .ensures) _ (c .before .before .before .r .given .1) .here) }, c .before .before .before .before .before .before .before .before .before .before .pre .2, row-room _ _ _ _ _ _ _ (emitting-room _ _ _ _ _ _ _ _ _ (rest-at _ _ _ (c .before .before .before .before .before .next-from .ensures) _ (c .before .before .before .r .given .1)) (c .before .before .before .before .before .before .loop .inv)))
+enter-row-requires c κs = (record { ready = c .before .before .before .before .before .before .before .before .before .before .pre .0; inside = c .before .before .before .before .before .before .before .before .before .before .pre .1 .at _ (found-next _ _ _ (c .before .before .before .before .before .next-from .ensures) _ (c .before .before .before .r .given .1) .here) }, c .before .before .before .before .before .before .before .before .before .before .pre .2, row-room _ _ _ _ _ _ (emitting-room _ _ _ _ _ _ _ _ _ (rest-at _ _ _ (c .before .before .before .before .before .next-from .ensures) _ (c .before .before .before .r .given .1)) (c .before .before .before .before .before .before .loop .inv)))
 
 done-effects-requires : tie.Need-done-effects-requires Inv-loop μ-loop
-done-effects-requires c κs = (record { ready = c .before .before .before .before .before .before .before .before .before .before .before .before .before .before .before .before .before .pre .0; inside = c .before .before .before .before .before .before .before .before .before .before .before .before .before .before .before .before .before .pre .1 .at _ (found-next _ _ _ (c .before .before .before .before .before .before .before .before .before .before .before .before .next-from .ensures) _ (c .before .before .before .before .before .before .before .before .before .before .r .given .1) .here) }, done-room _ _ _ _ _ _ _ (emitting-room _ _ _ _ _ _ _ _ _ (rest-at _ _ _ (c .before .before .before .before .before .before .before .before .before .before .before .before .next-from .ensures) _ (c .before .before .before .before .before .before .before .before .before .before .r .given .1)) (c .before .before .before .before .before .before .before .before .before .before .before .before .before .loop .inv)) _ _ _ (c .before .before .before .before .before .before .enter-row .ensures))
+done-effects-requires c κs = (record { ready = c .before .before .before .before .before .before .before .before .before .before .before .before .before .before .before .before .before .pre .0; inside = c .before .before .before .before .before .before .before .before .before .before .before .before .before .before .before .before .before .pre .1 .at _ (found-next _ _ _ (c .before .before .before .before .before .before .before .before .before .before .before .before .next-from .ensures) _ (c .before .before .before .before .before .before .before .before .before .before .r .given .1) .here) }, done-room _ _ _ _ _ _ (emitting-room _ _ _ _ _ _ _ _ _ (rest-at _ _ _ (c .before .before .before .before .before .before .before .before .before .before .before .before .next-from .ensures) _ (c .before .before .before .before .before .before .before .before .before .before .r .given .1)) (c .before .before .before .before .before .before .before .before .before .before .before .before .before .loop .inv)) _ _ _ (c .before .before .before .before .before .before .enter-row .ensures))
 
 row-after-requires : tie.Need-row-after-requires Inv-loop μ-loop
 row-after-requires c κs = search needs
@@ -40,7 +40,7 @@ loop-less : tie.Need-loop-less Inv-loop μ-loop
 loop-less c = rw (c .row-after .ensures) (next-less _ _ _ (c .before .before .before .before .before .before .before .before .before .before .before .before .before .before .before .before .before .before .next-from .ensures) _ (c .before .before .before .before .before .before .before .before .before .before .before .before .before .before .before .before .r .given .1))
 
 loop-again : tie.Need-loop-again Inv-loop μ-loop
-loop-again c = rw (c .row-after .ensures) (emitting-turn _ _ _ _ _ _ _ _ _ _ _ (rest-at _ _ _ (c .before .before .before .before .before .before .before .before .before .before .before .before .before .before .before .before .before .before .next-from .ensures) _ (c .before .before .before .before .before .before .before .before .before .before .before .before .before .before .before .before .r .given .1)) (c .before .before .before .before .before .before .before .before .before .before .before .before .before .before .before .before .before .before .before .loop .inv) (row-wrote _ _ _ _ _ _ _ (emitting-room _ _ _ _ _ _ _ _ _ (rest-at _ _ _ (c .before .before .before .before .before .before .before .before .before .before .before .before .before .before .before .before .before .before .next-from .ensures) _ (c .before .before .before .before .before .before .before .before .before .before .before .before .before .before .before .before .r .given .1)) (c .before .before .before .before .before .before .before .before .before .before .before .before .before .before .before .before .before .before .before .loop .inv)) _ _ _ (c .before .before .before .before .before .before .before .before .before .before .before .before .enter-row .ensures) _ _ (c .before .before .before .before .before .done-effects .ensures)))
+loop-again c = rw (c .row-after .ensures) (emitting-turn _ _ _ _ _ _ _ _ _ _ _ (rest-at _ _ _ (c .before .before .before .before .before .before .before .before .before .before .before .before .before .before .before .before .before .before .next-from .ensures) _ (c .before .before .before .before .before .before .before .before .before .before .before .before .before .before .before .before .r .given .1)) (c .before .before .before .before .before .before .before .before .before .before .before .before .before .before .before .before .before .before .before .loop .inv) (row-wrote _ _ _ _ _ _ (emitting-room _ _ _ _ _ _ _ _ _ (rest-at _ _ _ (c .before .before .before .before .before .before .before .before .before .before .before .before .before .before .before .before .before .before .next-from .ensures) _ (c .before .before .before .before .before .before .before .before .before .before .before .before .before .before .before .before .r .given .1)) (c .before .before .before .before .before .before .before .before .before .before .before .before .before .before .before .before .before .before .before .loop .inv)) _ _ _ (c .before .before .before .before .before .before .before .before .before .before .before .before .enter-row .ensures) _ _ (c .before .before .before .before .before .done-effects .ensures)))
 
 enum-told : tie.Need-enum-told Inv-loop μ-loop
 enum-told c = search needs

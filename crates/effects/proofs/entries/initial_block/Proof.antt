@@ -16,14 +16,14 @@ returns c = subst (Wrote _ _ _ _) (sym (initial-not _ _ _ _ (sym (c .before .has
 list-block-of-requires : tie.Need-list-block-of-requires
 list-block-of-requires c κs = search needs
 
-perform-block-requires : tie.Need-perform-block-requires
-perform-block-requires c κs = block-asked _ _ _ _ (c .before .before .list-block-of .ensures) _ (c .before .before .before .before .before .before .before .before .pre .0 .tables) (subst (Room _) (initial-runs _ _ _ _ (sym (c .before .before .before .before .has .ensures) ∙ not-false _ (c .before .before .before .if1 .left))) (c .before .before .before .before .before .before .before .before .pre .1))
+perform-entering-requires : tie.Need-perform-entering-requires
+perform-entering-requires c κs = block-asked _ _ _ _ (c .before .before .list-block-of .ensures) _ (c .before .before .before .before .before .before .before .before .pre .0 .tables) (subst (Room _) (initial-runs _ _ _ _ (sym (c .before .before .before .before .has .ensures) ∙ not-false _ (c .before .before .before .if1 .left))) (c .before .before .before .before .before .before .before .before .pre .1))
 
 same-length : tie.Need-same-length
 same-length c = search needs
 
 returns-2 : tie.Need-returns-2
-returns-2 c = subst (Wrote _ _ _ _) (sym (initial-runs _ _ _ _ (sym (c .before .before .before .before .before .before .before .before .before .has .ensures) ∙ not-false _ (c .before .before .before .before .before .before .before .before .if1 .left)))) (block-wrote _ _ _ _ (c .before .before .before .before .before .before .before .list-block-of .ensures) _ _ _ _ (c .before .before .before .before .perform-block .ensures))
+returns-2 c = subst (Wrote _ _ _ _) (sym (initial-runs _ _ _ _ (sym (c .before .before .before .before .before .before .before .before .before .has .ensures) ∙ not-false _ (c .before .before .before .before .before .before .before .before .if1 .left)))) (block-wrote _ _ _ _ (c .before .before .before .before .before .before .before .list-block-of .ensures) _ _ _ _ (c .before .before .before .before .perform-entering .ensures))
 
 same-length-2 : tie.Need-same-length-2
 same-length-2 c = search needs
@@ -35,7 +35,7 @@ initial-block-spec =
     has-requires
     returns
     list-block-of-requires
-    perform-block-requires
+    perform-entering-requires
     same-length
     same-length-2
     returns-2)

@@ -8,23 +8,17 @@ use Rattle.effects.specs.Entering.{exit-first, exit-room, exit-wrote}
 use Rattle.effects.proofs.exits.exit_row.Statement.{statement}
 use Rattle.effects.proofs.exits.exit_row.Tie as tie
 
-emit-requires : tie.Need-emit-requires
-emit-requires c κs = (record { some = omega arith; most = omega arith; index = omega arith }, unfold queues in refl, exit-first _ _ _ _ _ (c .before .before .before .before .before .pre .1))
-
-perform-block-requires : tie.Need-perform-block-requires
-perform-block-requires c κs = block-asked _ _ _ _ (c .before .before .exit-block-of .ensures) _ (c .before .before .before .before .before .before .before .before .before .before .before .before .pre .0 .tables) (exit-room _ _ _ _ _ (c .before .before .before .active-out .ensures) _ _ _ _ (c .before .before .before .before .before .before .emit .ensures .wrote []) (c .before .before .before .before .before .before .before .before .before .before .before .before .pre .1))
-
-returns : tie.Need-returns
-returns c = exit-wrote _ _ _ _ _ (c .before .before .before .before .before .before .before .before .active-out .ensures) _ _ _ _ (c .before .before .before .before .before .before .before .before .before .before .before .emit .ensures .wrote _) _ _ (block-wrote _ _ _ _ (c .before .before .before .before .before .before .before .exit-block-of .ensures) _ _ _ _ (c .before .before .before .before .perform-block .ensures))
-
 cast-emit : tie.Need-cast-emit
 cast-emit c = search needs
 
-active-out-requires : tie.Need-active-out-requires
-active-out-requires c κs = search needs
+emit-requires : tie.Need-emit-requires
+emit-requires c κs = (record { some = omega arith; most = omega arith; index = omega arith }, unfold queues in refl, exit-first _ _ _ _ _ (c .before .before .before .before .before .pre .1))
 
 exit-block-of-requires : tie.Need-exit-block-of-requires
 exit-block-of-requires c κs = search needs
+
+perform-exiting-requires : tie.Need-perform-exiting-requires
+perform-exiting-requires c κs = block-asked _ _ _ _ (c .before .before .exit-block-of .ensures) _ (c .before .before .before .before .before .before .before .before .before .before .before .pre .0 .tables) (exit-room _ _ _ _ _ _ _ _ (c .before .before .before .before .before .emit .ensures .wrote []) (c .before .before .before .before .before .before .before .before .before .before .before .pre .1))
 
 same-length : tie.Need-same-length
 same-length c = search needs
@@ -32,13 +26,17 @@ same-length c = search needs
 same-length-2 : tie.Need-same-length-2
 same-length-2 c = search needs
 
+returns : tie.Need-returns
+returns c = exit-wrote _ _ _ _ _ _ _ _ (c .before .before .before .before .before .before .before .before .before .before .emit .ensures .wrote _) _ _ (block-wrote _ _ _ _ (c .before .before .before .before .before .before .before .exit-block-of .ensures) _ _ _ _ (c .before .before .before .before .perform-exiting .ensures))
+
 pub exit-row-spec : {M : Type 1} → statement M
-exit-row-spec = tie.close (tie.spec
+exit-row-spec =
+    tie.close
+    (tie.spec
     cast-emit
     emit-requires
-    active-out-requires
     exit-block-of-requires
-    perform-block-requires
+    perform-exiting-requires
     same-length
     same-length-2
     returns)
