@@ -4,4 +4,5 @@ pub mod Lists
 pub mod Nearest
 pub mod Transitions
 pub mod Verdict
-pub mod Initial
+pub mod Nesting
+pub mod Branches

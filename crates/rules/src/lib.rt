@@ -21,6 +21,8 @@ use rowset::Found;
 use rowset::RowSet;
 use tables::Condition;
 
+pub mod branches;
+
 // ---- rule 4: rows that stand apart
 
 fn anchor_of(numbers: &[u64], r: Row) -> Row
@@ -396,9 +398,9 @@ fn transition_fits(numbers: &[u64], t: Transition) -> bool
         & !spins(numbers, t)
 }
 
-pub fn keeps_transitions(numbers: &[u64]) -> bool
+fn transitions_fit(numbers: &[u64]) -> bool
     requires { ⌜ InTables (now numbers) ⌝ }
-    ensures { λ b. ⌜ b ≡ rule5 (chartOf (now (numbers .entry))) ⌝ }
+    ensures { λ b. ⌜ b ≡ all (transitionFits (chartOf (now (numbers .entry)))) (from (transitionCount (now (numbers .entry))) 0) ⌝ }
 {
     let n = tables::transition_count(numbers);
     let mut i = 0;
@@ -409,6 +411,16 @@ pub fn keeps_transitions(numbers: &[u64]) -> bool
         i += 1;
     }
     true
+}
+
+pub fn keeps_transitions(numbers: &[u64]) -> bool
+    requires { ⌜ InTables (now numbers) ⌝ }
+    ensures { λ b. ⌜ b ≡ rule5 (chartOf (now (numbers .entry))) ⌝ }
+{
+    if !transitions_fit(numbers) {
+        return false;
+    }
+    branches::keeps_branches(numbers)
 }
 
 // ---- the verdict

@@ -1,61 +1,21 @@
 use borrow.Author.Needs.{needs}
-use mathlib.Core.Path.{_≡_}
-use mathlib.Core.Bool.{true}
-use Prim.Native.Nat.{_-_, _≤_}
-use Rattle.definition.specs.Rows.{all, from}
-use Rattle.definition.specs.Rules.{transitionFits, rule5}
-use Rattle.laws.specs.Loops.{below-laws, said-laws}
-use Rattle.definition.specs.Tables.{chartOf}
+use Rattle.laws.specs.Loops.{said-not-yes, said-not-no}
+use Rattle.rules.specs.Branches.{rule5-broken, rule5-kept}
 use Rattle.rules.proofs.keeps_transitions.Statement.{statement}
 use Rattle.rules.proofs.keeps_transitions.Tie as tie
 
-abbrev Inv-loop : tie.InvT-loop
-Inv-loop numbers n i₀ i = (i ≤ n) × (all (transitionFits (chartOf numbers)) (from i 0) ≡ true)
+transitions-fit-requires : tie.Need-transitions-fit-requires
+transitions-fit-requires c κs = search needs
 
-abbrev μ-loop : tie.MeasureT-loop
-μ-loop numbers n i₀ i = n - i
+returns : tie.Need-returns
+returns c = rule5-broken _ (said-not-yes _ _ (c .before .transitions-fit .ensures) (c .if1 .taken))
 
-transition-count-requires : tie.Need-transition-count-requires Inv-loop μ-loop
-transition-count-requires c κs = search needs
+keeps-branches-requires : tie.Need-keeps-branches-requires
+keeps-branches-requires c κs = search needs
 
-loop-holds : tie.Need-loop-holds Inv-loop μ-loop
-loop-holds c = search (needs, below-laws)
-
-cast-t5 : tie.Need-cast-t5 Inv-loop μ-loop
-cast-t5 c = search needs
-
-transition-fits-requires : tie.Need-transition-fits-requires Inv-loop μ-loop
-transition-fits-requires c κs = search needs
-
-returns : tie.Need-returns Inv-loop μ-loop
-unfolding rule5
-returns c = search (needs, below-laws, said-laws)
-
-add-i : tie.Need-add-i Inv-loop μ-loop
-add-i c = search needs
-
-loop-less : tie.Need-loop-less Inv-loop μ-loop
-loop-less c = search needs
-
-loop-again : tie.Need-loop-again Inv-loop μ-loop
-loop-again c = search (needs, below-laws, said-laws)
-
-returns-2 : tie.Need-returns-2 Inv-loop μ-loop
-unfolding rule5
-returns-2 c = search (needs, below-laws)
+returns-2 : tie.Need-returns-2
+returns-2 c = rule5-kept _ _ (said-not-no _ _ (c .before .before .transitions-fit .ensures) (c .before .if1 .left)) (c .keeps-branches .ensures)
 
 pub keeps-transitions-spec : {M : Type 1} → statement M
 keeps-transitions-spec =
-    tie.close
-    (tie.spec
-    Inv-loop
-    μ-loop
-    transition-count-requires
-    loop-holds
-    cast-t5
-    transition-fits-requires
-    returns
-    add-i
-    loop-less
-    loop-again
-    returns-2)
+    tie.close (tie.spec transitions-fit-requires returns keeps-branches-requires returns-2)
