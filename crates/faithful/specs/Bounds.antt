@@ -37,7 +37,7 @@ module _ (chart names : List ℕ) (k : isCompiled chart names ≡ true) where
   room-is = rw k
 
 -- places of trace that suffice for every chart
-pub room-most : (chart names : List ℕ) → roomOf chart names ≤ 12288
+pub room-most : (chart names : List ℕ) → roomOf chart names ≤ 43008
 room-most chart names = most.room-most chart names
 
 -- ---- runs

@@ -6,7 +6,7 @@ use Prim.Native.Nat.{ℕ, _+_, _*_, _≤_, _<_}
 use native.Mathlib.Omega.{arith}
 use lib.ListN.{length}
 use Rattle.definition.specs.declared.Action.{Action}
-use Rattle.definition.specs.Tables.{chartOf}
+use Rattle.definition.specs.Tables.{mostActions, chartOf}
 use Rattle.definition.specs.Compiled.{isCompiled}
 use Rattle.laws.specs.Loops.{said-not-yes, said-not-no}
 use Rattle.laws.specs.Passes.{Counted, count-begin, count-turn}
@@ -20,7 +20,7 @@ pub record Few (meant most n : ℕ) : Type 0 where
   pub is : n ≡ meant
   pub few : n ≤ most
 
-pub block-few : (numbers b : List ℕ) (actions : List Action) (n : ℕ) → BlockOf numbers actions b → n ≡ length (actionsOf b) → Few (length actions) 8 n
+pub block-few : (numbers b : List ℕ) (actions : List Action) (n : ℕ) → BlockOf numbers actions b → n ≡ length (actionsOf b) → Few (length actions) mostActions n
 block-few numbers b actions n h e = let s = h .short in let q = e ∙ ap {B = ℕ} length (h .is) in record { is = q; few = omega arith }
 
 -- what a loop has added up for the numbers below i, each at most so much

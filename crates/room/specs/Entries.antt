@@ -12,25 +12,26 @@ use Rattle.definition.specs.declared.Kind.{Kind}
 use Rattle.definition.specs.declared.Kind.the-variants.{Root, State, Parallel, Final, Shallow, Deep}
 use Rattle.definition.specs.declared.Mode.the-variants.{Closing}
 use Rattle.definition.specs.declared.Action.{Action}
-use Rattle.definition.specs.Rows.{fold, from, keep, mem, isIn, isEmpty, isSet, flat, backwards, intersection}
+use Rattle.definition.specs.Rows.{nothingAt, from, keep, mem, any, isIn, isEmpty, isSet, flat, backwards, intersection}
 use Rattle.definition.specs.Names.{Name}
 use Rattle.definition.specs.Chart.{Chart, Names, kind, parent, isState, isHistory}
 use Rattle.definition.specs.Tree.{descendants, isCompound, defaultTargets}
-use Rattle.follower.specs.Selection.{History, domain, effectiveTargets, exitSet, selected}
+use Rattle.follower.specs.Selection.{History, domain, effectiveTargets, initialTargets, exitSet, selected, chooser}
 use Rattle.follower.specs.Blocks.{Effect, performed}
-use Rattle.follower.specs.Microstep.{addExits, exits, exitEffects, exiting, transitionEffects, pathsBelow, addTargets, targeted, Entry, entrySet, fellToDefault, addFallen, fallen, initialBlock, defaultBlock, activeLeaving, activeAt, defaultEffects, entryEffects, entering, storedIn, staying, historyAfter, entryOf, effects}
-use Rattle.follower.specs.Follower.{Follower, Round, idle, over, did, taking, selectedBy, closingRound, round, firstEntry, firstEffects}
+use Rattle.follower.specs.Microstep.{addExits, exits, exitEffects, exiting, transitionEffects, pathsBelow, addTargets, targeted, Entry, entrySet, fellToDefault, addFallen, fallen, addFallenInitial, withInitial, initialBlock, defaultBlock, activeLeaving, activeAt, defaultEffects, entryEffects, entering, storedIn, staying, historyAfter, entryOf, fallenOf, effects}
+use Rattle.follower.specs.Follower.{Follower, Round, idle, over, did, taking, selectedBy, closingRound, round, firstEntry, firstFallen, firstEffects}
 use Rattle.laws.specs.Bools.{no, or-elim, bool-case, and-left, and-right}
 use Rattle.laws.specs.Sets.{Ascends, NoTwice, no-twice, mem-one, mem-insert-one, mem-intersection}
-use Rattle.laws.specs.Lists.{keep-mem, mem-app, set-ascends, set-below}
-use Rattle.accepted.specs.Unions.{union-mem, ascends-fold-union}
+use Rattle.laws.specs.Lists.{keep-mem, mem-app, any-true, set-ascends, set-below}
+use Rattle.accepted.specs.Unions.{mem-fold-union, union-mem, ascends-fold-union}
 use Rattle.accepted.specs.Tree.{Tree}
 use Rattle.theory.specs.Entry.{path-inside, ascends-paths, bare-facts, Step, child, initial, steps-keep, entry-steps, entry-ascends, entry-inside}
 use Rattle.accepted.specs.Sound.{mem-descendants}
 use Rattle.theory.specs.Disjoint.{candidate-of, selected-once, selected-candidate, no-twice-subsequence, subsequence-keep}
 use Rattle.theory.specs.Round.{exits-ascends}
 use Rattle.theory.specs.Runs.{round-cases}
-use Rattle.paths.specs.Lengths.{performed-length, done-few}
+use Rattle.theory.specs.Branches.{performed-few}
+use Rattle.paths.specs.Lengths.{done-few}
 use Rattle.room.specs.Sums.{total, fold-total, total-zero, total-more, total-add, total-app, length-flat, total-keep, total-below, no-twice-both, total-backwards, total-one}
 use Rattle.room.specs.Room.{rowRoom, transitionRoom, addRow, addTransition, rowsRoom, transitionsRoom, roomFor}
 
@@ -64,15 +65,15 @@ unfolding exiting exitEffects
 exiting-few c conf out t h =
     let a = length-flat (exitEffects c conf out) (backwards out) in
     let b = total-backwards (λ i. length (exitEffects c conf out i)) out in
-    let d = total-more (λ i. length (exitEffects c conf out i)) (exitPart c) out (λ i m. let p = performed-length (activeLeaving conf out i) ((c .row) i .exit) in omega arith) in
+    let d = total-more (λ i. length (exitEffects c conf out i)) (exitPart c) out (λ i m. let p = performed-few (activeLeaving conf out i) ((c .row) i .exit) in omega arith) in
     let e = total-below (exitPart c) (c .rows) out t h in
     omega arith
 
-taken-few : (c : Chart) (stay ts : List ℕ) → NoTwice ts → ((t : ℕ) → mem t ts ≡ true → t < c .transitions) → length (flat (transitionEffects c stay) ts) ≤ transitionsRoom c
+taken-few : (c : Chart) (stay : List ℕ) (by : ℕ → ℕ) (ts : List ℕ) → NoTwice ts → ((t : ℕ) → mem t ts ≡ true → t < c .transitions) → length (flat (transitionEffects c stay by) ts) ≤ transitionsRoom c
 unfolding transitionEffects transitionRoom
-taken-few c stay ts t h =
-    let a = length-flat (transitionEffects c stay) ts in
-    let d = total-more (λ u. length (transitionEffects c stay u)) (transitionRoom c) ts (λ u m. let p = performed-length stay ((c .transition) u .block) in omega arith) in
+taken-few c stay by ts t h =
+    let a = length-flat (transitionEffects c stay by) ts in
+    let d = total-more (λ u. length (transitionEffects c stay by u)) (transitionRoom c) ts (λ u m. let p = performed-few stay ((c .transition) u .block) in omega arith) in
     let e = total-below (transitionRoom c) (c .transitions) ts t h in
     let f = transitions-parts c in
     omega arith
@@ -90,14 +91,14 @@ initialPart c byDefault i = cond (isIn byDefault i) (blockPart c i) 0
 abbrev defaultPart : Chart → List ℕ → ℕ → ℕ
 defaultPart c fell i = length (flat (defaultBlock c i) fell)
 
--- the default blocks have an effect an action
-defaults-length : (c : Chart) (conf : List ℕ) (i : ℕ) (hs : List ℕ) → length (flat (defaultEffects c conf i) hs) ≡ length (flat (defaultBlock c i) hs)
+-- the default blocks have at most an effect an action
+defaults-length : (c : Chart) (conf : List ℕ) (i : ℕ) (hs : List ℕ) → length (flat (defaultEffects c conf i) hs) ≤ length (flat (defaultBlock c i) hs)
 unfolding flat defaultEffects
-defaults-length c conf i [] = refl
+defaults-length c conf i [] = omega arith
 defaults-length c conf i (h ∷ hs) =
     let a = length-append (performed conf (defaultBlock c i h)) (flat (defaultEffects c conf i) hs) in
     let b = length-append (defaultBlock c i h) (flat (defaultBlock c i) hs) in
-    let p = performed-length conf (defaultBlock c i h) in
+    let p = performed-few conf (defaultBlock c i h) in
     let d = defaults-length c conf i hs in
     omega arith
 
@@ -107,8 +108,8 @@ unfolding entryEffects initialBlock
 entry-few c stay e fell i =
     let d = done-few c (activeAt stay (e .set) i) i in
     let q = cond-length (mem i (e .byDefault)) ((c .row) i .block) in
-    let p = performed-length (activeAt stay (e .set) i) ((c .row) i .entry) in
-    let x = performed-length (activeAt stay (e .set) i) (initialBlock c (e .byDefault) i) in
+    let p = performed-few (activeAt stay (e .set) i) ((c .row) i .entry) in
+    let x = performed-few (activeAt stay (e .set) i) (initialBlock c (e .byDefault) i) in
     let y = defaults-length c (activeAt stay (e .set) i) i fell in
     simp length-append (omega arith)
 
@@ -187,15 +188,33 @@ no-compound c i h = go (kind c i) (and-left (isState (kind c i)) _ h)
 history-inside : (c : Chart) → Tree c → (h : ℕ) → isHistory (kind c h) ≡ true → h < c .rows
 history-inside c t h p = bool-case (ltb h (c .rows)) (λ e. ltb-true _ _ e) (λ e. absurd (no (rw (t .beyondKind h (ltb-false _ _ e)) at p)))
 
+-- the histories that fell among some targets are histories
+fell-history : (c : Chart) (after : History) (xs : List ℕ) (h : ℕ) → mem h (keep (fellToDefault c after) xs) ≡ true → isHistory (kind c h) ≡ true
+unfolding fellToDefault
+fell-history c after xs h m = and-left (isHistory (kind c h)) _ (keep-mem (fellToDefault c after) xs h m .1)
+
 fallen-history : (c : Chart) (after : History) (ts : List ℕ) (h : ℕ) → mem h (fallen c after ts) ≡ true → isHistory (kind c h) ≡ true
-unfolding fallen addFallen fellToDefault
+unfolding fallen addFallen
 fallen-history c after ts h m =
     let r = union-mem (addFallen c after) (λ t. keep (fellToDefault c after) ((c .transition) t .targets)) (λ set t. refl) ts h m in
-    and-left (isHistory (kind c h)) _ (keep-mem (fellToDefault c after) ((c .transition) (r .0) .targets) h (r .2) .1)
+    fell-history c after ((c .transition) (r .0) .targets) h (r .2)
 
 fallen-ascends : (c : Chart) (after : History) (ts : List ℕ) → Ascends 0 (fallen c after ts)
 unfolding fallen addFallen
 fallen-ascends c after ts = ascends-fold-union (addFallen c after) (λ t. keep (fellToDefault c after) ((c .transition) t .targets)) (λ set t. refl) [] ts tt
+
+-- and those that fell in initial lists too
+initial-history : (c : Chart) (after : History) (set rows : List ℕ) → ((h : ℕ) → mem h set ≡ true → isHistory (kind c h) ≡ true) →
+    (h : ℕ) → mem h (withInitial c after set rows) ≡ true → isHistory (kind c h) ≡ true
+unfolding withInitial addFallenInitial
+initial-history c after set rows w h m =
+    or-elim (mem h set) (any (λ i. mem h (keep (fellToDefault c after) (defaultTargets c i))) rows) (w h)
+    (λ q. let r = any-true (λ i. mem h (keep (fellToDefault c after) (defaultTargets c i))) rows q in fell-history c after (defaultTargets c (r .0)) h (r .2))
+    (sym (mem-fold-union (addFallenInitial c after) (λ i. keep (fellToDefault c after) (defaultTargets c i)) (λ s i. refl) h set rows) ∙ m)
+
+initial-ascends : (c : Chart) (after : History) (set rows : List ℕ) → Ascends 0 set → Ascends 0 (withInitial c after set rows)
+unfolding withInitial addFallenInitial
+initial-ascends c after set rows a = ascends-fold-union (addFallenInitial c after) (λ i. keep (fellToDefault c after) (defaultTargets c i)) (λ s i. refl) set rows a
 
 targeted-ascends : (c : Chart) (before after : History) (ts : List ℕ) → Ascends 0 (targeted c before after ts)
 unfolding targeted addTargets
@@ -208,34 +227,40 @@ targeted-inside c before after ts i h =
     let r = union-mem (addTargets c before after) (λ t. pathsBelow c (domain c before ((c .transition) t)) (effectiveTargets c after ((c .transition) t))) (λ set t. refl) ts i h in
     path-inside c (domain c before ((c .transition) (r .0))) (effectiveTargets c after ((c .transition) (r .0))) i (r .2)
 
-entry-enters : (c : Chart) → Tree c → (targets : ℕ → List ℕ) (aim : List ℕ) (after : History) (ts : List ℕ) → Ascends 0 aim → ((i : ℕ) → mem i aim ≡ true → i < c .rows) →
-    Enters c (entrySet c targets aim) (fallen c after ts)
-entry-enters c t targets aim after ts a h = record {
+entry-enters : (c : Chart) → Tree c → (targets : ℕ → List ℕ) (aim fell : List ℕ) → Ascends 0 aim → ((i : ℕ) → mem i aim ≡ true → i < c .rows) →
+    Ascends 0 fell → ((h : ℕ) → mem h fell ≡ true → isHistory (kind c h) ≡ true) → Enters c (entrySet c targets aim) fell
+entry-enters c t targets aim fell a h f p = record {
   once = no-twice 0 ((entrySet c targets aim) .set) (entry-ascends c targets aim a);
   inside = entry-inside c targets aim h;
-  fellOnce = no-twice 0 (fallen c after ts) (fallen-ascends c after ts);
-  fellInside = λ k m. history-inside c t k (fallen-history c after ts k m);
-  apart = λ i m n. no-compound c i (default-compound c targets aim i m) (fallen-history c after ts i n);
+  fellOnce = no-twice 0 fell f;
+  fellInside = λ k m. history-inside c t k (p k m);
+  apart = λ i m n. no-compound c i (default-compound c targets aim i m) (p i n);
 }
 
 -- ---- rounds, closing rounds and starts
 
-effects-few : (c : Chart) → Tree c → (conf : List ℕ) (hist : History) (ts : List ℕ) → NoTwice ts → ((t : ℕ) → mem t ts ≡ true → t < c .transitions) → length (effects c conf hist ts) ≤ roomFor c
-unfolding effects entryOf roomFor
-effects-few c t conf hist ts n h =
+effects-few : (c : Chart) → Tree c → (conf : List ℕ) (hist : History) (by : ℕ → ℕ) (ts : List ℕ) → NoTwice ts → ((t : ℕ) → mem t ts ≡ true → t < c .transitions) → length (effects c conf hist by ts) ≤ roomFor c
+unfolding effects entryOf fallenOf roomFor
+effects-few c t conf hist by ts n h =
+    let after = storedIn (historyAfter c conf hist ts) in
+    let aim = targeted c hist after ts in
+    let rows = (entrySet c (initialTargets c after) aim) .byDefault in
     let a = exiting-few c conf (exits c conf hist ts) (no-twice 0 (exits c conf hist ts) (exits-ascends c conf hist ts)) (exit-inside c conf hist ts) in
-    let b = taken-few c (staying c conf hist ts) ts n h in
-    let d = entering-few c (staying c conf hist ts) (entrySet c (defaultTargets c) (targeted c hist (storedIn (historyAfter c conf hist ts)) ts)) (fallen c (storedIn (historyAfter c conf hist ts)) ts)
-    (entry-enters c t (defaultTargets c) (targeted c hist (storedIn (historyAfter c conf hist ts)) ts) (storedIn (historyAfter c conf hist ts)) ts
-    (targeted-ascends c hist (storedIn (historyAfter c conf hist ts)) ts) (targeted-inside c hist (storedIn (historyAfter c conf hist ts)) ts)) in
+    let b = taken-few c (staying c conf hist ts) by ts n h in
+    let d = entering-few c (staying c conf hist ts) (entrySet c (initialTargets c after) aim) (withInitial c after (fallen c after ts) rows)
+    (entry-enters c t (initialTargets c after) aim (withInitial c after (fallen c after ts) rows) (targeted-ascends c hist after ts) (targeted-inside c hist after ts)
+    (initial-ascends c after (fallen c after ts) rows (fallen-ascends c after ts)) (initial-history c after (fallen c after ts) rows (fallen-history c after ts))) in
     let r = rows-parts c in
     simp length-append (omega arith)
 
 pub first-few : (c : Chart) → Tree c → length (firstEffects c) ≤ roomFor c
-unfolding firstEffects firstEntry roomFor fallen fold
+unfolding firstEffects firstEntry firstFallen roomFor
 first-few c t =
-    let d = entering-few c [] (entrySet c (defaultTargets c) (pathsBelow c 0 (defaultTargets c 0))) []
-    (entry-enters c t (defaultTargets c) (pathsBelow c 0 (defaultTargets c 0)) (λ h. []) [] (ascends-paths c 0 (defaultTargets c 0)) (path-inside c 0 (defaultTargets c 0))) in
+    let aim = pathsBelow c 0 (initialTargets c nothingAt 0) in
+    let rows = (entrySet c (initialTargets c nothingAt) aim) .byDefault in
+    let d = entering-few c [] (entrySet c (initialTargets c nothingAt) aim) (withInitial c nothingAt [] (0 ∷ rows))
+    (entry-enters c t (initialTargets c nothingAt) aim (withInitial c nothingAt [] (0 ∷ rows)) (ascends-paths c 0 (initialTargets c nothingAt 0)) (path-inside c 0 (initialTargets c nothingAt 0))
+    (initial-ascends c nothingAt [] (0 ∷ rows) tt) (initial-history c nothingAt [] (0 ∷ rows) (λ h m. absurd (no (unfold mem in m))))) in
     let r = rows-parts c in
     omega arith
 
@@ -252,10 +277,10 @@ module _ (c : Chart) (tree : Tree c) (names : Names) (s : Follower) where
   Few over = Unit {0}
   Few (did next es) = length es ≤ roomFor c
 
-  selected-few : (internal external : List Name) (event : Option Name) → Few (taking c names s internal external (selectedBy c names s event))
+  selected-few : (internal external : List Name) (event : Option Name) → Few (taking c names s event internal external (selectedBy c names s event))
   unfolding taking selectedBy
   selected-few internal external event =
-      effects-few c tree (s .configuration) (storedIn (s .history)) (selected c names (s .configuration) (storedIn (s .history)) event)
+      effects-few c tree (s .configuration) (storedIn (s .history)) (chooser c names (s .configuration) event) (selected c names (s .configuration) (storedIn (s .history)) event)
       (selected-once c names (s .configuration) (storedIn (s .history)) event)
       (λ t m. candidate-of c names (s .configuration) event tree t (selected-candidate c names (s .configuration) (storedIn (s .history)) event t m) .0)
 

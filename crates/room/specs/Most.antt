@@ -14,7 +14,7 @@ use Rattle.chart.specs.Own.{own-chart, compiled-ready}
 use Rattle.room.specs.Sums.{total, fold-total}
 use Rattle.room.specs.Room.{rowRoom, transitionRoom, addRow, addTransition, rowsRoom, transitionsRoom, roomFor, roomOf}
 
--- as many rows and transitions as there may be, each with full blocks: 12,288
+-- as many rows and transitions as there may be, each with full blocks: 43,008
 abbrev pub mostRoom : ℕ
 mostRoom = mostRows * (4 + 3 * mostActions) + mostTransitions * (2 + mostActions)
 

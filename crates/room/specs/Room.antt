@@ -13,7 +13,7 @@ use Rattle.definition.specs.Compiled.{ownNumbers, isCompiled}
 unfoldable pub rowRoom : Chart → ℕ → ℕ
 rowRoom c i = 4 + length ((c .row) i .exit) + length ((c .row) i .entry) + length ((c .row) i .block)
 
--- of a transition: it is taken, one entry more for what else a round may tell of it, and the actions of its block
+-- of a transition: it is taken, a row chose it, and the actions of its block
 unfoldable pub transitionRoom : Chart → ℕ → ℕ
 transitionRoom c t = 2 + length ((c .transition) t .block)
 

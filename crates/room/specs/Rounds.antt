@@ -3,6 +3,7 @@
 use mathlib.Core.Path.{_≡_, refl, ap, sym, subst}
 use mathlib.Core.Bool.{false}
 use mathlib.Core.List.{List, [], _∷_}
+use mathlib.Core.Option.{Option, none, some}
 use Prim.Native.Nat.{ℕ, zero, suc, _+_, _-_, _≤_, _<_}
 use native.Mathlib.Omega.{arith}
 use lib.ListN.{length, length-append}
@@ -12,7 +13,8 @@ use Rattle.definition.specs.declared.Status.the-variants.{More}
 use Rattle.definition.specs.Rows.{any, isEmpty, flat, backwards}
 use Rattle.definition.specs.Names.{Name}
 use Rattle.definition.specs.Chart.{Chart, Names}
-use Rattle.follower.specs.Blocks.{Effect, exited, taken, entered, acted, raised, done, queued}
+use Rattle.follower.specs.Selection.{chooser}
+use Rattle.follower.specs.Blocks.{Effect, exited, taken, entered, acted, raised, done, chosen, queued}
 use Rattle.follower.specs.Microstep.{storedIn, exitEffects, exiting, effects, configurationAfter}
 use Rattle.follower.specs.Follower.{Follower, mostQueued, modeOf, Round, idle, over, did, taking, selectedBy, byExternal, byInternal, byEventless, closingRound, roundIn, round, stopped, counted, run}
 use Rattle.follower.specs.Legal.{WellFormed}
@@ -41,6 +43,7 @@ one-use c names (entered i) = omega arith
 one-use c names (acted n) = omega arith
 one-use c names (raised n) = omega arith
 one-use c names (done i) = omega arith
+one-use c names (chosen i) = omega arith
 
 uses : (c : Chart) (names : Names) (es : List Effect) → length (flat (queued c names) es) + length (takenIn es) ≤ length es
 unfolding flat takenIn
@@ -72,28 +75,29 @@ module _ (c : Chart) (names : Names) (s : Follower) where
   Spent over = Unit {0}
   Spent (did next es) = suc (waiting next) ≤ waiting s + length es
 
-  taking-spent : (internal external : List Name) (ts : List ℕ) → suc (length internal + length external) ≤ waiting s + length ts → Spent (taking c names s internal external ts)
+  taking-spent : (event : Option Name) (internal external : List Name) (ts : List ℕ) → suc (length internal + length external) ≤ waiting s + length ts → Spent (taking c names s event internal external ts)
   unfolding taking waiting
-  taking-spent internal external ts l =
-      let u = uses c names (effects c (s .configuration) (storedIn (s .history)) ts) in
-      let t = ap {B = ℕ} length (taken-effects c (s .configuration) (storedIn (s .history)) ts) in
-      let q = length-append internal (flat (queued c names) (effects c (s .configuration) (storedIn (s .history)) ts)) in
+  taking-spent event internal external ts l =
+      let by = chooser c names (s .configuration) event in
+      let u = uses c names (effects c (s .configuration) (storedIn (s .history)) by ts) in
+      let t = ap {B = ℕ} length (taken-effects c (s .configuration) (storedIn (s .history)) by ts) in
+      let q = length-append internal (flat (queued c names) (effects c (s .configuration) (storedIn (s .history)) by ts)) in
       omega arith
 
   by-external : (es : List Name) → s .external ≡ es → Spent (byExternal c names s es)
   unfolding byExternal waiting
   by-external [] e = tt
-  by-external (x ∷ xs) e = let q = ap {B = ℕ} length e in taking-spent [] xs (selectedBy c names s _) (unfold waiting in omega arith)
+  by-external (x ∷ xs) e = let q = ap {B = ℕ} length e in taking-spent (some x) [] xs (selectedBy c names s _) (unfold waiting in omega arith)
 
   by-internal : (es : List Name) → s .internal ≡ es → Spent (byInternal c names s es)
   unfolding byInternal waiting
   by-internal [] e = by-external (s .external) refl
-  by-internal (x ∷ xs) e = let q = ap {B = ℕ} length e in taking-spent xs (s .external) (selectedBy c names s _) (unfold waiting in omega arith)
+  by-internal (x ∷ xs) e = let q = ap {B = ℕ} length e in taking-spent (some x) xs (s .external) (selectedBy c names s _) (unfold waiting in omega arith)
 
   by-eventless : (ts : List ℕ) → Spent (byEventless c names s ts)
   unfolding byEventless waiting
   by-eventless [] = by-internal (s .internal) refl
-  by-eventless (t ∷ ts) = taking-spent (s .internal) (s .external) (t ∷ ts) (unfold waiting in omega arith)
+  by-eventless (t ∷ ts) = taking-spent none (s .internal) (s .external) (t ∷ ts) (unfold waiting in omega arith)
 
   closing-spent : isEmpty (s .configuration) ≡ false → Spent (closingRound c s)
   unfolding closingRound exiting waiting

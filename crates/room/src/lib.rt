@@ -10,7 +10,7 @@ use numbers::Transition;
 // A row's exit and entry, two done events, and the actions of its three blocks.
 fn row_room(chart: &[u64], r: Row) -> usize
     requires { ⌜ RowIn (now chart) (r .0) ⌝ }
-    ensures { λ n. ⌜ Few (rowRoom (chartOf (now (chart .entry))) (r .0)) 28 n ⌝ }
+    ensures { λ n. ⌜ Few (rowRoom (chartOf (now (chart .entry))) (r .0)) 100 n ⌝ }
 {
     let exit = tables::actions_in(tables::exit_block_of(chart, r));
     let entry = tables::actions_in(tables::entry_block_of(chart, r));
@@ -18,17 +18,17 @@ fn row_room(chart: &[u64], r: Row) -> usize
     4 + exit + entry + list
 }
 
-// A transition, one entry more, and the actions of its block.
+// A transition, the row that chose it, and the actions of its block.
 fn transition_room(chart: &[u64], t: Transition) -> usize
     requires { ⌜ TransitionIn (now chart) (t .0) ⌝ }
-    ensures { λ n. ⌜ Few (transitionRoom (chartOf (now (chart .entry))) (t .0)) 10 n ⌝ }
+    ensures { λ n. ⌜ Few (transitionRoom (chartOf (now (chart .entry))) (t .0)) 34 n ⌝ }
 {
     2 + tables::actions_in(tables::transition_block_of(chart, t))
 }
 
 fn rows_room(chart: &[u64]) -> usize
     requires { ⌜ InTables (now chart) ⌝ }
-    ensures { λ n. ⌜ Few (rowsRoom (chartOf (now (chart .entry)))) 7168 n ⌝ }
+    ensures { λ n. ⌜ Few (rowsRoom (chartOf (now (chart .entry)))) 25600 n ⌝ }
 {
     let rows = tables::row_count(chart) as u16;
     let mut sum: usize = 0;
@@ -42,7 +42,7 @@ fn rows_room(chart: &[u64]) -> usize
 
 fn transitions_room(chart: &[u64]) -> usize
     requires { ⌜ InTables (now chart) ⌝ }
-    ensures { λ n. ⌜ Few (transitionsRoom (chartOf (now (chart .entry)))) 5120 n ⌝ }
+    ensures { λ n. ⌜ Few (transitionsRoom (chartOf (now (chart .entry)))) 17408 n ⌝ }
 {
     let n = tables::transition_count(chart) as u16;
     let mut sum: usize = 0;

@@ -10,7 +10,7 @@ use Rattle.room.proofs.rows_room.Statement.{statement}
 use Rattle.room.proofs.rows_room.Tie as tie
 
 abbrev Inv-loop : tie.InvT-loop
-Inv-loop chart rows sum₀ i₀ sum i = (rows ≡ rowCount chart) × Added (addRow (chartOf chart)) 28 rows i sum
+Inv-loop chart rows sum₀ i₀ sum i = (rows ≡ rowCount chart) × Added (addRow (chartOf chart)) 100 rows i sum
 
 abbrev μ-loop : tie.MeasureT-loop
 μ-loop chart rows sum₀ i₀ sum i = rows - i

@@ -10,7 +10,7 @@ use Rattle.room.proofs.transitions_room.Statement.{statement}
 use Rattle.room.proofs.transitions_room.Tie as tie
 
 abbrev Inv-loop : tie.InvT-loop
-Inv-loop chart n sum₀ t₀ sum t = (n ≡ transitionCount chart) × Added (addTransition (chartOf chart)) 10 n t sum
+Inv-loop chart n sum₀ t₀ sum t = (n ≡ transitionCount chart) × Added (addTransition (chartOf chart)) 34 n t sum
 
 abbrev μ-loop : tie.MeasureT-loop
 μ-loop chart n sum₀ t₀ sum t = n - t
