@@ -11,7 +11,6 @@ pub mod LegalTest
 pub mod Seed
 pub mod DefaultBlocks
 pub mod Storing
-pub mod NameFacts
 pub mod Branches
 pub mod Runs
 pub mod Moments
