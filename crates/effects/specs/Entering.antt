@@ -9,7 +9,7 @@ use borrow.Author.Tests.{ne-eqb, lt-ltb, ltb-true, leb-true, leb-false, le-leb}
 use Rattle.definition.specs.declared.Action.{Action}
 use Rattle.definition.specs.declared.Kind.{Kind}
 use Rattle.definition.specs.declared.Kind.the-variants.{Root, State, Parallel, Final, Shallow, Deep}
-use Rattle.definition.specs.Rows.{fold, from, keep, mem, isIn, notIn, any, flat, insert, union, intersection, minus, subset, those, backwards}
+use Rattle.definition.specs.Rows.{fold, from, keep, mem, isIn, notIn, isEmpty, any, flat, insert, union, intersection, minus, subset, those, backwards}
 use Rattle.definition.specs.Chart.{Chart, kind, parent, isRoot, isParallel, isFinal, isHistory}
 use Rattle.definition.specs.Tables.{rowCount, kindAt, chartOf}
 use Rattle.definition.specs.Tree.{isDescendant, descendants, children, isCompound}
@@ -17,7 +17,7 @@ use Rattle.follower.specs.Blocks.{Effect, exited, entered, done, performedFrom,
 use Rattle.follower.specs.Microstep.{exitEffects, Entry, initialBlock, defaultBlock, isActiveFinal, isInFinal, addInFinal, inFinal, isDoneAbove, doneEffects, isPast, isUpTo, activeLeaving, activeAt, defaultEffects, entryEffects}
 use Rattle.laws.specs.Bools.{no, both-ways, and-left, and-right, and-true, or-false, not-so, clash}
 use Rattle.laws.specs.Sets.{mem-intersection, mem-insert, mem-from}
-use Rattle.laws.specs.Lists.{mem-subset, subset-mem, keep-cong}
+use Rattle.laws.specs.Lists.{mem-subset, subset-mem, keep-cong, empty-list}
 use Rattle.laws.specs.Folds.{keep-backwards}
 use Rattle.laws.specs.Ways.{Way, here, below-way}
 use Rattle.accepted.specs.Tree.{Tree, mem-children, child-facts, root-kind, under-below, below-under}
@@ -200,6 +200,11 @@ module _ (c : Chart) (active : List ℕ) (i h : ℕ) where
   pub default-not : eqb i (parent c h) ≡ false → defaultEffects c active i h ≡ []
   unfolding defaultEffects defaultBlock performed performedFrom
   default-not e = rw e
+
+-- no history fell
+pub defaults-none : (c : Chart) (active : List ℕ) (i : ℕ) (hs : List ℕ) → isEmpty hs ≡ true → flat (defaultEffects c active i) hs ≡ []
+unfolding flat
+defaults-none c active i hs e = rw (empty-list hs e)
 
 -- ---- done events
 

@@ -92,6 +92,7 @@ fn default_block(
     perform_entering(block, stay, set, r, trace, joins, tally)
 }
 
+// In most rounds no history fell: then nothing is worked out for a row.
 fn default_blocks(
     chart: &[u64],
     stay: RowSet,
@@ -105,6 +106,9 @@ fn default_blocks(
     requires { ⌜ HistoryRows (now chart) (rowsOf fallen) × Room tally (flat (defaultEffects (chartOf (now chart)) (activeAt (rowsOf stay) (rowsOf set) (r .0)) (r .0)) (rowsOf fallen)) ⌝ }
     ensures { λ s. ⌜ Wrote (places (now (trace .entry)) (now (joins .entry))) (places (now (trace .exit)) (now (joins .exit))) tally s (flat (defaultEffects (chartOf (now (chart .entry))) (activeAt (rowsOf stay) (rowsOf set) (r .0)) (r .0)) (rowsOf fallen)) ⌝ }
 {
+    if fallen.is_empty() {
+        return tally;
+    }
     let mut sum = tally;
     let mut k: u16 = 0;
     loop {

@@ -1,3 +1,4 @@
+use mathlib.Core.Path.{sym, subst, _∙_}
 use Prim.Native.Nat.{_-_}
 use borrow.Author.Needs.{needs}
 use Rattle.definition.specs.Tables.{chartOf}
@@ -5,8 +6,8 @@ use Rattle.follower.specs.Microstep.{activeAt, defaultEffects}
 use Rattle.rowset.specs.Visits.{found-next, rest-at, rest-end, next-less}
 use Rattle.rowset.specs.Search.{restFrom}
 use Rattle.rowset.specs.Member.{rowsOf}
-use Rattle.effects.specs.Entering.{history-row}
-use Rattle.effects.specs.Trace.{places}
+use Rattle.effects.specs.Entering.{history-row, defaults-none}
+use Rattle.effects.specs.Trace.{places, Wrote, wrote-none}
 use Rattle.effects.specs.Emitting.{Emitting, emitting-room, emitting-turn, emitting-end, emitting-length, emitting-joins, emitting-up}
 use Rattle.effects.proofs.entries.default_blocks.Statement.{statement}
 use Rattle.effects.proofs.entries.default_blocks.Tie as tie
@@ -17,8 +18,14 @@ Inv-loop chart stay set r fallen trace₀ joins₀ sum₀ k₀ trace joins sum k
 abbrev μ-loop : tie.MeasureT-loop
 μ-loop chart stay set r fallen trace₀ joins₀ sum₀ k₀ trace joins sum k = 256 - k
 
+is-empty-requires : tie.Need-is-empty-requires Inv-loop μ-loop
+is-empty-requires c κs = search needs
+
+returns : tie.Need-returns Inv-loop μ-loop
+returns c = subst (Wrote _ _ _ _) (sym (defaults-none _ _ _ _ (sym (c .before .is-empty .ensures) ∙ c .if1 .taken))) (wrote-none _ _)
+
 loop-holds : tie.Need-loop-holds Inv-loop μ-loop
-loop-holds c = emitting-up _ _ _ _ (c .before .before .before .pre .1)
+loop-holds c = emitting-up _ _ _ _ (c .before .before .before .before .before .pre .1)
 
 next-from-requires : tie.Need-next-from-requires Inv-loop μ-loop
 next-from-requires c κs = search needs
@@ -27,7 +34,7 @@ enum-known-h : tie.Need-enum-known-h Inv-loop μ-loop
 enum-known-h c = search needs
 
 default-block-requires : tie.Need-default-block-requires Inv-loop μ-loop
-default-block-requires c κs = (history-row _ _ _ (c .before .before .before .before .before .before .before .before .before .before .pre .0) (found-next _ _ _ (c .before .before .before .before .before .next-from .ensures) _ (c .before .before .before .h .given .1) .here), emitting-room _ _ _ _ _ _ _ _ _ (rest-at _ _ _ (c .before .before .before .before .before .next-from .ensures) _ (c .before .before .before .h .given .1)) (c .before .before .before .before .before .before .loop .inv))
+default-block-requires c κs = (history-row _ _ _ (c .before .before .before .before .before .before .before .before .before .before .before .before .pre .0) (found-next _ _ _ (c .before .before .before .before .before .next-from .ensures) _ (c .before .before .before .h .given .1) .here), emitting-room _ _ _ _ _ _ _ _ _ (rest-at _ _ _ (c .before .before .before .before .before .next-from .ensures) _ (c .before .before .before .h .given .1)) (c .before .before .before .before .before .before .loop .inv))
 
 row-after-requires : tie.Need-row-after-requires Inv-loop μ-loop
 row-after-requires c κs = search needs
@@ -47,8 +54,8 @@ same-length c = emitting-length _ _ _ _ _ _ _ (c .before .before .before .loop .
 same-length-2 : tie.Need-same-length-2 Inv-loop μ-loop
 same-length-2 c = emitting-joins _ _ _ _ _ _ _ (c .before .before .before .loop .inv)
 
-returns : tie.Need-returns Inv-loop μ-loop
-returns c = emitting-end _ _ _ _ _ _ _ (rest-end _ _ _ (c .before .before .next-from .ensures) (c .enum-told .given .1)) (c .before .before .before .loop .inv)
+returns-2 : tie.Need-returns-2 Inv-loop μ-loop
+returns-2 c = emitting-end _ _ _ _ _ _ _ (rest-end _ _ _ (c .before .before .next-from .ensures) (c .enum-told .given .1)) (c .before .before .before .loop .inv)
 
 pub default-blocks-spec : {M : Type 1} → statement M
 default-blocks-spec =
@@ -56,6 +63,8 @@ default-blocks-spec =
     (tie.spec
     Inv-loop
     μ-loop
+    is-empty-requires
+    returns
     loop-holds
     next-from-requires
     enum-known-h
@@ -66,4 +75,4 @@ default-blocks-spec =
     enum-told
     same-length
     same-length-2
-    returns)
+    returns-2)
