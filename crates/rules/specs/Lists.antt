@@ -14,8 +14,7 @@ use Rattle.definition.specs.Rows.{all, mem, from, isEmpty}
 use Rattle.definition.specs.Chart.{Chart, kind, isRoot, isState, isShallow, isHistory}
 use Rattle.definition.specs.Tables.{part, referencesAt, blockAt, kindAt, parentAt, entryAt, exitAt, listAt, listBlockAt, chartOf}
 use Rattle.definition.specs.Tree.{isDescendant, isChild, isCompound, isDomainKind, ancestors}
-use Rattle.definition.specs.Rules.{areApart, initialFits, defaultFits, listFits, blocksFit, rowListsFit, isNoRoot, targetsFit, rule4}
-use Rattle.laws.specs.Bools.{no, bool-case}
+use Rattle.definition.specs.Rules.{areApart, isUnder, initialFits, defaultFits, listFits, blocksFit, rowListsFit, isNoRoot, targetsFit, rule4}
 use Rattle.laws.specs.Lists.{empty-list}
 use Rattle.rules1.specs.Inside.{Bare}
 use Rattle.tables.specs.Parts.{BlockOf}
@@ -58,6 +57,14 @@ pub descendant-is : (c : Chart) (a i : ℕ) (xs : List ℕ) (h m : Bool) → h �
 unfolding isDescendant
 descendant-is c a i xs h m e f g = rw (e, f, g a)
 
+pub under-is : (c : Chart) (a i : ℕ) (xs : List ℕ) (m : Bool) → m ≡ mem a xs → ((x : ℕ) → mem x xs ≡ mem x (ancestors c i)) → m ≡ isUnder c a i
+unfolding isUnder
+under-is c a i xs m f g = f ∙ g a
+
+pub domain-is : (c : Chart) (s : RowSet) (i : ℕ) (b : Bool) → Marks (isChild c) (c .rows) s → b ≡ mem i (rowsOf s) → (isRoot (kind c i) || (isState (kind c i) && b)) ≡ isDomainKind c i
+unfolding isDomainKind isCompound
+domain-is c s i b m e = rw (e, marks-children c s m i)
+
 module _ (numbers : List ℕ) (i : ℕ) (l : List ℕ) (e : l ≡ listAt numbers i) where
   abbrev chart : Chart
   chart = chartOf numbers
@@ -66,9 +73,9 @@ module _ (numbers : List ℕ) (i : ℕ) (l : List ℕ) (e : l ≡ listAt numbers
   unfolding initialFits all
   initial-none b h k = let z = read-none (listAt numbers i) l e h in block-none numbers (listBlockAt numbers i) b k ∙ sym (rw (z, empty-list (listAt numbers i) z))
 
-  pub initial-some : (t : Bool) → (length l ≡ 0 → ⊥) → t ≡ all (isDescendant chart i) l → t ≡ initialFits chart i
+  pub initial-some : (t : Bool) → (length l ≡ 0 → ⊥) → t ≡ all (isUnder chart i) l → t ≡ initialFits chart i
   unfolding initialFits
-  initial-some t h f = f ∙ rw e (sym (rw (read-some (listAt numbers i) l e h) (and-yes (all (isDescendant chart i) (listAt numbers i)))))
+  initial-some t h f = f ∙ rw e (sym (rw (read-some (listAt numbers i) l e h) (and-yes (all (isUnder chart i) (listAt numbers i)))))
     where
       and-yes : (x : Bool) → (x && true) ≡ x
       and-yes true = refl

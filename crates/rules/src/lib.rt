@@ -14,6 +14,7 @@ ghost use Rattle.rules3.specs.Ancestry.{Climbed};
 ghost use Rattle.rules.specs.Beside.{isBeside, UnderSet};
 ghost use Rattle.rules.specs.Nearest.{highest};
 ghost use Rattle.rules.specs.Verdict.{firstThree};
+use crate::initial::all_under;
 use definition::Answer;
 use numbers::Row;
 use numbers::Transition;
@@ -22,6 +23,7 @@ use rowset::RowSet;
 use tables::Condition;
 
 pub mod branches;
+pub mod initial;
 
 // ---- rule 4: rows that stand apart
 
@@ -162,7 +164,7 @@ fn default_fits(numbers: &[u64], sets: &[u64], r: Row) -> bool
     all_descendants(numbers, sets, p, list)
 }
 
-// Of the rows that are no history the root and the compounds may have a list. It holds descendants: a state that has one is a compound.
+// Of the rows that are no history the root and the compounds may have a list. It holds rows under them: a state that has one, or a history, is a compound.
 fn list_fits(numbers: &[u64], sets: &[u64], r: Row) -> bool
     requires { ⌜ Climbed (now numbers) (now sets) × RowIn (now numbers) (r .0) ⌝ }
     ensures { λ b. ⌜ b ≡ listFits (chartOf (now (numbers .entry))) (r .0) ⌝ }
@@ -179,7 +181,7 @@ fn list_fits(numbers: &[u64], sets: &[u64], r: Row) -> bool
     if !(tables::is_root(kind) | tables::is_state(kind)) {
         return false;
     }
-    all_descendants(numbers, sets, r, list)
+    all_under(numbers, sets, r, list)
 }
 
 fn blocks_fit(numbers: &[u64], r: Row) -> bool
