@@ -1,16 +1,15 @@
 -- Lists of transitions, held in an array; atomic states.
 use mathlib.Core.Path.{_≡_, refl, sym, ap, _∙_}
-use mathlib.Core.Bool.{Bool, true, false, _&&_, _||_}
+use mathlib.Core.Bool.{Bool, true, _&&_}
 use mathlib.Core.List.{List, [], _∷_}
 use mathlib.Core.Option.{Option, none, some}
 use Prim.Native.Nat.{ℕ, zero, suc, _+_, _≤_, _<_}
 use native.Mathlib.Numerals.{add-one}
 use native.Mathlib.Omega.{arith}
-use lib.Dec.{eqb}
 use lib.ListN.{length, getD, take, set}
 use lib.Seq.{take-suc, take-suc-set, length-take-le, getD-take}
 use borrow.Author.Tests.{lt-ltb}
-use Rattle.definition.specs.Rows.{fold, any, those, mem, isIn, append, intersection}
+use Rattle.definition.specs.Rows.{fold, those, mem, isIn, append, intersection}
 use Rattle.definition.specs.Names.{Name}
 use Rattle.definition.specs.Chart.{Chart, Names}
 use Rattle.definition.specs.Tree.{isAtomic}
@@ -26,9 +25,9 @@ pub use Rattle.chart.specs.Within.{Within, Taken, within-low, within-none, with
 unfoldable pub listOf : List ℕ → ℕ → List ℕ
 listOf items n = take n items
 
--- the first n of 256 items are such
+-- the first n items, at most 256, are such; the 512 places behind those say which row chose a transition (R-6)
 pub record ChosenIn (transitions : ℕ) (items : List ℕ) (n : ℕ) : Type 0 where
-  pub room : length items ≡ 256
+  pub room : length items ≡ 768
   pub most : n ≤ 256
   pub inside : Within transitions (listOf items n)
 
@@ -65,20 +64,6 @@ chosen-low k items n i h l =
 
 -- ---- "A transition chosen twice counts once, at its first place." (51)
 
-mem-any : (t : ℕ) (xs : List ℕ) → any (eqb t) xs ≡ mem t xs
-unfolding any mem
-mem-any t [] = refl
-mem-any t (x ∷ xs) = ap (λ (b : Bool). eqb t x || b) (mem-any t xs)
-
-module _ (ts : List ℕ) (t : ℕ) where
-  pub once-there : true ≡ any (eqb t) ts → ts ≡ addOnce ts (some t)
-  unfolding addOnce
-  once-there h = rw (← mem-any t ts, ← h)
-
-  pub once-new : false ≡ any (eqb t) ts → append ts t ≡ addOnce ts (some t)
-  unfolding addOnce
-  once-new h = rw (← mem-any t ts, ← h)
-
 pub once-none : (ts : List ℕ) → ts ≡ addOnce ts none
 unfolding addOnce
 once-none ts = refl
@@ -105,7 +90,7 @@ candidates-inside c g names conf event t m = candidate-of c names conf event (g 
 
 -- what the pass over the active atomic states made
 pub candidates-done : (c : Chart) → Sound c → (names : Names) (conf : List ℕ) (event : Option Name) (atoms active items : List ℕ) (n : ℕ) → Within (c .rows) conf →
-    atoms ≡ atomicRows c → active ≡ intersection conf atoms → listOf items n ≡ fold (choose c names conf event) [] active → length items ≡ 256 → n ≤ 256 →
+    atoms ≡ atomicRows c → active ≡ intersection conf atoms → listOf items n ≡ fold (choose c names conf event) [] active → length items ≡ 768 → n ≤ 256 →
     AreChosen (c .transitions) (candidates c names conf event) items n
 candidates-done c g names conf event atoms active items n w e f h l m = record {
   is = is;

@@ -6,3 +6,4 @@ pub mod Eventless
 pub mod Ready
 pub mod Descriptors
 pub mod Seen
+pub mod Choosers

@@ -1,13 +1,10 @@
 -- What the functions of this crate are given: a compiled chart with its names, and what is made of it once.
-use mathlib.Core.Path.{_≡_, refl, _∙_}
-use mathlib.Core.Bool.{true, false}
+use mathlib.Core.Path.{_≡_, refl}
 use mathlib.Core.List.{List}
-use mathlib.Core.Option.{Option, none, some}
+use mathlib.Core.Option.{Option, none}
 use Prim.Native.Nat.{ℕ, _+_, _≤_, _<_}
 use native.Mathlib.Omega.{arith}
-use lib.Dec.{eqb}
-use lib.ListN.{length, set, length-set}
-use Rattle.definition.specs.Rows.{any}
+use lib.ListN.{length, getD}
 use Rattle.definition.specs.Tables.{rowCount, transitionCount, nameCount, chartOf}
 use Rattle.follower.specs.Selection.{addOnce}
 use Rattle.tables.specs.Ranges.{SlotIn}
@@ -15,7 +12,7 @@ use Rattle.rowset.specs.declared.RowSet.{RowSet}
 use Rattle.rowset.specs.Member.{rowsOf}
 use Rattle.chart.specs.Ready.{CompiledWith}
 use Rattle.matching.specs.Sources.{Indexed}
-use Rattle.matching.specs.Chosen.{listOf, list-push, once-there, once-new, once-none, atomicRows}
+use Rattle.matching.specs.Chosen.{listOf, once-none, atomicRows}
 
 pub record TransitionWith (chart names : List ℕ) (t : ℕ) : Type 0 where
   pub compiled : CompiledWith chart names
@@ -36,18 +33,12 @@ pub record Prepared (chart names starts : List ℕ) (atoms : RowSet) : Type 0 wh
   pub indexed : Indexed (chartOf chart) starts
   pub atomic : rowsOf atoms ≡ atomicRows (chartOf chart)
 
--- the first n of the items after are the first len before with the choice
+-- the first n of the items after are the first len before with the choice; items behind it stay
 pub record AddedOnce (before : List ℕ) (len : ℕ) (choice : Option ℕ) (after : List ℕ) (n : ℕ) : Type 0 where
   pub is : listOf after n ≡ addOnce (listOf before len) choice
   pub room : length after ≡ length before
   pub most : n ≤ len + 1
+  pub behind : (k : ℕ) → len < k → getD after k 0 ≡ getD before k 0
 
-module _ (items : List ℕ) (len : ℕ) (choice : Option ℕ) where
-  pub added-nothing : choice ≡ none → AddedOnce items len choice items len
-  added-nothing e = record { is = rw e (once-none (listOf items len)); room = refl; most = omega arith }
-
-  pub added-before : (t : ℕ) → choice ≡ some t → true ≡ any (eqb t) (listOf items len) → AddedOnce items len choice items len
-  added-before t e h = record { is = rw e (once-there (listOf items len) t h); room = refl; most = omega arith }
-
-  pub added-last : (t : ℕ) → choice ≡ some t → len < length items → false ≡ any (eqb t) (listOf items len) → AddedOnce items len choice (set items len t) (len + 1)
-  added-last t e l h = record { is = rw e (list-push items len t l ∙ once-new (listOf items len) t h); room = length-set items len t; most = omega arith }
+pub added-nothing : (items : List ℕ) (len : ℕ) (choice : Option ℕ) → choice ≡ none → AddedOnce items len choice items len
+added-nothing items len choice e = record { is = rw e (once-none (listOf items len)); room = refl; most = omega arith; behind = λ k l. refl }

@@ -8,7 +8,8 @@ use Prim.Native.Nat.{ℕ, _+_, _≤_, _<_}
 use native.Mathlib.Omega.{arith}
 use borrow.Author.Tests.{eqb-true}
 use lib.Dec.{eqb, ltb}
-use lib.ListN.{length, set, length-set}
+use lib.ListN.{length, getD, set, length-set}
+use lib.Seq.{getD-set-other}
 use Rattle.definition.specs.Rows.{those, mem, first, flat, orElse, append, insert}
 use Rattle.definition.specs.Names.{Name}
 use Rattle.definition.specs.Chart.{Chart, Names}
@@ -70,6 +71,10 @@ module _ (c : Chart) (names : Names) (conf : List ℕ) (event : Option Name) whe
   unfolding mem
   seen-begin seen ts e f = record { at = λ i t h. rw (e, f) }
 
+  -- the same list, by another name
+  pub seen-as : (seen ts us : List ℕ) → SeenIs seen ts → us ≡ ts → SeenIs seen us
+  seen-as seen ts us h e = rw e h
+
   pub seen-step : (seen ts : List ℕ) (i t : ℕ) → SeenIs seen ts → choice c names conf event i ≡ some t → SeenIs (insert ((c .transition) t .source) seen) (append ts t)
   unfolding append
   seen-step seen ts i t s h = record {
@@ -105,7 +110,7 @@ module _ (chart names : List ℕ) (conf : RowSet) (event items : List ℕ) (kept
   unfolding addOnce
   once-seen t s e q m =
       let k : mem t (listOf items (kept .len)) ≡ true = sym (h .seen .at i t (sym (h .is) ∙ e)) ∙ ap (λ (x : ℕ). mem x (rowsOf (kept .seen))) (sym q) ∙ m in
-      record { added = record { is = rw (e, k) refl; room = refl; most = omega arith }; seen = h .seen }
+      record { added = record { is = rw (e, k) refl; room = refl; most = omega arith; behind = λ j l. refl }; seen = h .seen }
 
   pub once-fresh : (t s : ℕ) (seen : RowSet) → choiceOf chosen ≡ some t → s ≡ (chartOf chart .transition) t .source → mem s (rowsOf (kept .seen)) ≡ false → rowsOf seen ≡ insert s (rowsOf (kept .seen)) →
       OnceDone chart names conf event items kept chosen (set items (kept .len) t) (record { len = kept .len + 1; seen = seen })
@@ -114,6 +119,11 @@ module _ (chart names : List ℕ) (conf : RowSet) (event items : List ℕ) (kept
       let k : mem t (listOf items (kept .len)) ≡ false = sym (h .seen .at i t (sym (h .is) ∙ e)) ∙ ap (λ (x : ℕ). mem x (rowsOf (kept .seen))) (sym q) ∙ m in
       let p : listOf (set items (kept .len) t) (kept .len + 1) ≡ append (listOf items (kept .len)) t = list-push items (kept .len) t (h .room) in
       record {
-        added = record { is = rw (e, k) p; room = length-set items (kept .len) t; most = omega arith };
+        added = record {
+          is = rw (e, k) p;
+          room = length-set items (kept .len) t;
+          most = omega arith;
+          behind = λ j l. getD-set-other items (kept .len) j t 0 (λ z. omega arith);
+        };
         seen = rw (w, p, q) (seen-step (chartOf chart) (nameAt names) (rowsOf conf) (eventOf event) (rowsOf (kept .seen)) (listOf items (kept .len)) i t (h .seen) (sym (h .is) ∙ e));
       }

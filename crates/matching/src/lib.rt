@@ -2,8 +2,8 @@
 ghost use mathlib.Core.Path.{_≡_};
 ghost use lib.ListN.{length};
 ghost use Rattle.definition.specs.Rows.{any};
-ghost use Rattle.definition.specs.Tables.{rowCount, transitionCount, eventsAt, nameAt, chartOf};
-ghost use Rattle.follower.specs.Selection.{matchesAt, isTriggered, isTrue, isMatch, choice, candidates};
+ghost use Rattle.definition.specs.Tables.{rowCount, eventsAt, nameAt, chartOf};
+ghost use Rattle.follower.specs.Selection.{matchesAt, isTriggered, isTrue, isMatch, choice};
 ghost use Rattle.tables.specs.Ranges.{SlotIn, NameInList};
 ghost use Rattle.tables.specs.Parts.{conditionOf};
 ghost use Rattle.rowset.specs.Member.{rowsOf};
@@ -13,10 +13,14 @@ ghost use Rattle.matching.specs.Descriptors.{PlaceOf, SomeDescriptors};
 ghost use Rattle.matching.specs.Sources.{startsBefore, Indexed};
 ghost use Rattle.matching.specs.Climb.{choiceOf};
 ghost use Rattle.chart.specs.Within.{Within};
-ghost use Rattle.matching.specs.Chosen.{AreChosen, atomicRows};
+ghost use Rattle.matching.specs.Chosen.{atomicRows};
+ghost use Rattle.matching.specs.Choosers.{AreChosenBy};
 ghost use Rattle.matching.specs.Eventless.{addEventless, eventlessRows};
 ghost use Rattle.matching.specs.Ready.{TransitionWith, ClimbReady, Prepared};
 ghost use Rattle.matching.specs.Seen.{OnceReady, OnceDone};
+pub use choosers::CHOOSERS;
+pub use choosers::ITEMS;
+use choosers::note_chooser;
 use numbers::NameNumber;
 use numbers::Row;
 use numbers::Transition;
@@ -25,6 +29,8 @@ use rowset::Found;
 use rowset::RowSet;
 use tables::Condition;
 use tables::limits;
+
+pub mod choosers;
 
 // ---- one transition against the event and the configuration
 
@@ -234,7 +240,8 @@ fn add_once(
     }
 }
 
-// What each active atomic state chooses, in document order, each transition once, into the first of the lent items: how many they are.
+// What each active atomic state chooses, in document order, each transition once, into the first of the lent items: how many they are. Behind
+// them, for each of these, the first row that chose it.
 pub fn candidates(
     chart: &[u64],
     names: &[u8],
@@ -244,8 +251,8 @@ pub fn candidates(
     event: &[u8],
     items: &mut [u16],
 ) -> usize
-    requires { ⌜ Prepared (now chart) (now names) (now starts) atoms × Within (rowCount (now chart)) (rowsOf conf) × (length (now items) ≡ 256) ⌝ }
-    ensures { λ n. ⌜ AreChosen (transitionCount (now (chart .entry))) (candidates (chartOf (now (chart .entry))) (nameAt (now (names .entry))) (rowsOf conf) (eventOf (now (event .entry)))) (now (items .exit)) n ⌝ }
+    requires { ⌜ Prepared (now chart) (now names) (now starts) atoms × Within (rowCount (now chart)) (rowsOf conf) × (length (now items) ≡ 768) ⌝ }
+    ensures { λ n. ⌜ AreChosenBy (chartOf (now (chart .entry))) (nameAt (now (names .entry))) (rowsOf conf) (eventOf (now (event .entry))) (now (items .exit)) n ⌝ }
 {
     let active = conf.intersection(atoms);
     let mut kept = Kept {
@@ -258,7 +265,9 @@ pub fn candidates(
             return kept.len;
         };
         let choice = choice_of(chart, names, starts, conf, event, i);
-        kept = add_once(chart, names, conf, event, items, kept, i, choice);
+        let next = add_once(chart, names, conf, event, items, kept, i, choice);
+        note_chooser(items, choice, kept.len, next.len, i);
+        kept = next;
         k = i.0 as u16 + 1;
     }
 }

@@ -1,90 +1,101 @@
 use borrow.Author.Needs.{needs}
-use mathlib.Core.Path.{_≡_, refl, sym, ap, subst, _∙_}
-use mathlib.Core.Bool.{true, false}
-use mathlib.Core.Logic.{⊎-elim}
-use Prim.Native.Nat.{ℕ, _+_, _-_, _≤_, _<_}
+use mathlib.Core.Path.{_≡_, sym, ap, _∙_}
+use Prim.Native.Nat.{_-_, _≤_}
 use native.Mathlib.Omega.{arith}
-use lib.ListN.{length, getD}
+use lib.ListN.{length}
 use mathlib.Core.List.{[]}
 use Rattle.follower.specs.Selection.{addOnce, choose}
 use Rattle.definition.specs.Tables.{nameAt, chartOf}
-use Rattle.rowset.specs.Visits.{Visited, visit-begin, visit-turn, visit-end, found-next, next-small, next-less}
+use Rattle.rowset.specs.Visits.{Visited, visit-begin, visit-turn, visit-end, found-next, next-small, next-less, rest-at}
 use Rattle.rowset.specs.Member.{rowsOf}
-use Rattle.matching.specs.Chosen.{listOf, list-begin, active-inside, candidates-done}
+use Rattle.matching.specs.Chosen.{listOf, list-begin, active-inside}
+use Rattle.matching.specs.Choosers.{Choosing, choosing-begin, choosing-noted, choosing-done, choice-placed, noted-as, noted-length}
 use Rattle.matching.specs.Events.{eventOf}
-use Rattle.matching.specs.Seen.{SeenIs, seen-begin}
+use Rattle.matching.specs.Seen.{SeenIs, seen-begin, seen-as}
 use Rattle.matching.proofs.candidates.Statement.{statement}
 use Rattle.matching.proofs.candidates.Tie as tie
-use Rattle.matching.proofs.candidates.Reads as reads
-use Rattle.matching.proofs.candidates.Lts as lts
-use Rattle.matching.proofs.add_once.Reads as add-once-reads
-use Rattle.matching.proofs.choice_of.Reads as choice-of-reads
-use Rattle.rowset.proofs.RowSet.empty.Reads as empty-reads
-use Rattle.rowset.proofs.RowSet.intersection.Reads as intersection-reads
-use Rattle.rowset.proofs.RowSet.next_from.Reads as next-from-reads
 
 abbrev Inv-loop : tie.InvT-loop
-Inv-loop chart names starts conf event items₀ active kept₀ k₀ items kept k = (length items ≡ 256) × (kept .len ≤ k) × Visited (choose (chartOf chart) (nameAt names) (rowsOf conf) (eventOf event)) [] (listOf items (kept .len)) active k × SeenIs (chartOf chart) (nameAt names) (rowsOf conf) (eventOf event) (rowsOf (kept .seen)) (listOf items (kept .len))
+Inv-loop chart names starts conf event items₀ active kept₀ k₀ items kept k =
+    (length items ≡ 768) × (kept .len ≤ k) × Visited (choose (chartOf chart) (nameAt names) (rowsOf conf) (eventOf event)) [] (listOf items (kept .len)) active k ×
+    SeenIs (chartOf chart) (nameAt names) (rowsOf conf) (eventOf event) (rowsOf (kept .seen)) (listOf items (kept .len)) ×
+    Choosing (chartOf chart) (nameAt names) (rowsOf conf) (eventOf event) active items (listOf items (kept .len)) k
 
 abbrev μ-loop : tie.MeasureT-loop
 μ-loop chart names starts conf event items₀ active kept₀ k₀ items kept k = 256 - k
 
--- src/lib.rt:212:9
 intersection-requires : tie.Need-intersection-requires Inv-loop μ-loop
 intersection-requires c κs = search needs
 
--- src/lib.rt:215:15
 empty-requires : tie.Need-empty-requires Inv-loop μ-loop
 empty-requires c κs = search needs
 
--- src/lib.rt:218:5
 loop-holds : tie.Need-loop-holds Inv-loop μ-loop
-loop-holds c = (c .before .before .before .before .before .before .before .pre .2, omega arith, visit-begin _ _ _ _ (list-begin _), seen-begin _ _ _ _ _ _ (c .empty .ensures) (list-begin _))
+loop-holds c = (
+  c .before .before .before .before .before .before .before .pre .2,
+  omega arith,
+  visit-begin _ _ _ _ (list-begin _),
+  seen-begin _ _ _ _ _ _ (c .empty .ensures) (list-begin _),
+  choosing-begin _ _ _ _ _ _ _ (list-begin _),
+)
 
--- src/lib.rt:219:28
 next-from-requires : tie.Need-next-from-requires Inv-loop μ-loop
 next-from-requires c κs = search needs
 
--- src/lib.rt:219:23
 enum-known-i : tie.Need-enum-known-i Inv-loop μ-loop
 enum-known-i c = search needs
 
--- src/lib.rt:220:13
 enum-told : tie.Need-enum-told Inv-loop μ-loop
 enum-told c = search needs
 
--- src/lib.rt:220:13
 same-length : tie.Need-same-length Inv-loop μ-loop
 same-length c = c .before .before .before .loop .inv .0 ∙ sym (c .before .before .before .before .before .before .before .before .before .before .before .pre .2)
 
--- src/lib.rt:220:13
 returns : tie.Need-returns Inv-loop μ-loop
-returns c = let v = c .before .before .before .loop .inv in let b = v .2 .low in candidates-done _ (c .before .before .before .before .before .before .before .before .before .before .before .pre .0 .compiled .ready .sound) _ _ _ _ _ _ _ (c .before .before .before .before .before .before .before .before .before .before .before .pre .1) (c .before .before .before .before .before .before .before .before .before .before .before .pre .0 .atomic) (c .before .before .before .before .before .intersection .ensures) (visit-end _ _ _ _ _ _ (v .2) (c .before .before .next-from .ensures) (c .enum-told .given .1)) (v .0) (omega arith)
+returns c = let v = c .before .before .before .loop .inv in let b = v .2 .low in choosing-done _ (c .before .before .before .before .before .before .before .before .before .before .before .pre .0 .compiled .ready .sound) _ _ _ _ _ _ _ _ (c .before .before .before .before .before .before .before .before .before .before .before .pre .1) (c .before .before .before .before .before .before .before .before .before .before .before .pre .0 .atomic) (c .before .before .before .before .before .intersection .ensures)
+    (visit-end _ _ _ _ _ _ (v .2) (c .before .before .next-from .ensures) (c .enum-told .given .1)) (v .0) (omega arith) (v .4)
 
--- src/lib.rt:222:13
 choice-of-requires : tie.Need-choice-of-requires Inv-loop μ-loop
-choice-of-requires c κs = record { compiled = c .before .before .before .before .before .before .before .before .before .before .before .before .pre .0 .compiled; indexed = c .before .before .before .before .before .before .before .before .before .before .before .before .pre .0 .indexed; inside = active-inside _ _ _ _ _ (c .before .before .before .before .before .before .before .before .before .before .before .before .pre .1) (c .before .before .before .before .before .before .intersection .ensures) (found-next _ _ _ (c .before .before .before .next-from .ensures) _ (c .before .i .given .1) .here) }
+choice-of-requires c κs = record {
+  compiled = c .before .before .before .before .before .before .before .before .before .before .before .before .pre .0 .compiled;
+  indexed = c .before .before .before .before .before .before .before .before .before .before .before .before .pre .0 .indexed;
+  inside = active-inside _ _ _ _ _ (c .before .before .before .before .before .before .before .before .before .before .before .before .pre .1) (c .before .before .before .before .before .before .intersection .ensures) (found-next _ _ _ (c .before .before .before .next-from .ensures) _ (c .before .i .given .1) .here);
+}
 
--- src/lib.rt:223:9
 add-once-requires : tie.Need-add-once-requires Inv-loop μ-loop
-add-once-requires c κs = let v = c .before .before .before .before .before .before .loop .inv in let s = v .0 in let m = v .1 in let f = found-next _ _ _ (c .before .before .before .before .before .next-from .ensures) _ (c .before .before .before .i .given .1) in let l = f .low in let b = next-small _ _ _ (c .before .before .before .before .before .next-from .ensures) _ (c .before .before .before .i .given .1) in record { compiled = c .before .before .before .before .before .before .before .before .before .before .before .before .before .before .pre .0 .compiled; is = c .before .choice-of .ensures; seen = v .3; room = omega arith }
+add-once-requires c κs = let v = c .before .before .before .before .before .before .loop .inv in let s = v .0 in let m = v .1 in
+    let f = found-next _ _ _ (c .before .before .before .before .before .next-from .ensures) _ (c .before .before .before .i .given .1) in let l = f .low in
+    let b = next-small _ _ _ (c .before .before .before .before .before .next-from .ensures) _ (c .before .before .before .i .given .1) in
+    record { compiled = c .before .before .before .before .before .before .before .before .before .before .before .before .before .before .pre .0 .compiled; is = c .before .choice-of .ensures; seen = v .3; room = omega arith }
 
--- src/lib.rt:224:13
+note-chooser-requires : tie.Need-note-chooser-requires Inv-loop μ-loop
+note-chooser-requires c κs = let m = c .before .before .before .before .before .before .before .before .before .before .before .before .before .before .before .before .before .before .pre .0 .compiled .ready .tables .sized .counts .transitions in
+    choice-placed _ (c .before .before .before .before .before .before .before .before .before .before .before .before .before .before .before .before .before .before .pre .0 .compiled .ready .sound) _ _ _ _ _ _ (c .before .before .before .add-once .ensures .added .room ∙ c .before .before .before .before .before .before .before .before .before .before .loop .inv .0) (omega arith) (c .before .before .before .before .before .choice-of .ensures)
+
 cast-k : tie.Need-cast-k Inv-loop μ-loop
 cast-k c = search needs
 
--- src/lib.rt:224:13
 add-k : tie.Need-add-k Inv-loop μ-loop
 add-k c = search needs
 
--- src/lib.rt:218:5
 loop-less : tie.Need-loop-less Inv-loop μ-loop
-loop-less c = next-less _ _ _ (c .before .before .before .before .before .before .before .before .before .next-from .ensures) _ (c .before .before .before .before .before .before .before .i .given .1)
+loop-less c = next-less _ _ _ (c .before .before .before .before .before .before .before .before .before .before .before .before .before .next-from .ensures) _ (c .before .before .before .before .before .before .before .before .before .before .before .i .given .1)
 
--- src/lib.rt:218:5
 loop-again : tie.Need-loop-again Inv-loop μ-loop
 unfolding choose
-loop-again c = let v = c .before .before .before .before .before .before .before .before .before .before .loop .inv in let m = v .1 in let f = found-next _ _ _ (c .before .before .before .before .before .before .before .before .before .next-from .ensures) _ (c .before .before .before .before .before .before .before .i .given .1) in let l = f .low in let d = c .before .before .before .add-once .ensures in let n = d .added .most in (d .added .room ∙ v .0, omega arith, visit-turn _ _ _ _ _ _ _ _ (v .2) (c .before .before .before .before .before .before .before .before .before .next-from .ensures) (c .before .before .before .before .before .before .before .i .given .1) (d .added .is ∙ ap (addOnce _) (c .before .before .before .before .before .choice-of .ensures)), d .seen)
+loop-again c = let v = c .before .before .before .before .before .before .before .before .before .before .before .before .before .before .loop .inv in let m = v .1 in
+    let f = found-next _ _ _ (c .before .before .before .before .before .before .before .before .before .before .before .before .before .next-from .ensures) _ (c .before .before .before .before .before .before .before .before .before .before .before .i .given .1) in let l = f .low in
+    let b = next-small _ _ _ (c .before .before .before .before .before .before .before .before .before .before .before .before .before .next-from .ensures) _ (c .before .before .before .before .before .before .before .before .before .before .before .i .given .1) in
+    let d = c .before .before .before .before .before .before .before .add-once .ensures in let n = d .added .most in
+    let w = c .before .before .before .before .before .before .before .before .before .before .before .before .before .before .before .before .before .before .before .before .before .before .pre .0 .compiled .ready .tables .sized .counts .transitions in
+    let e = noted-as _ _ _ _ _ _ (c .before .before .before .note-chooser .ensures) (omega arith) in (
+      ap length (c .before .before .before .note-chooser .ensures) ∙ noted-length _ _ _ _ _ ∙ d .added .room ∙ v .0,
+      omega arith,
+      visit-turn _ _ _ _ _ _ _ _ (v .2) (c .before .before .before .before .before .before .before .before .before .before .before .before .before .next-from .ensures) (c .before .before .before .before .before .before .before .before .before .before .before .i .given .1) (e ∙ d .added .is ∙ ap (addOnce _) (c .before .before .before .before .before .before .before .before .before .choice-of .ensures)),
+      seen-as _ _ _ _ _ _ _ (d .seen) e,
+      choosing-noted _ _ _ _ _ _ _ _ _ _ _ _ _ (rest-at _ _ _ (c .before .before .before .before .before .before .before .before .before .before .before .before .before .next-from .ensures) _ (c .before .before .before .before .before .before .before .before .before .before .before .i .given .1)) (v .4) (d .added) (v .0) (omega arith) (sym (c .before .before .before .before .before .before .before .before .before .choice-of .ensures))
+          (choice-placed _ (c .before .before .before .before .before .before .before .before .before .before .before .before .before .before .before .before .before .before .before .before .before .before .pre .0 .compiled .ready .sound) _ _ _ _ _ _ (d .added .room ∙ v .0) (omega arith) (c .before .before .before .before .before .before .before .before .before .choice-of .ensures)) (c .before .before .before .note-chooser .ensures),
+    )
 
 pub candidates-spec : {M : Type 1} → statement M
 candidates-spec =
@@ -102,6 +113,7 @@ candidates-spec =
     returns
     choice-of-requires
     add-once-requires
+    note-chooser-requires
     cast-k
     add-k
     loop-less
