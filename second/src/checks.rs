@@ -15,6 +15,7 @@ mod near_misses;
 mod readings;
 mod runs;
 mod text;
+mod worked;
 
 /// A check with its name. Equal checks give equal answers, whenever and wherever they run.
 pub struct Check {
@@ -45,6 +46,7 @@ pub fn small() -> Vec<Check> {
     checks.extend(by_hand::checks());
     checks.extend(cases::checks());
     checks.extend(text::checks());
+    checks.extend(worked::checks());
     checks
 }
 
@@ -60,7 +62,7 @@ pub fn agreement() -> Vec<Check> {
 }
 
 /// What a great run must have met, lest it prove little.
-const MUST_HAPPEN: [&str; 25] = [
+const MUST_HAPPEN: [&str; 27] = [
     "candidates removed by conflicts",
     "charts of more rows than a word has bits",
     "closing rounds",
@@ -84,6 +86,8 @@ const MUST_HAPPEN: [&str; 25] = [
     "small charts compared with brute force",
     "stored sets found right",
     "stored sets found wrong",
+    "transitions chosen by several",
+    "transitions chosen from below",
     "transitions whose anchors give another domain",
     "transitions with several targets",
 ];

@@ -7,10 +7,10 @@ use crate::legal::{is_legal, set_to_store};
 use crate::limits::QUEUE_NAMES;
 use crate::microstep::{add_default_entry, plan_entries, with_ancestors_below, EntryPlan, Step, TraceEntry};
 use crate::names::done_name;
-use crate::numbers::{RowNumber, ROOT};
+use crate::numbers::{RowNumber, TransitionNumber, ROOT};
 use crate::random::Random;
 use crate::row_set::RowSet;
-use crate::selection::{domain_for, effective_targets, Selected, StoredHistory};
+use crate::selection::{domain_for, effective_targets, Moment, Selected, StoredHistory};
 use crate::session::*;
 use crate::tables::Kind;
 
@@ -68,9 +68,32 @@ impl Seen<'_> {
         let subsequence = self.kept().iter().all(|kept| candidates.any(|one| one == kept));
         ensure(subsequence, "kept are a subsequence of the candidates")?;
         let candidates = &self.record.selection.candidates;
+        let numbers: Vec<TransitionNumber> = candidates.iter().map(|one| one.transition).collect();
         let chosen_once =
-            candidates.iter().enumerate().all(|(place, one)| !candidates[..place].contains(one));
-        ensure(chosen_once, "a transition chosen twice counts once")
+            numbers.iter().enumerate().all(|(place, number)| !numbers[..place].contains(number));
+        ensure(chosen_once, "a transition chosen twice counts once")?;
+        candidates.iter().try_for_each(|candidate| self.chooser_is_first(candidate))
+    }
+
+    /// The states whose climbs end at a transition, all of them.
+    fn choosers(&self, transition: TransitionNumber) -> Vec<RowNumber> {
+        let (configuration, stored) = (&self.before.configuration, StoredHistory(&self.before.stored));
+        let moment = Moment { compiled: self.compiled, configuration, stored };
+        let event = match &self.record.trigger {
+            Trigger::Internal(name) | Trigger::External(name) => Some(&name[..]),
+            _ => None,
+        };
+        let active = configuration.rows().filter(|&row| self.compiled.tree.is_atomic(row));
+        active.filter(|&row| moment.first_match(row, event) == Some(transition)).collect()
+    }
+
+    /// "the first active atomic state that chose it".
+    fn chooser_is_first(&self, candidate: &Selected) -> Found {
+        let choosers = self.choosers(candidate.transition);
+        ensure(choosers.iter().min() == Some(&candidate.chooser), "the first that chose a transition")?;
+        let source = self.compiled.chart.transition(candidate.transition).source;
+        let below = source == candidate.chooser || self.compiled.tree.is_ancestor(source, candidate.chooser);
+        ensure(below, "who chose a transition is its source or below it")
     }
 
     fn domains_are_right(&self) -> Found {
@@ -182,11 +205,18 @@ impl Seen<'_> {
     /// document order, and a dropped event shows nothing.
     fn trace_is_right(&self) -> Found {
         let step = self.step();
-        let own = step.trace.iter().filter(|entry| entry.kind_and_index().0 <= 3).copied();
+        let own = step.trace.iter().filter(|entry| [1, 2, 3, 7].contains(&entry.kind_and_index().0)).copied();
         let exits = step.exited.rows_in_exit_order().into_iter().map(TraceEntry::Exited);
-        let transitions = self.kept().iter().map(|selected| TraceEntry::Transition(selected.transition));
+        let transitions = self.kept().iter().flat_map(|selected| {
+            [TraceEntry::Transition(selected.transition), TraceEntry::Chooser(selected.chooser)]
+        });
         let entries = step.entry.rows.rows().map(TraceEntry::Entered);
         ensure(own.eq(exits.chain(transitions).chain(entries)), "exits, transitions, entries")?;
+        let followed = step.trace.iter().enumerate().all(|(place, entry)| {
+            let chooser_behind = matches!(step.trace.get(place + 1), Some(TraceEntry::Chooser(_)));
+            matches!(entry, TraceEntry::Transition(_)) == chooser_behind
+        });
+        ensure(followed, "who chose a transition comes directly after it")?;
         let silent = step.trace.is_empty() && step.queued.is_empty();
         ensure(!self.kept().is_empty() || self.is_special() || silent, "a drop is silent")?;
         self.queued_is_right()
@@ -303,6 +333,9 @@ impl Seen<'_> {
         for selected in &selection.kept {
             let transition = self.compiled.chart.transition(selected.transition);
             coverage.note_if("transitions without targets", selected.domain.is_none());
+            coverage.note_if("transitions chosen from below", selected.chooser != transition.source);
+            let choosers = self.choosers(selected.transition).len();
+            coverage.note_if("transitions chosen by several", choosers > 1);
             coverage
                 .note_if("internal transitions that stay inside", selected.domain == Some(transition.source));
             coverage.note_if("transitions with several targets", transition.targets.len() > 1);

@@ -40,3 +40,4 @@ pub mod tables;
 pub mod text;
 pub mod theorems;
 pub mod tree;
+pub mod worked;

@@ -18,6 +18,7 @@ pub enum TraceEntry {
     Host(u16),
     Raised(NameNumber),
     Done(RowNumber),
+    Chooser(RowNumber),
 }
 
 impl TraceEntry {
@@ -29,6 +30,7 @@ impl TraceEntry {
             TraceEntry::Host(action) => (4, u32::from(action)),
             TraceEntry::Raised(name) => (5, name.0 as u32),
             TraceEntry::Done(row) => (6, row.0 as u32),
+            TraceEntry::Chooser(row) => (7, row.0 as u32),
         }
     }
 
@@ -119,10 +121,12 @@ impl Step {
         }
     }
 
-    /// "Then blocks of the transitions in selection order."
+    /// "Then blocks of the transitions in selection order." The state that chose a transition stands
+    /// "directly after each kind 2 entry, ahead of the block's entries".
     fn run_transitions(&mut self, compiled: &CompiledChart, kept: &[Selected]) {
         for selected in kept {
             self.trace.push(TraceEntry::Transition(selected.transition));
+            self.trace.push(TraceEntry::Chooser(selected.chooser));
             self.run_block(compiled, &compiled.chart.transition(selected.transition).block);
         }
     }

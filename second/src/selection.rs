@@ -12,6 +12,8 @@ use crate::tables::{Transition, TransitionType};
 #[derive(Clone, PartialEq, Eq, Debug)]
 pub struct Selected {
     pub transition: TransitionNumber,
+    /// "the first active atomic state that chose it" (R-6).
+    pub chooser: RowNumber,
     pub domain: Option<RowNumber>,
     pub exit_set: RowSet,
 }
@@ -100,22 +102,22 @@ impl Moment<'_> {
     /// The selection for an event, or the eventless one.
     pub fn select(&self, event: Option<&[u8]>) -> Selection {
         let candidates: Vec<Selected> =
-            self.chosen(event).into_iter().map(|transition| self.with_domain(transition)).collect();
+            self.chosen(event).into_iter().map(|(transition, by)| self.with_domain(transition, by)).collect();
         let kept = self.remove_conflicts(&candidates);
         Selection { candidates, kept }
     }
 
     /// "for each active atomic state in document order ... A transition chosen twice counts once,
-    /// at its first place."
-    fn chosen(&self, event: Option<&[u8]>) -> Vec<TransitionNumber> {
-        let mut chosen = Vec::new();
+    /// at its first place": that place's state is the one that chose it.
+    fn chosen(&self, event: Option<&[u8]>) -> Vec<(TransitionNumber, RowNumber)> {
+        let mut chosen: Vec<(TransitionNumber, RowNumber)> = Vec::new();
         for row in self.configuration.rows() {
             if !self.compiled.tree.is_atomic(row) {
                 continue;
             }
             if let Some(transition) = self.first_match(row, event) {
-                if !chosen.contains(&transition) {
-                    chosen.push(transition);
+                if chosen.iter().all(|&(other, _)| other != transition) {
+                    chosen.push((transition, row));
                 }
             }
         }
@@ -124,7 +126,7 @@ impl Moment<'_> {
 
     /// "its transitions in row order, then its parent's, and so on up ... The first match,
     /// climbing from the atomic state, ends the climb."
-    fn first_match(&self, atomic: RowNumber, event: Option<&[u8]>) -> Option<TransitionNumber> {
+    pub fn first_match(&self, atomic: RowNumber, event: Option<&[u8]>) -> Option<TransitionNumber> {
         let mut first = None;
         let mut climb = vec![atomic];
         climb.extend(self.compiled.tree.ancestors_upwards(atomic));
@@ -153,12 +155,12 @@ impl Moment<'_> {
     }
 
     /// "Domain and exit set use the history stored before the round."
-    fn with_domain(&self, number: TransitionNumber) -> Selected {
+    fn with_domain(&self, number: TransitionNumber, chooser: RowNumber) -> Selected {
         let transition = self.compiled.chart.transition(number);
         let effective = effective_targets(self.compiled, self.stored, &transition.targets);
         let domain = domain_for(self.compiled, transition, &effective);
         let exit_set = exit_set_of(self.compiled, self.configuration, domain);
-        Selected { transition: number, domain, exit_set }
+        Selected { transition: number, chooser, domain, exit_set }
     }
 
     /// "a candidate whose exit set meets a kept one's removes it and joins last if its source is a

@@ -17,6 +17,7 @@ use crate::random::Random;
 use crate::readings;
 use crate::rules::Place;
 use crate::session::{CLOSING, ENDED};
+use crate::worked;
 
 /// A file of theorems.
 pub struct Module {
@@ -58,6 +59,7 @@ pub fn modules() -> Vec<Module> {
         modules.push(played_module(place, part));
     }
     modules.push(examples_module("ByHand", "Charts for single sentences, played.", &by_hand::all()));
+    modules.push(worked_module());
     modules.push(limits_module());
     modules.push(refused_module());
     let accepted = "One chart for each way to come near to breaking a rule without breaking it.";
@@ -141,6 +143,11 @@ fn limits_module() -> Module {
     let charts = at_limits::small();
     theorems.extend(charts.iter().enumerate().map(|(place, example)| played(place + 1, example)));
     module("Limits", "Headers at the limits and past them, and a chart with as much of everything as a transition may have.", &theorems)
+}
+
+fn worked_module() -> Module {
+    let worked: Vec<Example> = worked::all().into_iter().map(|one| one.example).collect();
+    examples_module("Worked", "Charts for the requests of document 02, worked out by hand.", &worked)
 }
 
 fn faults_module() -> Module {

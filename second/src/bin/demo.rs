@@ -21,7 +21,8 @@ fn words(chart: &Chart, entry: u32) -> String {
         3 => format!("enter {}", row(chart, index)),
         4 => format!("host action {index}"),
         5 => format!("raise name {index}"),
-        _ => format!("done.state.{}", row(chart, index)),
+        6 => format!("done.state.{}", row(chart, index)),
+        _ => format!("chosen by {}", row(chart, index)),
     }
 }
 

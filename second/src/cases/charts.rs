@@ -17,6 +17,7 @@ use crate::random::Random;
 use crate::readings;
 use crate::rules::Place;
 use crate::tables::{Chart, Table};
+use crate::worked;
 use std::fmt::Write as _;
 
 /// The first seed of the generated charts, and how many there are.
@@ -58,6 +59,7 @@ fn cases() -> Vec<Case> {
     cases.extend(full_tables());
     cases.extend(readings::all().into_iter().flatten().map(Case::of_example));
     cases.extend(by_hand::all().into_iter().chain(examples::by_hand()).map(Case::of_example));
+    cases.extend(worked::all().into_iter().map(|one| Case::of_example(one.example)));
     cases.extend(faults::all().into_iter().map(|fault| Case::of_chart(&fault.about, &fault.chart)));
     cases.extend(examples::refused().into_iter().chain(examples::accepted()).map(Case::of_example));
     cases.extend(near_misses_of_sample());

@@ -16,6 +16,7 @@ use crate::readings::{self, post, run, run_in, start};
 use crate::session::{watch_nothing, Session};
 use crate::session_damage;
 use crate::story;
+use crate::worked;
 
 /// How many small generated charts there are, how many of any size, and how many large ones.
 const SMALL: usize = 220;
@@ -31,7 +32,7 @@ const LARGE_REFUSED: u64 = 1;
 
 /// Regions, and actions of the parallel above them, so that the round that enters them has 512 entries,
 /// 513 and 551: as many as the library drafts, and more.
-const LONG: [(usize, usize); 3] = [(56, 5), (56, 6), (60, 8)];
+const LONG: [(usize, usize); 3] = [(56, 4), (56, 5), (60, 7)];
 
 pub fn lists() -> Vec<Line> {
     let mut lines = story();
@@ -49,7 +50,8 @@ fn examples() -> Vec<Example> {
         readings::all().into_iter().flatten().filter(|example| example.spelt.names.len() % SLOT_BYTES == 0);
     let limits = at_limits::small().into_iter().chain(at_limits::large());
     let others = by_hand::all().into_iter().chain(examples::by_hand()).chain(limits);
-    let others = others.chain(examples::accepted());
+    let worked = worked::all().into_iter().map(|one| one.example);
+    let others = others.chain(examples::accepted()).chain(worked);
     let others = others.chain(examples::generated(SMALL)).filter(|example| !example.calls.is_empty());
     readings.chain(others).collect()
 }
@@ -82,7 +84,7 @@ fn long_round(regions: usize, more: usize) -> Vec<Line> {
         b.state("p", &id).on_entry(&id, &eight);
     }
     b.on("s", "go", "p").on("p", "back", "s");
-    let entries = 3 + more + 9 * regions;
+    let entries = 4 + more + 9 * regions;
     let about = format!("a round of {entries} entries");
     let mut lines = vec![Line::About(about), Line::Chart(Lent::of(&b.chart(), Layout::Plain)), Line::Zeros];
     let calls = [start(), post("go"), run_in(1, entries - 1), run_in(1, entries), post("back"), run(1)];

@@ -122,23 +122,23 @@ fn refused_start() -> Found {
     leaves(&accepted.start(Some(&full), 0), 7, &Session::ended())
 }
 
-/// Chart A from its start: e4 writes three entries, e1 seven.
+/// Chart A from its start: e4 writes four entries, e1 nine.
 fn no_room_keeps_rounds() -> Found {
     let chart = compiled(&chart_a());
     let mut session = started(&chart);
     for name in [b"e4", b"e1"] {
         session = session.post(Some(&chart), name).session;
     }
-    let after_one = session.clone().run(Some(&chart), 1, 3);
-    ensure(after_one.rounds == 1 && after_one.number == STATUS_MORE, "one round fits in three places")?;
-    for room in 3..10 {
+    let after_one = session.clone().run(Some(&chart), 1, 4);
+    ensure(after_one.rounds == 1 && after_one.number == STATUS_MORE, "one round fits in four places")?;
+    for room in 4..13 {
         let answer = session.clone().run(Some(&chart), 5, room);
         ensure(answer.number == NO_TRACE_ROOM && answer.rounds == 1, "the second round does not fit")?;
         ensure(answer.session == after_one.session && answer.trace == after_one.trace, "the first is kept")?;
     }
-    let answer = session.clone().run(Some(&chart), 5, 10);
-    ensure(answer.rounds == 3 && answer.number == STATUS_IDLE, "ten places do")?;
-    leaves(&session.clone().run(Some(&chart), 5, 2), 10, &session)
+    let answer = session.clone().run(Some(&chart), 5, 13);
+    ensure(answer.rounds == 3 && answer.number == STATUS_IDLE, "thirteen places do")?;
+    leaves(&session.clone().run(Some(&chart), 5, 3), 10, &session)
 }
 
 /// A full internal queue of 32 names is no hindrance to a round that raises one name.
@@ -148,7 +148,7 @@ fn taken_leaves_first() -> Found {
     let chart = compiled(&b.chart());
     let full = Queue::of(&vec![b"e".to_vec(); 32]).expect("fits");
     let session = Session { internal: full, ..started(&chart) };
-    let answer = session.run(Some(&chart), 50, 100);
+    let answer = session.run(Some(&chart), 50, 150);
     ensure(answer.rounds == 50 && answer.number == STATUS_MORE, "one leaves, one joins")?;
     b.on("s", "f", "").doing(&[Do::Raise("e"), Do::Raise("e")]);
     let chart = compiled(&b.chart());

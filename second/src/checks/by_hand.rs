@@ -59,28 +59,30 @@ fn parallel_of_parallels() -> Found {
     let example = by_hand::parallel_of_parallels();
     let entered = [(3, 1), (3, 2), (3, 3), (3, 4), (6, 3), (3, 5), (3, 6), (6, 5), (6, 2), (3, 7), (3, 8)];
     wrote(&example, 0, &entered)?;
-    wrote(&example, 2, &[(1, 8), (2, 0), (3, 9), (6, 7), (6, 1)])
+    wrote(&example, 2, &[(1, 8), (2, 0), (7, 8), (3, 9), (6, 7), (6, 1)])
 }
 
 fn final_two_levels_down() -> Found {
-    wrote(&by_hand::final_two_levels_down(), 2, &[(1, 6), (2, 0), (3, 7), (6, 5)])
+    wrote(&by_hand::final_two_levels_down(), 2, &[(1, 6), (2, 0), (7, 6), (3, 7), (6, 5)])
 }
 
 fn initial_list_of_two() -> Found {
-    let expected = [(1, 1), (2, 0), (3, 2), (4, 1), (3, 3), (3, 4), (3, 6), (3, 7), (3, 9), (3, 10), (3, 11)];
-    wrote(&by_hand::initial_list_of_two(), 2, &expected)
+    let left = [(1, 1), (2, 0), (7, 1)];
+    let entered = [(3, 2), (4, 1), (3, 3), (3, 4), (3, 6), (3, 7), (3, 9), (3, 10), (3, 11)];
+    wrote(&by_hand::initial_list_of_two(), 2, &[&left[..], &entered].concat())
 }
 
 fn default_list_of_two() -> Found {
     let example = by_hand::default_list_of_two();
-    let by_default = [(1, 1), (2, 0), (3, 2), (4, 2), (3, 3), (3, 5), (3, 6), (3, 7), (3, 9), (3, 11)];
-    wrote(&example, 2, &by_default)?;
-    let as_stored = [(1, 1), (2, 0), (3, 2), (3, 3), (3, 5), (3, 6), (3, 8), (3, 9), (3, 11)];
-    wrote(&example, 7, &as_stored)
+    let left = [(1, 1), (2, 0), (7, 1)];
+    let by_default = [(3, 2), (4, 2), (3, 3), (3, 5), (3, 6), (3, 7), (3, 9), (3, 11)];
+    wrote(&example, 2, &[&left[..], &by_default].concat())?;
+    let as_stored = [(3, 2), (3, 3), (3, 5), (3, 6), (3, 8), (3, 9), (3, 11)];
+    wrote(&example, 7, &[&left[..], &as_stored].concat())
 }
 
 fn three_targets() -> Found {
-    let expected = [(1, 1), (2, 0), (3, 2), (3, 3), (3, 5), (3, 6), (3, 8), (3, 9), (3, 11)];
+    let expected = [(1, 1), (2, 0), (7, 1), (3, 2), (3, 3), (3, 5), (3, 6), (3, 8), (3, 9), (3, 11)];
     wrote(&by_hand::three_targets(), 2, &expected)
 }
 
@@ -93,7 +95,7 @@ fn started_again() -> Found {
 }
 
 fn chosen_twice() -> Found {
-    wrote(&by_hand::chosen_twice(), 2, &[(2, 0), (4, 1), (2, 1), (4, 2)])
+    wrote(&by_hand::chosen_twice(), 2, &[(2, 0), (7, 2), (4, 1), (2, 1), (7, 3), (4, 2)])
 }
 
 fn star_posted_last() -> Found {
@@ -108,7 +110,7 @@ fn run_of_none() -> Found {
 }
 
 fn raised_done_name() -> Found {
-    wrote(&by_hand::raised_done_name(), 1, &[(1, 1), (2, 0), (3, 2)])
+    wrote(&by_hand::raised_done_name(), 1, &[(1, 1), (2, 0), (7, 1), (3, 2)])
 }
 
 fn posted_bytes() -> Found {
@@ -117,32 +119,32 @@ fn posted_bytes() -> Found {
 }
 
 fn longest_descriptor() -> Found {
-    wrote(&by_hand::longest_descriptor(), 4, &[(2, 0), (4, 1), (2, 0), (4, 1)])
+    wrote(&by_hand::longest_descriptor(), 4, &[(2, 0), (7, 1), (4, 1), (2, 0), (7, 1), (4, 1)])
 }
 
 fn letter_case() -> Found {
     let example = by_hand::letter_case();
     wrote(&example, 2, &[])?;
-    wrote(&example, 4, &[(2, 0), (4, 1)])
+    wrote(&example, 4, &[(2, 0), (7, 1), (4, 1)])
 }
 
 fn targets_by_the_exits() -> Found {
     let example = by_hand::targets_by_the_exits();
     wrote(&example, 0, &[(3, 1), (3, 2), (3, 3)])?;
-    wrote(&example, 2, &[(1, 3), (2, 1), (3, 4)])?;
-    wrote(&example, 4, &[(1, 4), (1, 2), (1, 1), (2, 0), (3, 1), (3, 2), (3, 4)])?;
-    wrote(&example, 6, &[(1, 4), (1, 2), (2, 2), (3, 5)])?;
-    wrote(&example, 8, &[(1, 5), (1, 1), (2, 0), (3, 1), (3, 5)])
+    wrote(&example, 2, &[(1, 3), (2, 1), (7, 3), (3, 4)])?;
+    wrote(&example, 4, &[(1, 4), (1, 2), (1, 1), (2, 0), (7, 4), (3, 1), (3, 2), (3, 4)])?;
+    wrote(&example, 6, &[(1, 4), (1, 2), (2, 2), (7, 4), (3, 5)])?;
+    wrote(&example, 8, &[(1, 5), (1, 1), (2, 0), (7, 5), (3, 1), (3, 5)])
 }
 
 fn default_blocks_by_the_exits() -> Found {
     let example = by_hand::default_blocks_by_the_exits();
     wrote(&example, 0, &[(3, 1), (3, 2), (3, 3), (3, 6), (3, 7)])?;
-    wrote(&example, 2, &[(1, 3), (2, 1), (3, 4)])?;
-    let left = [(1, 7), (1, 6), (1, 4), (1, 2), (1, 1), (2, 0)];
+    wrote(&example, 2, &[(1, 3), (2, 1), (7, 3), (3, 4)])?;
+    let left = [(1, 7), (1, 6), (1, 4), (1, 2), (1, 1), (2, 0), (7, 4)];
     let one_block = [(3, 1), (3, 2), (3, 4), (3, 6), (3, 8), (4, 2), (3, 10)];
     wrote(&example, 4, &[&left[..], &one_block].concat())?;
-    let left = [(1, 10), (1, 8), (1, 6), (1, 4), (1, 2), (1, 1), (2, 0)];
+    let left = [(1, 10), (1, 8), (1, 6), (1, 4), (1, 2), (1, 1), (2, 0), (7, 4)];
     let no_block = [(3, 1), (3, 2), (3, 4), (3, 6), (3, 8), (3, 10)];
     wrote(&example, 6, &[&left[..], &no_block].concat())
 }
@@ -150,7 +152,7 @@ fn default_blocks_by_the_exits() -> Found {
 fn internal_of_a_parallel() -> Found {
     let example = by_hand::internal_of_a_parallel();
     wrote(&example, 0, &[(3, 1), (3, 2), (3, 3), (3, 4), (3, 5), (3, 7), (3, 8)])?;
-    let left = [(1, 8), (1, 7), (1, 5), (1, 4), (1, 3), (1, 2), (2, 0)];
+    let left = [(1, 8), (1, 7), (1, 5), (1, 4), (1, 3), (1, 2), (2, 0), (7, 5)];
     let entered = [(3, 2), (3, 3), (3, 4), (3, 6), (3, 7), (3, 8)];
     wrote(&example, 2, &[&left[..], &entered].concat())
 }
@@ -163,10 +165,10 @@ fn most_internal_names() -> Found {
     let refused = [ACCEPTED, ACCEPTED, QUEUE_FULL];
     ensure(answers == [&refused[..], &refused, &more].concat(), &format!("{answers:?}"))?;
     let eight = [(5, 8); 8];
-    let left = [&[(1, 1), (5, 6), (5, 7)], &eight[..6], &[(2, 0)], &eight[..]].concat();
+    let left = [&[(1, 1), (5, 6), (5, 7)], &eight[..6], &[(2, 0), (7, 1)], &eight[..]].concat();
     let entered = [&[(3, 2)], &eight[..], &[(3, 3)], &eight[..]].concat();
     wrote(&example, 8, &[left, entered].concat())?;
-    wrote(&example, 9, &[(2, 3), (5, 8)])?;
+    wrote(&example, 9, &[(2, 3), (7, 3), (5, 8)])?;
     [2, 5, 10].into_iter().try_for_each(|call| wrote(&example, call, &[]))
 }
 
@@ -174,14 +176,15 @@ fn guarded_loops() -> Found {
     let example = by_hand::guarded_loops();
     let answers = answers(&example);
     ensure(answers == [ACCEPTED, STATUS_IDLE, ACCEPTED, STATUS_MORE], &format!("{answers:?}"))?;
-    wrote(&example, 3, &[(1, 1), (2, 1), (3, 2), (1, 2), (2, 2), (3, 2), (1, 2), (2, 2), (3, 2)])
+    let (there, again) = ([(1, 1), (2, 1), (7, 1), (3, 2)], [(1, 2), (2, 2), (7, 2), (3, 2)]);
+    wrote(&example, 3, &[there, again, again].concat())
 }
 
 fn longer_loops() -> Found {
-    let there = [(1, 2), (2, 0), (3, 3)];
-    let back = [(1, 3), (2, 1), (3, 2)];
+    let there = [(1, 2), (2, 0), (7, 2), (3, 3)];
+    let back = [(1, 3), (2, 1), (7, 3), (3, 2)];
     wrote(&by_hand::loop_of_two(), 1, &[there, back, there].concat())?;
-    let around = [(1, 2), (1, 1), (2, 0), (3, 1), (3, 2)];
+    let around = [(1, 2), (1, 1), (2, 0), (7, 2), (3, 1), (3, 2)];
     wrote(&by_hand::loop_to_the_parent(), 1, &[around, around].concat())?;
     wrote(&by_hand::loop_to_own_history(), 1, &[around, around].concat())
 }

@@ -264,7 +264,7 @@ fn reading_18() -> Found {
 fn reading_19() -> Found {
     let examples = charts::reading_19();
     let traces: Vec<usize> = examples[0].dumps.iter().map(|dump| dump.trace.len()).collect();
-    ensure(traces == [5, 0, 3, 0, 7, 0, 0, 5, 0, 7], &format!("{traces:?}"))?;
+    ensure(traces == [5, 0, 4, 0, 9, 0, 0, 6, 0, 8], &format!("{traces:?}"))?;
     let status = |example: &Example| example.dumps.last().map(|dump| dump.answer_and_rounds.clone());
     ensure(status(&examples[1]) == Some(vec![STATUS_IDLE, 6]), "six rounds, idle")?;
     ensure(status(&examples[2]) == Some(vec![STATUS_MORE, 3]), "three rounds, more")

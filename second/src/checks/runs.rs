@@ -44,7 +44,7 @@ fn marked_run_1() -> Found {
 
 fn marked_run_2() -> Found {
     let chart = compiled(&chart_a());
-    wrote(&event(&chart, start(&chart).session, b"e4"), &[(1, 3), (2, 1), (3, 4)])
+    wrote(&event(&chart, start(&chart).session, b"e4"), &[(1, 3), (2, 1), (7, 3), (3, 4)])
 }
 
 fn after_e1(chart: &CompiledChart) -> Answer {
@@ -53,7 +53,7 @@ fn after_e1(chart: &CompiledChart) -> Answer {
 }
 
 fn marked_run_3() -> Found {
-    let expected = [(1, 7), (1, 4), (2, 2), (2, 3), (3, 5), (6, 2), (3, 8)];
+    let expected = [(1, 7), (1, 4), (2, 2), (7, 4), (2, 3), (7, 7), (3, 5), (6, 2), (3, 8)];
     wrote(&after_e1(&compiled(&chart_a())), &expected)
 }
 
@@ -63,7 +63,7 @@ fn marked_run_4() -> Found {
     let posted = after_e1(&chart).session.post(Some(&chart), b"e2").session;
     let answer = posted.run(Some(&chart), 2, ROOM);
     ensure(answer.rounds == 2, "two rounds")?;
-    wrote(&answer, &[(1, 8), (2, 4), (3, 9), (6, 6), (6, 1)])
+    wrote(&answer, &[(1, 8), (2, 4), (7, 8), (3, 9), (6, 6), (6, 1)])
 }
 
 fn marked_run_5() -> Found {
