@@ -71,6 +71,7 @@ impl Trial {
         coverage.note("charts");
         coverage.note_if("charts of 40 rows and more", self.chart.rows.len() >= 40);
         coverage.note_if("charts of more rows than a word has bits", self.chart.rows.len() >= LARGE);
+        self.count_initial_lists(coverage);
         let place = needed_place(&spelt.numbers).ok_or("a generated chart is too large")?;
         let places = compile(&spelt.numbers, &spelt.names, place)
             .map_err(|rule| format!("a generated chart breaks rule {rule}"))?;
@@ -80,6 +81,14 @@ impl Trial {
         let opened = CompiledChart::open(&changed.numbers, &changed.names);
         ensure(opened.is_none(), "a changed compiled set is refused")?;
         Ok(compiled)
+    }
+
+    fn count_initial_lists(&self, coverage: &mut Coverage) {
+        for row in self.chart.rows.iter().filter(|row| !row.kind.is_history() && !row.list.is_empty()) {
+            coverage.note("initial lists");
+            let names_history = row.list.iter().any(|&target| self.chart.kind(target).is_history());
+            coverage.note_if("initial lists that name a history", names_history);
+        }
     }
 
     fn calls_agree(&self, compiled: &CompiledChart, random: &mut Random, coverage: &mut Coverage) -> Found {

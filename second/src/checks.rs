@@ -62,7 +62,7 @@ pub fn agreement() -> Vec<Check> {
 }
 
 /// What a great run must have met, lest it prove little.
-const MUST_HAPPEN: [&str; 27] = [
+const MUST_HAPPEN: [&str; 32] = [
     "candidates removed by conflicts",
     "charts of more rows than a word has bits",
     "closing rounds",
@@ -73,6 +73,11 @@ const MUST_HAPPEN: [&str; 27] = [
     "done events of states",
     "histories that fell to their default lists",
     "internal transitions that stay inside",
+    "listed histories restored, of a row below",
+    "listed histories restored, of the owner",
+    "listed histories that fell, of a row below",
+    "listed histories that fell, of the owner",
+    "listed histories that the same round stored",
     "posts refused with 11",
     "posts refused with 6",
     "posts refused with 7",

@@ -84,7 +84,8 @@ impl CompiledChart {
             .collect()
     }
 
-    /// The initial list, or where it is empty the first non-history child.
+    /// The initial list, or where it is empty the first non-history child. A history stands for itself:
+    /// what it stands for is known at entry.
     pub fn default_entry_targets(&self, row: RowNumber) -> Vec<RowNumber> {
         if !self.tree.is_compound_or_root(row) {
             return Vec::new();

@@ -97,6 +97,10 @@ impl Flavour {
     }
 }
 
+/// How often an initial list names a history where it can, and how often one is sought.
+const LISTED_HISTORIES: usize = 50;
+const HISTORY_TRIES: usize = 6;
+
 /// The events of a generated chart are few, so that transitions meet them.
 const EVENTS: [&str; 9] = ["e", "f", "g", "e.x", "e.x.y", "f.z", "tick", "a-b_c.9", "7.up"];
 
@@ -328,11 +332,42 @@ impl Generator {
                 (self.random.pick(&children).into_iter().collect(), true)
             }
             Kind::DeepHistory => (self.states_below(tree, parent), true),
-            _ if tree.is_compound_or_root(row) && self.random.chance(45) => {
-                (self.states_below(tree, row), true)
-            }
+            _ if tree.is_compound_or_root(row) => self.initial_list(tree, row),
             _ => (Vec::new(), false),
         }
+    }
+
+    /// An initial list or none. Where a history can be named it mostly is, so that a third of all initial
+    /// lists name one.
+    fn initial_list(&mut self, tree: &Tree, owner: RowNumber) -> (Vec<RowNumber>, bool) {
+        let mut owners = tree.descendants(owner);
+        owners.insert(owner);
+        let has_history = owners.rows().any(|row| !tree.histories(row).is_empty());
+        if has_history && self.random.chance(LISTED_HISTORIES) {
+            return (self.list_with_history(tree, owner), true);
+        }
+        match self.random.chance(if has_history { 20 } else { 45 }) {
+            true => (self.states_below(tree, owner), true),
+            false => (Vec::new(), false),
+        }
+    }
+
+    /// The owner's own history, or one of a row below it, alone or beside rows of other regions.
+    fn list_with_history(&mut self, tree: &Tree, owner: RowNumber) -> Vec<RowNumber> {
+        let own = tree.histories(owner);
+        if !own.is_empty() && self.random.chance(35) {
+            return self.random.pick(own).into_iter().collect();
+        }
+        let mut list = Vec::new();
+        for _ in 0..HISTORY_TRIES {
+            list.clear();
+            self.pick_below(tree, owner, true, &mut list);
+            if list.iter().any(|&row| tree.is_history(row)) {
+                break;
+            }
+        }
+        self.random.shuffle(&mut list);
+        list
     }
 
     fn some_of(&mut self, rows: RowSet) -> Vec<RowNumber> {

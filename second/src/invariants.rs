@@ -5,7 +5,9 @@ use crate::compiled::CompiledChart;
 use crate::coverage::Coverage;
 use crate::legal::{is_legal, set_to_store};
 use crate::limits::QUEUE_NAMES;
-use crate::microstep::{add_default_entry, plan_entries, with_ancestors_below, EntryPlan, Step, TraceEntry};
+use crate::microstep::{
+    add_default_entry, fallen_histories, plan_entries, with_ancestors_below, EntryPlan, Step, TraceEntry,
+};
 use crate::names::done_name;
 use crate::numbers::{RowNumber, TransitionNumber, ROOT};
 use crate::random::Random;
@@ -166,30 +168,38 @@ impl Seen<'_> {
             let fallen = fallen.count();
             ensure(fallen <= 1, "an entered row has at most one default block")?;
             let both = fallen > 0 && step.entry.by_default.contains(row);
-            ensure(!both, "no row has both an initial and a default block")?;
+            let list = &self.compiled.chart.row(row).list;
+            let own_alone = list.len() == 1 && tree.histories(row).contains(&list[0]);
+            ensure(!both || own_alone, "an initial and a default block come by the row's own history alone")?;
         }
         ensure(step.entry.by_default.is_subset_of(&step.entry.rows), "only entered rows default")
     }
 
-    /// The rows to begin the closure with.
-    fn entry_seed(&self) -> RowSet {
+    /// The lists to begin the closure with, each with the row that it is below.
+    fn entry_lists(&self) -> Vec<(Vec<RowNumber>, RowNumber)> {
         if self.record.trigger == Trigger::Start {
-            let initial = RowSet::of(&self.compiled.default_entry_targets(ROOT));
-            return with_ancestors_below(self.compiled, ROOT, &initial);
+            return vec![(self.compiled.default_entry_targets(ROOT), ROOT)];
         }
+        self.with_targets().map(|(selected, domain)| (self.targets(selected).to_vec(), domain)).collect()
+    }
+
+    /// The rows and histories to begin the closure with.
+    fn entry_seed(&self) -> EntryPlan {
         let stored = StoredHistory(&self.step().stored);
-        self.with_targets().fold(RowSet::EMPTY, |seed, (selected, domain)| {
-            let targets = effective_targets(self.compiled, stored, self.targets(selected));
-            seed.union(&with_ancestors_below(self.compiled, domain, &targets))
-        })
+        let mut seed = EntryPlan::default();
+        for (targets, above) in self.entry_lists() {
+            let effective = effective_targets(self.compiled, stored, &targets);
+            seed.rows = seed.rows.union(&with_ancestors_below(self.compiled, above, &effective));
+            seed.fallen = seed.fallen.union(&fallen_histories(self.compiled, stored, &targets));
+        }
+        seed
     }
 
     /// "The entry closure does not depend on the order in which missing rows are added."
     fn closure_is_orderless(&self, random: &mut Random) -> Found {
-        let plan = EntryPlan { rows: self.entry_seed(), ..EntryPlan::default() };
-        let filled = fill_in_any_order(self.compiled, plan, random);
-        let same = filled.rows == self.step().entry.rows && filled.by_default == self.step().entry.by_default;
-        ensure(same, "the entry closure does not depend on the order")
+        let stored = StoredHistory(&self.step().stored);
+        let filled = fill_in_any_order(self.compiled, stored, self.entry_seed(), random);
+        ensure(filled == self.step().entry, "the entry closure does not depend on the order")
     }
 
     fn appendix_d_agrees(&self) -> Found {
@@ -300,6 +310,7 @@ impl Seen<'_> {
         self.count_round(coverage);
         self.count_selection(coverage);
         self.count_history(coverage);
+        self.count_listed_histories(coverage);
         self.count_entries(coverage);
     }
 
@@ -381,6 +392,27 @@ impl Seen<'_> {
         }
     }
 
+    /// The histories of initial lists by which a child came by default.
+    fn count_listed_histories(&self, coverage: &mut Coverage) {
+        let tree = &self.compiled.tree;
+        let step = self.step();
+        let at_start = RowSet::of(if self.record.trigger == Trigger::Start { &[ROOT] } else { &[] });
+        for owner in step.entry.by_default.union(&at_start).rows() {
+            let list = self.compiled.default_entry_targets(owner);
+            for history in list.into_iter().filter(|&row| tree.is_history(row)) {
+                let own = tree.anchor(history) == owner;
+                coverage.note(match (step.entry.fallen.contains(history), own) {
+                    (true, true) => "listed histories that fell, of the owner",
+                    (true, false) => "listed histories that fell, of a row below",
+                    (false, true) => "listed histories restored, of the owner",
+                    (false, false) => "listed histories restored, of a row below",
+                });
+                let moved = self.before.stored[history.0] != step.stored[history.0];
+                coverage.note_if("listed histories that the same round stored", moved);
+            }
+        }
+    }
+
     fn count_entries(&self, coverage: &mut Coverage) {
         let tree = &self.compiled.tree;
         coverage.add("rows entered by default", self.step().entry.by_default.len() as u64);
@@ -399,7 +431,12 @@ impl Seen<'_> {
 }
 
 /// Adds missing rows one at a time, any that is missing.
-fn fill_in_any_order(compiled: &CompiledChart, mut plan: EntryPlan, random: &mut Random) -> EntryPlan {
+fn fill_in_any_order(
+    compiled: &CompiledChart,
+    stored: StoredHistory,
+    mut plan: EntryPlan,
+    random: &mut Random,
+) -> EntryPlan {
     let tree = &compiled.tree;
     loop {
         let mut missing: Vec<(RowNumber, Option<RowNumber>)> = Vec::new();
@@ -414,7 +451,7 @@ fn fill_in_any_order(compiled: &CompiledChart, mut plan: EntryPlan, random: &mut
         match random.pick(&missing) {
             None => return plan,
             Some((_, Some(child))) => plan.rows.insert(child),
-            Some((row, None)) => add_default_entry(compiled, &mut plan, row),
+            Some((row, None)) => add_default_entry(compiled, stored, &mut plan, row),
         }
     }
 }

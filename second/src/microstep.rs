@@ -46,7 +46,7 @@ pub struct EntryPlan {
     pub rows: RowSet,
     /// The compound states whose child came by default.
     pub by_default: RowSet,
-    /// The targeted histories that fell to their default lists.
+    /// The histories, targeted or in an initial list, that fell to their default lists.
     pub fallen: RowSet,
 }
 
@@ -89,7 +89,7 @@ impl Step {
 
     /// "Start enters the root's initial targets as above".
     pub fn start(mut self, compiled: &CompiledChart) -> Step {
-        let plan = plan_start(compiled);
+        let plan = plan_start(compiled, StoredHistory(&self.stored));
         self.enter(compiled, plan);
         self
     }
@@ -211,19 +211,19 @@ pub fn plan_entries(compiled: &CompiledChart, stored: StoredHistory, kept: &[Sel
         plan.rows = plan.rows.union(&with_ancestors_below(compiled, domain, &effective));
         plan.fallen = plan.fallen.union(&fallen_histories(compiled, stored, targets));
     }
-    fill(compiled, &mut plan);
+    fill(compiled, stored, &mut plan);
     plan
 }
 
-/// The root counts as entered by default, with its initial targets.
-pub fn plan_start(compiled: &CompiledChart) -> EntryPlan {
-    let initial = RowSet::of(&compiled.default_entry_targets(ROOT));
-    let mut plan = EntryPlan { rows: with_ancestors_below(compiled, ROOT, &initial), ..EntryPlan::default() };
-    fill(compiled, &mut plan);
+/// The root counts as entered by default, with its initial targets; it has no block.
+pub fn plan_start(compiled: &CompiledChart, stored: StoredHistory) -> EntryPlan {
+    let mut plan = EntryPlan::default();
+    add_initial_targets(compiled, stored, &mut plan, ROOT);
+    fill(compiled, stored, &mut plan);
     plan
 }
 
-fn fallen_histories(compiled: &CompiledChart, stored: StoredHistory, targets: &[RowNumber]) -> RowSet {
+pub fn fallen_histories(compiled: &CompiledChart, stored: StoredHistory, targets: &[RowNumber]) -> RowSet {
     targets
         .iter()
         .copied()
@@ -244,11 +244,11 @@ pub fn with_ancestors_below(compiled: &CompiledChart, above: RowNumber, targets:
 
 /// "then, until nothing is missing, all children of an entered parallel, and for an entered
 /// compound state with no child in the set its initial targets and their ancestors below it."
-fn fill(compiled: &CompiledChart, plan: &mut EntryPlan) {
+fn fill(compiled: &CompiledChart, stored: StoredHistory, plan: &mut EntryPlan) {
     loop {
         let before = plan.rows;
         for row in before.rows() {
-            fill_row(compiled, plan, row);
+            fill_row(compiled, stored, plan, row);
         }
         if plan.rows == before {
             return;
@@ -256,18 +256,36 @@ fn fill(compiled: &CompiledChart, plan: &mut EntryPlan) {
     }
 }
 
-fn fill_row(compiled: &CompiledChart, plan: &mut EntryPlan, row: RowNumber) {
+fn fill_row(compiled: &CompiledChart, stored: StoredHistory, plan: &mut EntryPlan, row: RowNumber) {
     let children = compiled.tree.children(row);
     if compiled.tree.is_parallel(row) {
         plan.rows = plan.rows.union(&children);
     } else if compiled.tree.is_compound(row) && !children.meets(&plan.rows) {
-        add_default_entry(compiled, plan, row);
+        add_default_entry(compiled, stored, plan, row);
     }
 }
 
 /// The child of this compound state comes by default.
-pub fn add_default_entry(compiled: &CompiledChart, plan: &mut EntryPlan, row: RowNumber) {
-    let initial = RowSet::of(&compiled.default_entry_targets(row));
-    plan.rows = plan.rows.union(&with_ancestors_below(compiled, row, &initial));
+pub fn add_default_entry(
+    compiled: &CompiledChart,
+    stored: StoredHistory,
+    plan: &mut EntryPlan,
+    row: RowNumber,
+) {
+    add_initial_targets(compiled, stored, plan, row);
     plan.by_default.insert(row);
+}
+
+/// "its initial targets and their ancestors below it". Of a history in the list "its stored states stand
+/// in, else its default list" (R-3), by the history that targets are resolved by.
+fn add_initial_targets(
+    compiled: &CompiledChart,
+    stored: StoredHistory,
+    plan: &mut EntryPlan,
+    owner: RowNumber,
+) {
+    let initial = compiled.default_entry_targets(owner);
+    let effective = effective_targets(compiled, stored, &initial);
+    plan.rows = plan.rows.union(&with_ancestors_below(compiled, owner, &effective));
+    plan.fallen = plan.fallen.union(&fallen_histories(compiled, stored, &initial));
 }

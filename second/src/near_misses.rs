@@ -268,6 +268,7 @@ macro_rules! chart {
     };
 }
 
+mod listed_histories;
 mod spinning;
 
 /// Every kind of near miss that is refused.
@@ -276,12 +277,13 @@ pub fn all() -> Vec<NearMiss> {
         [sizes(), counts_past_limits(), numbers_out_of_range(), names(), tree(), lists()].concat();
     kinds.extend(transitions());
     kinds.extend(spinning::refused());
+    kinds.extend(listed_histories::refused());
     kinds
 }
 
 /// Every kind that comes next to a refused one and is accepted.
 pub fn accepted() -> Vec<NearMiss> {
-    spinning::accepted()
+    [spinning::accepted(), listed_histories::accepted()].concat()
 }
 
 fn sizes() -> Vec<NearMiss> {
@@ -729,11 +731,6 @@ fn lists() -> Vec<NearMiss> {
 
 fn initial_lists() -> Vec<NearMiss> {
     vec![
-        chart!("initial list holds a history", 4, |chart, tree, random| {
-            set_list(chart, tree, random, owns_initial_list, |tree, row| {
-                Some(vec![*tree.histories(row).first()?])
-            })
-        }),
         chart!("initial list holds its owner", 4, |chart, tree, random| {
             set_list(chart, tree, random, owns_initial_list, |_, row| Some(vec![row]))
         }),

@@ -225,12 +225,17 @@ fn row_list_is_good(chart: &Chart, tree: &Tree, number: RowNumber) -> bool {
     }
 }
 
-/// "Initial lists hold proper descendants of their owner and no history. An empty initial list
-/// means the first non-history child and its block must be empty".
+/// "Initial lists hold proper descendants of their owner", and each "may name a history whose parent is
+/// the owner or a descendant of it" (R-3). "An empty initial list means the first non-history child and
+/// its block must be empty".
 fn initial_list_is_good(chart: &Chart, tree: &Tree, owner: RowNumber) -> bool {
     let row = chart.row(owner);
     let below = tree.descendants(owner);
-    row.list.iter().all(|&target| below.contains(target))
+    let is_good = |&target: &RowNumber| match tree.is_history(target) {
+        true => tree.anchor(target) == owner || below.contains(tree.anchor(target)),
+        false => below.contains(target),
+    };
+    row.list.iter().all(is_good)
         && can_hold_together(tree, &row.list)
         && (!row.list.is_empty() || row.block.is_empty())
 }

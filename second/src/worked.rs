@@ -5,6 +5,7 @@ use crate::examples::Example;
 use crate::tables::Chart;
 
 mod choosers;
+mod listed_histories;
 mod spinning;
 
 /// A chart with its verdict and a line for each start and run: answer and rounds, the trace as kinds and
@@ -16,7 +17,8 @@ pub struct Worked {
 }
 
 pub fn all() -> Vec<Worked> {
-    choosers::all().into_iter().chain(spinning::all()).collect()
+    let lists = [choosers::all(), spinning::all(), listed_histories::all()];
+    lists.into_iter().flatten().collect()
 }
 
 fn accepted(name: &str, about: &str, chart: &Chart, calls: Vec<Call>, lines: &[&'static str]) -> Worked {
