@@ -1,6 +1,7 @@
 //! The great comparison: generated charts and call lists, with every invariant asserted in every
 //! round, and quick answers compared with slow ones.
 
+use crate::branches::conditions;
 use crate::brute;
 use crate::calls::Call;
 use crate::compiled::{compile, needed_place, CompiledChart, Places};
@@ -72,6 +73,7 @@ impl Trial {
         coverage.note_if("charts of 40 rows and more", self.chart.rows.len() >= 40);
         coverage.note_if("charts of more rows than a word has bits", self.chart.rows.len() >= LARGE);
         self.count_initial_lists(coverage);
+        self.count_blocks(coverage);
         let place = needed_place(&spelt.numbers).ok_or("a generated chart is too large")?;
         let places = compile(&spelt.numbers, &spelt.names, place)
             .map_err(|rule| format!("a generated chart breaks rule {rule}"))?;
@@ -88,6 +90,15 @@ impl Trial {
             coverage.note("initial lists");
             let names_history = row.list.iter().any(|&target| self.chart.kind(target).is_history());
             coverage.note_if("initial lists that name a history", names_history);
+        }
+    }
+
+    fn count_blocks(&self, coverage: &mut Coverage) {
+        let rows = self.chart.rows.iter().flat_map(|row| [&row.entry, &row.exit, &row.block]);
+        let blocks = rows.chain(self.chart.transitions.iter().map(|transition| &transition.block));
+        for block in blocks.filter(|block| !block.is_empty()) {
+            coverage.note("blocks");
+            coverage.note_if("blocks with an if", conditions(block).next().is_some());
         }
     }
 

@@ -160,7 +160,7 @@ fn regions(b: &mut Builder, parallel: &str, count: u64) -> String {
     ids.join(" ")
 }
 
-/// "0 to 4 descriptors", "0 to 8 targets", "A block has 0 to 8 actions".
+/// "0 to 4 descriptors", "0 to 8 targets", "at most 32 actions in a block".
 fn most_of_a_transition() -> Example {
     let mut b = Builder::new();
     b.state("", "z").parallel("", "p");
@@ -168,7 +168,7 @@ fn most_of_a_transition() -> Example {
     let block: Vec<Do> = (1..=MAX_ACTIONS_OF_BLOCK as u16).map(Do::Host).collect();
     b.on("z", "a b c d", &targets).doing(&block);
     let calls = vec![start(), post("d"), run(1)];
-    Example::of_chart("most_of_a_transition", "4 descriptors, 8 targets, 8 actions", &b.chart(), calls)
+    Example::of_chart("most_of_a_transition", "4 descriptors, 8 targets, 32 actions", &b.chart(), calls)
 }
 
 /// A list has no limit but the rows.

@@ -14,6 +14,10 @@ pub struct Builder {
 pub enum Do<'a> {
     Raise(&'a str),
     Host(u16),
+    If(&'a str),
+    ElseIf(&'a str),
+    Else,
+    End,
 }
 
 pub fn empty_row(kind: Kind, parent: Option<RowNumber>, id: Option<NameNumber>) -> Row {
@@ -62,6 +66,10 @@ impl Builder {
             .map(|action| match action {
                 Do::Raise(text) => Action::Raise(self.name(text)),
                 Do::Host(number) => Action::Host(*number),
+                Do::If(id) => Action::If(self.row(id)),
+                Do::ElseIf(id) => Action::ElseIf(self.row(id)),
+                Do::Else => Action::Else,
+                Do::End => Action::End,
             })
             .collect()
     }

@@ -62,7 +62,10 @@ pub fn agreement() -> Vec<Check> {
 }
 
 /// What a great run must have met, lest it prove little.
-const MUST_HAPPEN: [&str; 32] = [
+const MUST_HAPPEN: [&str; 35] = [
+    "blocks that no active row would decide otherwise",
+    "blocks that the configuration after the round would decide otherwise",
+    "blocks that the configuration before the round would decide otherwise",
     "candidates removed by conflicts",
     "charts of more rows than a word has bits",
     "closing rounds",

@@ -124,6 +124,10 @@ fn action_cells(action: Action) -> [u64; ACTION_CELLS] {
     match action {
         Action::Raise(name) => [0, name.0 as u64, 0, 0],
         Action::Host(number) => [1, u64::from(number), 0, 0],
+        Action::If(row) => [2, row.0 as u64, 0, 0],
+        Action::ElseIf(row) => [3, row.0 as u64, 0, 0],
+        Action::Else => [4, 0, 0, 0],
+        Action::End => [5, 0, 0, 0],
     }
 }
 

@@ -4,6 +4,7 @@
 use crate::builder::{empty_row, Builder};
 use crate::by_hand::NO_NAME_BYTES;
 use crate::examples::Example;
+use crate::limits::MAX_ACTIONS_OF_BLOCK;
 use crate::names::slot_of;
 use crate::numbers::{NameNumber, RowNumber, ROOT};
 use crate::tables::{Action, Chart, Kind};
@@ -73,7 +74,7 @@ fn sound() -> Chart {
 /// Breaks this rule and no other.
 fn break_rule(chart: &mut Chart, rule: u64) {
     match rule {
-        1 => chart.rows[2].entry = vec![Action::Host(1); 9],
+        1 => chart.rows[2].entry = vec![Action::Host(1); MAX_ACTIONS_OF_BLOCK as usize + 1],
         2 => chart.names.push(slot_of(b"a b")),
         3 => {
             chart.names.push(slot_of(b"h"));

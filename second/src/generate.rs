@@ -101,6 +101,10 @@ impl Flavour {
 const LISTED_HISTORIES: usize = 50;
 const HISTORY_TRIES: usize = 6;
 
+/// How often a block has an if, and how many actions one with many raises has.
+const BLOCKS_WITH_IF: usize = 25;
+const MANY_RAISES: usize = 8;
+
 /// The events of a generated chart are few, so that transitions meet them.
 const EVENTS: [&str; 9] = ["e", "f", "g", "e.x", "e.x.y", "f.z", "tick", "a-b_c.9", "7.up"];
 
@@ -316,9 +320,9 @@ impl Generator {
             let (list, listed) = self.list_for(tree, row);
             let may_act = row != ROOT && !tree.is_history(row);
             self.chart.rows[row.0].list = list;
-            self.chart.rows[row.0].entry = self.block_if(may_act);
-            self.chart.rows[row.0].exit = self.block_if(may_act);
-            self.chart.rows[row.0].block = self.block_if(listed && row != ROOT);
+            self.chart.rows[row.0].entry = self.block_if(may_act, row);
+            self.chart.rows[row.0].exit = self.block_if(may_act, row);
+            self.chart.rows[row.0].block = self.block_if(listed && row != ROOT, row);
         }
     }
 
@@ -437,15 +441,79 @@ impl Generator {
         list.extend(picked);
     }
 
-    fn block_if(&mut self, allowed: bool) -> Vec<Action> {
+    /// A block of this row, or of a transition from it.
+    fn block_if(&mut self, allowed: bool, row: RowNumber) -> Vec<Action> {
         if !allowed || !self.random.chance(self.flavour.blocks) {
             return Vec::new();
         }
+        if self.random.chance(BLOCKS_WITH_IF) {
+            return self.block_with_if(row);
+        }
         let count = match self.flavour.many_raises {
-            true => self.random.between(3, MAX_ACTIONS_OF_BLOCK as usize),
+            true => self.random.between(3, MANY_RAISES),
             false => self.random.between(1, 2),
         };
         (0..count).map(|_| self.action()).collect()
+    }
+
+    /// Mostly short, at times as long as may be.
+    fn block_with_if(&mut self, row: RowNumber) -> Vec<Action> {
+        let most = match self.random.below(12) {
+            0 => MAX_ACTIONS_OF_BLOCK as usize,
+            1..=3 => self.random.between(10, 20),
+            _ => self.random.between(3, 9),
+        };
+        let mut block = Vec::new();
+        if self.random.chance(30) {
+            block.push(self.action());
+        }
+        self.add_if(row, 1, most, &mut block);
+        self.add_statements(row, 0, most, &mut block);
+        block
+    }
+
+    /// Some statements more, while there are fewer actions than this; so many ifs are open.
+    fn add_statements(&mut self, row: RowNumber, open: usize, most: usize, block: &mut Vec<Action>) {
+        while block.len() < most && self.random.chance(65) {
+            let room = block.len() + 2 <= most && open < MAX_OPEN_IFS;
+            if room && self.random.chance(40) {
+                self.add_if(row, open + 1, most, block);
+            } else {
+                block.push(self.action());
+            }
+        }
+    }
+
+    /// An if with its end, with which so many are open; there is room for both.
+    fn add_if(&mut self, row: RowNumber, open: usize, most: usize, block: &mut Vec<Action>) {
+        let before_end = most - 1;
+        block.push(Action::If(self.asked_row(row)));
+        self.add_statements(row, open, before_end, block);
+        while block.len() < before_end && self.random.chance(35) {
+            block.push(Action::ElseIf(self.asked_row(row)));
+            self.add_statements(row, open, before_end, block);
+        }
+        if block.len() < before_end && self.random.chance(50) {
+            block.push(Action::Else);
+            self.add_statements(row, open, before_end, block);
+        }
+        block.push(Action::End);
+    }
+
+    /// A row to ask In of: often the row itself or one next to it, which come and go together.
+    fn asked_row(&mut self, row: RowNumber) -> RowNumber {
+        let chart = &self.chart;
+        let is_real =
+            |&other: &RowNumber| matches!(chart.kind(other), Kind::State | Kind::Parallel | Kind::Final);
+        let parent = chart.row(row).parent;
+        let is_near = |&other: &RowNumber| {
+            let above = chart.row(other).parent;
+            other == row || Some(other) == parent || above == parent || above == Some(row)
+        };
+        let real: Vec<RowNumber> = chart.row_numbers().filter(is_real).collect();
+        let near: Vec<RowNumber> = real.iter().copied().filter(is_near).collect();
+        let asked = if self.random.chance(60) { self.random.pick(&near) } else { None };
+        asked.or_else(|| self.random.pick(&real)).expect("the root has a child")
     }
 
     fn action(&mut self) -> Action {
@@ -498,7 +566,7 @@ impl Generator {
                 false => TransitionType::External,
             },
             targets,
-            block: self.block_if(true),
+            block: self.block_if(true, source),
         }
     }
 

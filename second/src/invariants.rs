@@ -1,6 +1,7 @@
 //! What must hold of every round, asserted in every round that is tried.
 
 use crate::appendix_d::{compute_entry_set, compute_start_set, Literally};
+use crate::branches::conditions;
 use crate::compiled::CompiledChart;
 use crate::coverage::Coverage;
 use crate::legal::{is_legal, set_to_store};
@@ -8,6 +9,7 @@ use crate::limits::QUEUE_NAMES;
 use crate::microstep::{
     add_default_entry, fallen_histories, plan_entries, with_ancestors_below, EntryPlan, Step, TraceEntry,
 };
+use crate::moments::Moments;
 use crate::names::done_name;
 use crate::numbers::{RowNumber, TransitionNumber, ROOT};
 use crate::random::Random;
@@ -227,9 +229,15 @@ impl Seen<'_> {
             matches!(entry, TraceEntry::Transition(_)) == chooser_behind
         });
         ensure(followed, "who chose a transition comes directly after it")?;
+        let expected = self.moments().trace(self.kept());
+        ensure(step.trace == expected, "every block reads the configuration of its moment")?;
         let silent = step.trace.is_empty() && step.queued.is_empty();
         ensure(!self.kept().is_empty() || self.is_special() || silent, "a drop is silent")?;
         self.queued_is_right()
+    }
+
+    fn moments(&self) -> Moments<'_> {
+        Moments { compiled: self.compiled, before: &self.before.configuration, step: self.step() }
     }
 
     /// A done event comes at most once a row; every raise and done event is queued, in order.
@@ -312,6 +320,27 @@ impl Seen<'_> {
         self.count_history(coverage);
         self.count_listed_histories(coverage);
         self.count_entries(coverage);
+        self.count_blocks(coverage);
+    }
+
+    /// Blocks with conditions, and those that another moment would decide otherwise.
+    fn count_blocks(&self, coverage: &mut Coverage) {
+        let (before, after) = (&self.before.configuration, &self.step().configuration);
+        for (block, active) in self.moments().blocks(self.kept()) {
+            coverage.note_if("blocks run", !block.is_empty());
+            if conditions(block).next().is_none() {
+                continue;
+            }
+            coverage.note("blocks run that have conditions");
+            let others = [
+                ("blocks that the configuration before the round would decide otherwise", before),
+                ("blocks that the configuration after the round would decide otherwise", after),
+                ("blocks that no active row would decide otherwise", &RowSet::EMPTY),
+            ];
+            for (what, other) in others {
+                coverage.note_if(what, Moments::tells_apart(block, &active, other));
+            }
+        }
     }
 
     fn count_round(&self, coverage: &mut Coverage) {

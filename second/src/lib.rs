@@ -4,6 +4,7 @@
 pub mod agreement;
 pub mod appendix_d;
 pub mod at_limits;
+pub mod branches;
 pub mod brute;
 pub mod builder;
 pub mod by_hand;
@@ -23,6 +24,7 @@ pub mod invariants;
 pub mod legal;
 pub mod limits;
 pub mod microstep;
+pub mod moments;
 pub mod names;
 pub mod near_misses;
 pub mod numbers;

@@ -1,5 +1,5 @@
 //! Every limit, in one place, so that a larger chart is a change of this file. Document 01 has them but
-//! for the first three, which are request R-8's.
+//! for the first three, which are request R-8's, and those of blocks, which are R-5's.
 
 /// "Raise rows to 256, transitions to 512 and name slots to 768."
 pub const MAX_ROWS: u64 = 256;
@@ -9,8 +9,10 @@ pub const MAX_SLOTS: u64 = 768;
 pub const MAX_DESCRIPTORS_OF_TRANSITION: u64 = 4;
 /// "0 to 8 targets".
 pub const MAX_TARGETS_OF_TRANSITION: u64 = 8;
-/// "A block has 0 to 8 actions".
-pub const MAX_ACTIONS_OF_BLOCK: u64 = 8;
+/// "at most 32 actions in a block, these and the end of an if included".
+pub const MAX_ACTIONS_OF_BLOCK: u64 = 32;
+/// "nested at most four deep".
+pub const MAX_OPEN_IFS: usize = 4;
 /// Entry, exit and the block of the list: a row has three blocks.
 pub const BLOCKS_OF_ROW: u64 = 3;
 

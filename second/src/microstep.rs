@@ -1,6 +1,7 @@
 //! Taking the kept transitions of one round: exits, transition blocks, entries. Nothing here
 //! refuses; the round is worked out to its end and judged by the session afterwards.
 
+use crate::branches::{done, parse};
 use crate::compiled::CompiledChart;
 use crate::legal::set_to_store;
 use crate::names::done_name;
@@ -131,14 +132,17 @@ impl Step {
         }
     }
 
+    /// "In reads the configuration at that moment", which no action of the block moves.
     fn run_block(&mut self, compiled: &CompiledChart, block: &[Action]) {
-        for &action in block {
+        let statements = parse(block).expect("rule 5 is kept");
+        for action in done(&statements, &self.configuration) {
             match action {
                 Action::Raise(name) => {
                     self.trace.push(TraceEntry::Raised(name));
                     self.queued.push(compiled.chart.name(name).to_vec());
                 }
                 Action::Host(number) => self.trace.push(TraceEntry::Host(number)),
+                _ => unreachable!("only raises and host actions are done"),
             }
         }
     }

@@ -268,6 +268,7 @@ macro_rules! chart {
     };
 }
 
+mod branches;
 mod listed_histories;
 mod spinning;
 
@@ -278,12 +279,13 @@ pub fn all() -> Vec<NearMiss> {
     kinds.extend(transitions());
     kinds.extend(spinning::refused());
     kinds.extend(listed_histories::refused());
+    kinds.extend(branches::refused());
     kinds
 }
 
 /// Every kind that comes next to a refused one and is accepted.
 pub fn accepted() -> Vec<NearMiss> {
-    [spinning::accepted(), listed_histories::accepted()].concat()
+    [spinning::accepted(), listed_histories::accepted(), branches::accepted()].concat()
 }
 
 fn sizes() -> Vec<NearMiss> {
@@ -390,24 +392,25 @@ fn counts_past_limits() -> Vec<NearMiss> {
         tables!("one action too many", 1, |lent, _| {
             lent.lengthen(Table::Actions, MAX_ACTIONS + 1, &[0; ACTION_CELLS])
         }),
-        chart!("nine actions on entry", 1, |chart, _, random| {
+        chart!("thirty-three actions on entry", 1, |chart, _, random| {
             let row = random.between(1, chart.rows.len() - 1);
-            chart.rows[row].entry = vec![Action::Host(1); 9];
+            chart.rows[row].entry = vec![Action::Host(1); MAX_ACTIONS_OF_BLOCK as usize + 1];
             Some(())
         }),
-        chart!("nine actions on exit", 1, |chart, _, random| {
+        chart!("thirty-three actions on exit", 1, |chart, _, random| {
             let row = random.between(1, chart.rows.len() - 1);
-            chart.rows[row].exit = vec![Action::Host(1); 9];
+            chart.rows[row].exit = vec![Action::Host(1); MAX_ACTIONS_OF_BLOCK as usize + 1];
             Some(())
         }),
-        chart!("nine actions of a list", 1, |chart, _, random| {
+        chart!("thirty-three actions of a list", 1, |chart, _, random| {
             let row = random.between(1, chart.rows.len() - 1);
-            chart.rows[row].block = vec![Action::Host(1); 9];
+            chart.rows[row].block = vec![Action::Host(1); MAX_ACTIONS_OF_BLOCK as usize + 1];
             Some(())
         }),
-        chart!("nine actions of a transition", 1, |chart, _, random| {
+        chart!("thirty-three actions of a transition", 1, |chart, _, random| {
             let last = chart.transitions.len().checked_sub(1)?;
-            chart.transitions[random.between(0, last)].block = vec![Action::Host(1); 9];
+            chart.transitions[random.between(0, last)].block =
+                vec![Action::Host(1); MAX_ACTIONS_OF_BLOCK as usize + 1];
             Some(())
         }),
         chart!("five descriptors", 1, |chart, _, random| {
@@ -502,7 +505,7 @@ fn numbers_out_of_range() -> Vec<NearMiss> {
             let lines = lent.counts().descriptors as u64 + 1;
             lent.lengthen(Table::Descriptors, lines, &[slots])
         }),
-        tables!("action 2", 1, |lent, random| lent.set_in_some(random, Table::Actions, 0, 2)),
+        tables!("action 6", 1, |lent, random| lent.set_in_some(random, Table::Actions, 0, 6)),
         tables!("unused raise past the slots", 1, |lent, _| {
             let slots = lent.counts().slots as u64;
             let lines = lent.counts().actions as u64 + 1;

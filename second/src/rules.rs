@@ -1,6 +1,7 @@
 //! "Which charts are well formed": rules 1 to 5, "checked in that order over the whole chart; the
 //! first rule broken gives the number."
 
+use crate::branches::{conditions, parse};
 use crate::limits::*;
 use crate::names::{slot_holds_descriptor, slot_holds_id, slot_holds_name};
 use crate::numbers::{RowNumber, ROOT};
@@ -32,7 +33,7 @@ pub fn judge(numbers: &[u64], names: &[u8], place: Place) -> Result<(Chart, Tree
     if !lists_are_good(&chart, &tree) {
         return Err(4);
     }
-    if !transitions_are_good(&chart, &tree) {
+    if !transitions_are_good(&chart, &tree) || !blocks_are_good(&chart, &tree) {
         return Err(5);
     }
     Ok((chart, tree))
@@ -96,6 +97,8 @@ fn action_is_sized(tables: &Tables, action: RawAction) -> bool {
     let argument_fits = match action.what {
         0 => action.argument < tables.counts.slots as u64,
         1 => action.argument <= MAX_HOST_ACTION,
+        2 | 3 => action.argument < tables.counts.rows as u64,
+        4 | 5 => action.argument == 0,
         _ => false,
     };
     argument_fits && action.delay == 0 && action.send_id == 0
@@ -114,7 +117,7 @@ fn names_are_good(tables: &Tables, chart: &Chart) -> bool {
 fn raise_is_good(chart: &Chart, action: Action) -> bool {
     match action {
         Action::Raise(name) => slot_holds_name(&chart.names[name.0]),
-        Action::Host(_) => true,
+        _ => true,
     }
 }
 
@@ -262,6 +265,14 @@ fn spins(transition: &crate::tables::Transition) -> bool {
     transition.descriptors.is_empty()
         && (transition.targets.is_empty()
             || (transition.condition.is_none() && transition.targets.contains(&transition.source)))
+}
+
+/// Each block by itself, with the structure of R-5; "In names a state, parallel or final" of its
+/// conditions too.
+fn blocks_are_good(chart: &Chart, tree: &Tree) -> bool {
+    let rows = chart.rows.iter().flat_map(|row| [&row.entry, &row.exit, &row.block]);
+    let mut blocks = rows.chain(chart.transitions.iter().map(|transition| &transition.block));
+    blocks.all(|block| parse(block).is_some() && conditions(block).all(|row| tree.is_real_state(row)))
 }
 
 /// "no source number is below the one before it; the source is a state or parallel; at least one

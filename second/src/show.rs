@@ -16,6 +16,10 @@ fn block(chart: &Chart, actions: &[Action]) -> String {
     let one = |action: &Action| match action {
         Action::Raise(name) => format!("raise {}", text(chart.name(*name))),
         Action::Host(number) => format!("host {number}"),
+        Action::If(row) => format!("if In({})", row.0),
+        Action::ElseIf(row) => format!("elseif In({})", row.0),
+        Action::Else => "else".to_string(),
+        Action::End => "end".to_string(),
     };
     actions.iter().map(one).collect::<Vec<_>>().join(", ")
 }

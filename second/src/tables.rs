@@ -37,11 +37,16 @@ pub enum TransitionType {
     Internal,
 }
 
-/// "raise a named event, or host action 0 to 65,535".
+/// "raise a named event, or host action 0 to 65,535", and those of R-5: if and elseif "with In as the
+/// condition", else, and the end of an if.
 #[derive(Clone, Copy, PartialEq, Eq, Debug)]
 pub enum Action {
     Raise(NameNumber),
     Host(u16),
+    If(RowNumber),
+    ElseIf(RowNumber),
+    Else,
+    End,
 }
 
 #[derive(Clone, PartialEq, Eq, Debug)]
@@ -355,7 +360,11 @@ impl<'a> Tables<'a> {
         let raw = self.action(action);
         match raw.what {
             0 => Action::Raise(NameNumber(raw.argument as usize)),
-            _ => Action::Host(raw.argument as u16),
+            1 => Action::Host(raw.argument as u16),
+            2 => Action::If(RowNumber(raw.argument as usize)),
+            3 => Action::ElseIf(RowNumber(raw.argument as usize)),
+            4 => Action::Else,
+            _ => Action::End,
         }
     }
 

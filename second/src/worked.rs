@@ -4,6 +4,7 @@ use crate::calls::{Call, Dump};
 use crate::examples::Example;
 use crate::tables::Chart;
 
+mod branches;
 mod choosers;
 mod listed_histories;
 mod spinning;
@@ -17,7 +18,7 @@ pub struct Worked {
 }
 
 pub fn all() -> Vec<Worked> {
-    let lists = [choosers::all(), spinning::all(), listed_histories::all()];
+    let lists = [choosers::all(), spinning::all(), listed_histories::all(), branches::all()];
     lists.into_iter().flatten().collect()
 }
 

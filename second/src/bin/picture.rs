@@ -75,6 +75,12 @@ impl Picture {
                 format!("raise {}", String::from_utf8_lossy(self.compiled.chart.name(*name)))
             }
             Action::Host(number) => format!("host {number}"),
+            Action::If(row) => format!("if In({})", String::from_utf8_lossy(self.compiled.chart.id(*row))),
+            Action::ElseIf(row) => {
+                format!("elseif In({})", String::from_utf8_lossy(self.compiled.chart.id(*row)))
+            }
+            Action::Else => "else".to_string(),
+            Action::End => "end".to_string(),
         }
     }
 

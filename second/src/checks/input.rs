@@ -89,7 +89,7 @@ fn repeated_numbers() -> Found {
 const LIMITS: [u64; 6] = [MAX_ROWS, MAX_TRANSITIONS, MAX_REFERENCES, MAX_DESCRIPTORS, MAX_ACTIONS, MAX_SLOTS];
 
 fn counts_past_limits() -> Found {
-    ensure(LIMITS == [256, 512, 69_632, 2_048, 10_240, 768], "the limits are those of R-8")?;
+    ensure(LIMITS == [256, 512, 69_632, 2_048, 40_960, 768], "the limits are those of R-8 and R-5")?;
     let good = encode_plainly(&sample());
     for (count, limit) in LIMITS.iter().enumerate() {
         let mut header = good.numbers[..6].to_vec();
@@ -321,7 +321,8 @@ fn most_targets() -> Found {
         b.on("p", "e", &ids.join(" "));
         expect(&b.chart(), rule, "targets")?;
         let mut chart = state_rows(2);
-        chart.rows[1].entry = vec![Action::Host(1); count];
+        let actions = MAX_ACTIONS_OF_BLOCK as usize + count - MAX_TARGETS_OF_TRANSITION as usize;
+        chart.rows[1].entry = vec![Action::Host(1); actions];
         expect(&chart, rule, "actions")?;
         let mut b = Builder::new();
         b.state("", "s").on("s", &vec!["e"; count / 2 + count % 2].join(" "), "");

@@ -55,6 +55,8 @@ enum Open {
         has_default: bool,
     },
     Block(Block),
+    /// An if in that block: its actions go there, and at its end tag an end.
+    If(Block),
     /// It holds nothing that the tables keep.
     Other,
 }
@@ -76,6 +78,9 @@ impl<'a> Build<'a> {
                     self.open.push(opened);
                 }
                 Mark::Close => {
+                    if let Some(Open::If(_)) = self.open.last() {
+                        self.add_action(Action::End);
+                    }
                     self.open.pop();
                 }
             }
@@ -105,12 +110,15 @@ impl<'a> Build<'a> {
             Element::Transition => self.add_transition(row, tag),
             Element::Onentry => Open::Block(Block::Entry(row)),
             Element::Onexit => Open::Block(Block::Exit(row)),
-            Element::Raise | Element::Log => {
+            Element::Raise | Element::Log | Element::If | Element::Elseif | Element::Else => {
                 let action = self.action(tag);
-                self.add_action(action);
-                Open::Other
+                let block = self.add_action(action);
+                match action {
+                    Action::If(_) => Open::If(block),
+                    _ => Open::Other,
+                }
             }
-            Element::If | Element::Elseif | Element::Else | Element::Send | Element::Cancel => {
+            Element::Send | Element::Cancel => {
                 unreachable!("the tables have no such action yet, and the scanner is not told of it")
             }
         }
@@ -177,6 +185,9 @@ impl<'a> Build<'a> {
     fn action(&mut self, tag: &Tag) -> Action {
         match tag.element {
             Element::Raise => Action::Raise(self.names(tag, Name::Event)[0]),
+            Element::If => Action::If(self.condition(tag).expect("the attribute is required")),
+            Element::Elseif => Action::ElseIf(self.condition(tag).expect("the attribute is required")),
+            Element::Else => Action::Else,
             _ => {
                 let value = attribute(self.text, b"", tag, Name::Label, 0..0);
                 Action::Host(label(value).expect("the value was judged"))
@@ -184,16 +195,19 @@ impl<'a> Build<'a> {
         }
     }
 
-    /// "Several onentry (or onexit) elements of one row join into one block."
-    fn add_action(&mut self, action: Action) {
-        let Some(Open::Block(block)) = self.open.last() else { unreachable!("actions stand in blocks") };
-        let actions = match *block {
+    /// "Several onentry (or onexit) elements of one row join into one block." The block it went to.
+    fn add_action(&mut self, action: Action) -> Block {
+        let Some(Open::Block(block) | Open::If(block)) = self.open.last().copied() else {
+            unreachable!("actions stand in blocks")
+        };
+        let actions = match block {
             Block::Entry(row) => &mut self.chart.rows[row.0].entry,
             Block::Exit(row) => &mut self.chart.rows[row.0].exit,
             Block::List(row) => &mut self.chart.rows[row.0].block,
             Block::Of(transition) => &mut self.chart.transitions[transition.0].block,
         };
         actions.push(action);
+        block
     }
 
     fn items(&self, tag: &Tag, name: Name) -> Vec<&'a [u8]> {

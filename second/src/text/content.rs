@@ -87,6 +87,6 @@ pub fn with_other_slots(chart: &Chart, random: &mut Random, most: usize) -> Char
 fn raised(action: &mut Action) -> Option<&mut NameNumber> {
     match action {
         Action::Raise(name) => Some(name),
-        Action::Host(_) => None,
+        _ => None,
     }
 }

@@ -30,7 +30,7 @@ pub enum Element {
 
 /// The actions that the reader takes, and those of all requests. An action of a later one is 12 until it
 /// joins the first list, and `build.rs` and `write.rs` learn it.
-pub const KNOWN: &[Element] = &[Element::Raise, Element::Log];
+pub const KNOWN: &[Element] = &[Element::Raise, Element::Log, Element::If, Element::Elseif, Element::Else];
 pub const ALL: &[Element] = &[
     Element::Raise,
     Element::Log,

@@ -2,6 +2,7 @@
 //! of attributes and of an element's parts, entities, defaults stated or not.
 
 use super::values::{NAMESPACE, VERSION};
+use crate::branches::{parse, Branch, Statement};
 use crate::numbers::{NameNumber, RowNumber, ROOT};
 use crate::random::Random;
 use crate::tables::{Action, Chart, Kind, Transition, TransitionType};
@@ -197,15 +198,16 @@ impl Speller<'_> {
         (word, given)
     }
 
-    /// One block as several elements, and elements with nothing in them.
+    /// One block as several elements, none of which cuts an if, and elements with nothing in them.
     fn blocks(&mut self, word: &str, block: &[Action]) -> Vec<String> {
         let mut elements = Vec::new();
-        let mut rest = block;
+        let statements = parse(block).expect("rule 5 is kept");
+        let mut rest = &statements[..];
         while !rest.is_empty() || self.fancy() {
             let most = rest.len();
             let count = if self.fancy() { self.random.between(0, most) } else { most };
             let (now, later) = rest.split_at(count);
-            let actions = self.actions(now);
+            let actions = self.statements(now);
             elements.push(self.element(word, Vec::new(), actions));
             rest = later;
         }
@@ -252,9 +254,7 @@ impl Speller<'_> {
             let names = transition.descriptors.iter().map(|&name| self.name(name)).collect();
             given.push(list("event", names));
         }
-        if let Some(row) = transition.condition {
-            given.push(one("cond", format!("In('{}')", self.id(row))));
-        }
+        given.extend(self.cond(transition.condition));
         if !transition.targets.is_empty() {
             given.push(list("target", self.ids(&transition.targets)));
         }
@@ -263,7 +263,36 @@ impl Speller<'_> {
     }
 
     fn actions(&mut self, block: &[Action]) -> Vec<String> {
-        block.iter().map(|&action| self.action(action)).collect()
+        self.statements(&parse(block).expect("rule 5 is kept"))
+    }
+
+    fn statements(&mut self, statements: &[Statement]) -> Vec<String> {
+        let mut parts = Vec::new();
+        for statement in statements {
+            parts.push(match statement {
+                Statement::Act(action) => self.action(*action),
+                Statement::If(branches) => self.branches(branches),
+            });
+        }
+        parts
+    }
+
+    fn branches(&mut self, branches: &[Branch]) -> String {
+        let mut parts = Vec::new();
+        for (place, branch) in branches.iter().enumerate() {
+            if place > 0 {
+                let word = if branch.condition.is_some() { "elseif" } else { "else" };
+                let given = self.cond(branch.condition);
+                parts.push(self.element(word, given, Vec::new()));
+            }
+            parts.extend(self.statements(&branch.body));
+        }
+        let given = self.cond(branches[0].condition);
+        self.element("if", given, parts)
+    }
+
+    fn cond(&self, condition: Option<RowNumber>) -> Vec<Given> {
+        condition.into_iter().map(|row| one("cond", format!("In('{}')", self.id(row)))).collect()
     }
 
     fn action(&mut self, action: Action) -> String {
@@ -276,6 +305,7 @@ impl Speller<'_> {
                 let zeros = if self.fancy() { "000" } else { "" };
                 self.element("log", vec![one("label", format!("{zeros}{number}"))], Vec::new())
             }
+            _ => unreachable!("the others make statements"),
         }
     }
 }

@@ -2,6 +2,7 @@
 
 use super::recogniser::MAX_TEXT;
 use super::values::{NAMESPACE, VERSION};
+use crate::branches::{parse, Branch, Statement};
 use crate::compiled::needed_place;
 use crate::numbers::{NameNumber, RowNumber, ROOT};
 use crate::rules::judge;
@@ -120,9 +121,7 @@ impl Writer<'_> {
         if !transition.descriptors.is_empty() {
             attributes.push(("event", self.names(&transition.descriptors)));
         }
-        if let Some(row) = transition.condition {
-            attributes.push(("cond", format!("In('{}')", self.id(row))));
-        }
+        attributes.extend(self.cond(transition.condition));
         if !transition.targets.is_empty() {
             attributes.push(("target", self.ids(&transition.targets)));
         }
@@ -137,13 +136,38 @@ impl Writer<'_> {
     }
 
     fn actions(&self, block: &[Action]) -> String {
-        block.iter().map(|&action| self.action(action)).collect()
+        self.statements(&parse(block).expect("rule 5 is kept"))
+    }
+
+    fn statements(&self, statements: &[Statement]) -> String {
+        let spelt = statements.iter().map(|statement| match statement {
+            Statement::Act(action) => self.action(*action),
+            Statement::If(branches) => self.branches(branches),
+        });
+        spelt.collect()
+    }
+
+    /// An if; each branch behind the first stands behind its own elseif or else.
+    fn branches(&self, branches: &[Branch]) -> String {
+        let (first, others) = branches.split_first().expect("an if has a branch");
+        let mut inside = self.statements(&first.body);
+        for branch in others {
+            let word = if branch.condition.is_some() { "elseif" } else { "else" };
+            inside += &element(word, &self.cond(branch.condition), "");
+            inside += &self.statements(&branch.body);
+        }
+        element("if", &self.cond(first.condition), &inside)
+    }
+
+    fn cond(&self, condition: Option<RowNumber>) -> Attributes<'static> {
+        condition.into_iter().map(|row| ("cond", format!("In('{}')", self.id(row)))).collect()
     }
 
     fn action(&self, action: Action) -> String {
         let (word, attribute) = match action {
             Action::Raise(name) => ("raise", ("event", self.names(&[name]))),
             Action::Host(number) => ("log", ("label", number.to_string())),
+            _ => unreachable!("the others make statements"),
         };
         element(word, &vec![attribute], "")
     }

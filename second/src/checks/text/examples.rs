@@ -166,8 +166,6 @@ pub const EXAMPLES: &[(&str, &[(u64, &str)])] = &[
         (12, r#"<s¦tate id="a"/>"#),
     ]),
     ("H elements of later requests", &[
-        (12, r#"<scxml><state id="a"><onentry><¦if cond="In('a')"/></onentry></state></scxml>"#),
-        (12, r#"<scxml><state id="a"><onentry><¦else/></onentry></state></scxml>"#),
         (12, r#"<scxml><state id="a"><onentry><¦send event="e"/></onentry></state></scxml>"#),
         (12, r#"<scxml><state id="a"><onentry><¦cancel sendid="e"/></onentry></state></scxml>"#),
     ]),
@@ -344,6 +342,21 @@ pub const EXAMPLES: &[(&str, &[(u64, &str)])] = &[
         (0, r#"<scxml><state id="a"><transition event="e" target="a"/></state></scxml>"#),
         (5, r#"<scxml><state id="a"><transition cond="In('a')"/></state></scxml>"#),
         (0, r#"<scxml><state id="a"><transition cond="In('a')" target="a"/></state></scxml>"#),
+    ]),
+    ("if, elseif and else", &[
+        (0, r#"<scxml><state id="a"><onentry><if cond="In('a')"/></onentry></state></scxml>"#),
+        (0, r#"<scxml><state id="a"><onexit><if cond="In('a')"><raise event="e"/><elseif cond="In('a')"/><log label="1"/><else/><if cond='In(&apos;a&apos;)'></if></if></onexit></state></scxml>"#),
+        (0, r#"<scxml><state id="a"><onentry><if cond="In('a')"><if cond="In('a')"><if cond="In('a')"><if cond="In('a')"/></if></if></if></onentry></state></scxml>"#),
+        (5, r#"<scxml><state id="a"><onentry><if cond="In('a')"><if cond="In('a')"><if cond="In('a')"><if cond="In('a')"><if cond="In('a')"/></if></if></if></if></onentry></state></scxml>"#),
+        (5, r#"<scxml><state id="a"><onentry><else/></onentry></state></scxml>"#),
+        (5, r#"<scxml><state id="a"><onentry><elseif cond="In('a')"/></onentry></state></scxml>"#),
+        (5, r#"<scxml><state id="a"><onentry><if cond="In('a')"><else/><else/></if></onentry></state></scxml>"#),
+        (5, r#"<scxml><state id="a"><onentry><if cond="In('a')"><else/><elseif cond="In('a')"/></if></onentry></state></scxml>"#),
+        (5, r#"<scxml><state id="a"><onentry><if cond="In('h')"/></onentry><state id="b"/><history id="h"><transition target="b"/></history></state></scxml>"#),
+        (12, r#"<scxml><state id="a"><onentry><if¦/></onentry></state></scxml>"#),
+        (12, r#"<scxml><state id="a"><onentry><if cond="In('¦nix')"/></onentry></state></scxml>"#),
+        (12, r#"<scxml><state id="a"><onentry><elseif cond="In('a')"><¦raise event="e"/></elseif></onentry></state></scxml>"#),
+        (12, r#"<scxml><state id="a"><i¦f cond="In('a')"/></state></scxml>"#),
     ]),
 ];
 
