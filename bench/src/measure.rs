@@ -8,7 +8,7 @@ use crate::engine::{Ran, Session};
 use std::hint::black_box;
 
 /// No round of the charts measured here writes more.
-pub const MOST_ENTRIES_A_ROUND: usize = 64;
+pub const MOST_ENTRIES_A_ROUND: usize = 96;
 
 /// What was measured: nanoseconds for each round or call, and how many times longer the first
 /// contender takes.

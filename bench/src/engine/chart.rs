@@ -81,6 +81,8 @@ pub struct Index {
     pub eventless: RowSet,
     /// The rows that have one with a descriptor.
     pub by_event: RowSet,
+    /// Whether some action is an if, elseif, else or end.
+    pub branches: bool,
     /// The transitions of row i are those from number i on to number i + 1.
     first_transition: [u16; MOST_ROWS + 1],
     spellings: Spellings,
@@ -95,6 +97,7 @@ impl Index {
         kinds: Kinds::NONE,
         eventless: RowSet::EMPTY,
         by_event: RowSet::EMPTY,
+        branches: false,
         first_transition: [0; MOST_ROWS + 1],
         spellings: NO_SPELLINGS,
     };
@@ -148,10 +151,12 @@ impl<'a> Chart<'a> {
         let (children, sets) = sets.split_at(rows);
         let (defaults, anchors) = sets.split_at(rows);
         let sets = Sets { ancestors, descendants, children };
+        index.branches = rules::has_branches(&tables);
         let known = rules::is_sized(&tables)
             && rules::is_named(&tables, &mut index.spellings)
             && tree::is_tree_of(&tables, sets)
-            && rules::transitions_fit(&tables);
+            && rules::transitions_fit(&tables)
+            && (!index.branches || rules::blocks_fit(&tables));
         if !known {
             return None;
         }
@@ -221,6 +226,24 @@ impl<'a> Chart<'a> {
             SHALLOW => self.children(parent) & configuration,
             _ => self.descendants(parent) & configuration & self.kinds().atomic,
         }
+    }
+
+    /// Rows with what histories among them stand for: what they have stored, else their default lists.
+    /// And those that fell to these.
+    pub fn resolved(&self, rows: RowSet, stored: impl Fn(usize) -> RowSet) -> (RowSet, RowSet) {
+        let histories = rows & self.kinds().histories;
+        let mut effective = rows - histories;
+        let mut fallen = RowSet::EMPTY;
+        for history in histories.rows() {
+            effective |= match stored(history) {
+                RowSet::EMPTY => {
+                    fallen.insert(history);
+                    self.tables.listed(self.tables.row(history).list()).collect()
+                }
+                remembered => remembered,
+            };
+        }
+        (effective, fallen)
     }
 
     /// The rows and their ancestors below another one.

@@ -7,7 +7,9 @@ pub const MOST_TRANSITIONS: usize = 512;
 pub const MOST_NAMES: usize = 768;
 pub const MOST_DESCRIPTORS_EACH: u64 = 4;
 pub const MOST_TARGETS_EACH: u64 = 8;
-pub const MOST_ACTIONS_EACH: u64 = 8;
+pub const MOST_ACTIONS_EACH: u64 = 32;
+/// Ifs that are open at once in a block.
+pub const MOST_OPEN_IFS: u32 = 4;
 
 /// The other tables have room for every chart within these: a list and three blocks of each row, and
 /// what each transition has.

@@ -3,16 +3,17 @@
 use super::chart::Chart;
 use super::limits::QUEUE_NAMES;
 use super::row_set::RowSet;
-use super::selection::{effective_targets, Selection};
+use super::selection::Selection;
 use super::session::Session;
-use super::tables::{Part, ROOT};
+use super::tables::{Part, ELSE, ELSE_IF, END, IF, RAISE, ROOT};
 
 const EXITED: u32 = 1 << 16;
 const TRANSITION: u32 = 2 << 16;
 const ENTERED: u32 = 3 << 16;
-const HOST: u32 = 4 << 16;
+const HOST_ACTION: u32 = 4 << 16;
 const RAISED: u32 = 5 << 16;
 const DONE: u32 = 6 << 16;
+const CHOOSER: u32 = 7 << 16;
 
 /// Rounds of so many entries are drafted; a longer one is worked out again where it is to stand.
 pub const DRAFT: usize = 512;
@@ -35,6 +36,16 @@ pub struct Round<'a> {
 pub enum Queued {
     Raised(usize),
     DoneOf(usize),
+}
+
+/// What becomes of an action in a block with branches.
+#[derive(Clone, Copy)]
+enum Turn {
+    Done,
+    /// A branch of the if is still to be found.
+    Sought,
+    /// One was done: the rest of the if is not.
+    Past,
 }
 
 impl Round<'_> {
@@ -74,8 +85,9 @@ impl Round<'_> {
 
     pub fn start(&mut self, chart: &Chart) {
         self.begin(RowSet::EMPTY);
-        let targets = chart.with_ancestors_below(ROOT, chart.defaults(ROOT));
-        self.enter(chart, targets, RowSet::EMPTY);
+        let nothing_stored = |_: usize| RowSet::EMPTY;
+        let (targets, fallen) = chart.resolved(chart.defaults(ROOT), nothing_stored);
+        self.enter(chart, chart.with_ancestors_below(ROOT, targets), fallen, nothing_stored);
     }
 
     pub fn take(&mut self, chart: &Chart, session: &Session, selection: &Selection) {
@@ -86,7 +98,8 @@ impl Round<'_> {
         for taken in selection.taken() {
             let number = taken.transition as usize;
             self.push(TRANSITION, number);
-            self.run(chart, chart.tables.transition(number).block());
+            self.push(CHOOSER, selection.chooser(number));
+            self.run(chart, chart.tables.transition(number).block(), RowSet::contains);
         }
         let stored = |history: usize| match exits.contains(chart.parent(history)) {
             true => chart.to_store(before, history),
@@ -101,12 +114,12 @@ impl Round<'_> {
             }
             let Some(domain) = taken.domain else { continue };
             let transition = chart.tables.transition(taken.transition as usize);
-            let effective = effective_targets(chart, transition, stored);
+            let listed = chart.tables.listed(transition.targets()).collect();
+            let (effective, by_default) = chart.resolved(listed, stored);
             targets |= chart.with_ancestors_below(domain as usize, effective);
-            let is_fallen = |&row: &usize| chart.kinds().histories.contains(row) && stored(row).is_empty();
-            fallen |= chart.tables.listed(transition.targets()).filter(is_fallen).collect();
+            fallen |= by_default;
         }
-        self.enter(chart, targets, fallen);
+        self.enter(chart, targets, fallen, stored);
     }
 
     pub fn close(&mut self, chart: &Chart, session: &Session) {
@@ -133,15 +146,47 @@ impl Round<'_> {
         self.queued += 1;
     }
 
+    /// Does a block. Whether a row is active is told of the configuration as it stands here, and asked
+    /// only by conditions.
     #[inline]
-    fn run(&mut self, chart: &Chart, block: Part) {
+    fn run(&mut self, chart: &Chart, block: Part, is_active: impl Fn(RowSet, usize) -> bool) {
         if block.count == 0 {
             return;
         }
+        if chart.index.branches {
+            return self.run_branches(chart, block, is_active);
+        }
         for &[what, argument, ..] in chart.tables.block(block) {
-            match what {
-                0 => self.queue(RAISED, argument as usize),
-                _ => self.push(HOST, argument as usize),
+            self.act(what, argument as usize);
+        }
+    }
+
+    #[inline]
+    fn act(&mut self, what: u64, argument: usize) {
+        match what {
+            RAISE => self.queue(RAISED, argument),
+            _ => self.push(HOST_ACTION, argument),
+        }
+    }
+
+    fn run_branches(&mut self, chart: &Chart, block: Part, is_active: impl Fn(RowSet, usize) -> bool) {
+        let mut turn = Turn::Done;
+        // Ifs that were opened where nothing is done.
+        let mut inside = 0_u32;
+        for &[what, argument, ..] in chart.tables.block(block) {
+            let argument = argument as usize;
+            let holds = |round: &Self| is_active(round.configuration, argument);
+            match (turn, what) {
+                (Turn::Done, IF) if !holds(self) => turn = Turn::Sought,
+                (Turn::Done, ELSE_IF | ELSE) => turn = Turn::Past,
+                (Turn::Done, IF | END) => {}
+                (Turn::Done, _) => self.act(what, argument),
+                (_, IF) => inside += 1,
+                (_, END) if inside > 0 => inside -= 1,
+                (_, END) => turn = Turn::Done,
+                (Turn::Sought, ELSE) if inside == 0 => turn = Turn::Done,
+                (Turn::Sought, ELSE_IF) if inside == 0 && holds(self) => turn = Turn::Done,
+                _ => {}
             }
         }
     }
@@ -149,31 +194,46 @@ impl Round<'_> {
     fn exit(&mut self, chart: &Chart, exits: RowSet) {
         for row in exits.rows_backwards() {
             self.push(EXITED, row);
-            self.run(chart, chart.tables.row(row).exit());
+            let is_active = |configuration: RowSet, asked: usize| {
+                configuration.contains(asked) && (asked <= row || !exits.contains(asked))
+            };
+            self.run(chart, chart.tables.row(row).exit(), is_active);
         }
         self.configuration = self.configuration - exits;
     }
 
     /// Enters the rows and what they bring along. What a row brings is below it and so behind it:
     /// one walk in document order finds all.
-    fn enter(&mut self, chart: &Chart, mut rows: RowSet, fallen: RowSet) {
+    fn enter(
+        &mut self,
+        chart: &Chart,
+        mut rows: RowSet,
+        mut fallen: RowSet,
+        stored: impl Fn(usize) -> RowSet,
+    ) {
         let kinds = chart.kinds();
         let mut next = rows.first_from(0);
         while let Some(number) = next {
             let row = chart.tables.row(number);
             self.configuration.insert(number);
             self.push(ENTERED, number);
-            self.run(chart, row.entry());
+            self.run(chart, row.entry(), RowSet::contains);
             if !kinds.atomic.contains(number) {
                 let children = chart.children(number);
                 if kinds.parallel.contains(number) {
                     rows |= children;
                 } else if !rows.meets(children) {
-                    rows |= chart.with_ancestors_below(number, chart.defaults(number));
-                    self.run(chart, row.block());
+                    let mut targets = chart.defaults(number);
+                    if targets.meets(kinds.histories) {
+                        let (effective, by_default) = chart.resolved(targets, &stored);
+                        targets = effective;
+                        fallen |= by_default;
+                    }
+                    rows |= chart.with_ancestors_below(number, targets);
+                    self.run(chart, row.block(), RowSet::contains);
                 }
                 for history in fallen.rows().filter(|&history| chart.parent(history) == number) {
-                    self.run(chart, chart.tables.row(history).block());
+                    self.run(chart, chart.tables.row(history).block(), RowSet::contains);
                 }
             } else if kinds.finals.contains(number) {
                 self.reach_final(chart, row.parent() as usize);

@@ -29,7 +29,7 @@ fn broken_rule(tables: &Tables) -> u32 {
     if !lists_fit(tables, tree.sets(), &Kinds::of(tables, tree.sets())) {
         return 4;
     }
-    if !transitions_fit(tables) {
+    if !transitions_fit(tables) || (has_branches(tables) && !blocks_fit(tables)) {
         return 5;
     }
     0
@@ -66,9 +66,9 @@ pub fn is_sized(tables: &Tables) -> bool {
             && is_inside(transition.targets(), tables.references.len())
             && is_block(transition.block())
     };
+    let arguments = [names, 65_536, rows, rows, 1, 1];
     let action_fits = |&[what, argument, third, fourth]: &[u64; 4]| {
-        let most = if what == 0 { names } else { 65_536 };
-        what <= 1 && argument < most && third == 0 && fourth == 0
+        what <= END && argument < arguments[what as usize] && third == 0 && fourth == 0
     };
     (0..tables.row_count()).all(|row| row_fits(tables.row(row)))
         && tables.all_transitions().all(transition_fits)
@@ -85,7 +85,7 @@ pub fn is_named(tables: &Tables, spellings: &mut Spellings) -> bool {
         let Some(spelling) = Spelling::of(slot) else { return false };
         *place = spelling;
     }
-    let raise_fits = |&[what, name, ..]: &[u64; 4]| what != 0 || spellings[name as usize].is_name();
+    let raise_fits = |&[what, name, ..]: &[u64; 4]| what != RAISE || spellings[name as usize].is_name();
     tables.actions.iter().all(raise_fits) && ids_fit(tables, spellings)
 }
 
@@ -141,21 +141,18 @@ fn row_fits(tables: &Tables, sets: Sets, kinds: &Kinds, number: usize) -> bool {
         return false;
     }
     if holds_list {
+        // A history stands below its owner too.
         let may_have_block = list.count > 0 && number != ROOT;
         return (may_have_block || block.count == 0)
-            && holds_only(tables, sets, list, sets.descendants(number));
+            && tables.listed(list).all(|row| sets.ancestors(row).contains(number))
+            && are_apart(tables, sets, list);
     }
     let parent = row.parent() as usize;
     let allowed = match row.kind() {
         SHALLOW => sets.children(parent),
         _ => sets.descendants(parent),
     };
-    list.count > 0 && holds_only(tables, sets, list, allowed)
-}
-
-#[inline]
-fn holds_only(tables: &Tables, sets: Sets, list: Part, allowed: RowSet) -> bool {
-    tables.listed(list).all(|row| allowed.contains(row)) && are_apart(tables, sets, list)
+    list.count > 0 && tables.listed(list).all(|row| allowed.contains(row)) && are_apart(tables, sets, list)
 }
 
 /// The anchors differ, none is an ancestor of another, and the nearest common ancestor of each
@@ -177,7 +174,8 @@ fn are_apart(tables: &Tables, sets: Sets, list: Part) -> bool {
     })
 }
 
-/// The initial list of the root or a compound state, or its first child; nothing for the others.
+/// The initial list of the root or a compound state, histories as they stand there, or its first child;
+/// nothing for the others.
 #[inline]
 pub fn defaults(tables: &Tables, sets: Sets, kinds: &Kinds, row: usize) -> RowSet {
     if !has(&kinds.compound.0, row) {
@@ -206,8 +204,53 @@ fn anchor(tables: &Tables, row: usize) -> usize {
 
 // Rule 5
 
+#[inline]
+fn is_real(tables: &Tables, row: u64) -> bool {
+    matches!(tables.row(row as usize).kind(), STATE | PARALLEL | FINAL)
+}
+
+/// Whether there is an if, elseif, else or end at all, in a block or not.
+pub fn has_branches(tables: &Tables) -> bool {
+    tables.actions.iter().any(|&[what, ..]| what > HOST)
+}
+
+pub fn blocks_fit(tables: &Tables) -> bool {
+    let fits = |block: Part| block.count == 0 || block_fits(tables, block);
+    tables.all_rows().all(|row| fits(row.entry()) && fits(row.exit()) && fits(row.block()))
+        && tables.all_transitions().all(|transition| fits(transition.block()))
+}
+
+/// Every elseif, else and end has its open if, no elseif or else comes after its else, and every if ends.
+fn block_fits(tables: &Tables, block: Part) -> bool {
+    let mut open = 0;
+    // A bit for each open if whose else has come.
+    let mut past_else = 0_u32;
+    let fits = tables.block(block).iter().all(|&[what, row, ..]| {
+        let innermost = 1_u32 << open >> 1;
+        let takes_branch = open > 0 && past_else & innermost == 0;
+        match what {
+            IF => {
+                open += 1;
+                open <= MOST_OPEN_IFS && is_real(tables, row)
+            }
+            ELSE_IF => takes_branch && is_real(tables, row),
+            ELSE => {
+                past_else |= innermost;
+                takes_branch
+            }
+            END if open == 0 => false,
+            END => {
+                past_else &= !innermost;
+                open -= 1;
+                true
+            }
+            _ => true,
+        }
+    });
+    fits && open == 0
+}
+
 pub fn transitions_fit(tables: &Tables) -> bool {
-    let is_real = |row: usize| matches!(tables.row(row).kind(), STATE | PARALLEL | FINAL);
     let mut least = 0;
     tables.all_transitions().all(|transition| {
         let source = transition.source();
@@ -220,6 +263,6 @@ pub fn transitions_fit(tables: &Tables) -> bool {
         in_order
             && matches!(tables.row(source).kind(), STATE | PARALLEL)
             && !spins
-            && (condition == NONE || is_real(condition as usize))
+            && (condition == NONE || is_real(tables, condition))
     })
 }

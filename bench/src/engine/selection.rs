@@ -1,7 +1,7 @@
 //! Which transitions a round takes.
 
 use super::chart::Chart;
-use super::limits::MOST_ROWS;
+use super::limits::{MOST_ROWS, MOST_TRANSITIONS};
 use super::names::Event;
 use super::row_set::RowSet;
 use super::session::Session;
@@ -106,14 +106,27 @@ pub struct Selection {
     pub exits: RowSet,
     /// The first match of each row that has one in this round; those of other rows are of earlier ones.
     first_match: [u16; MOST_ROWS],
+    /// The first state that chose each transition that is chosen in this round.
+    choosers: [u8; MOST_TRANSITIONS],
     routes: Routes,
 }
 
 impl Selection {
     pub fn none() -> Selection {
-        let nothing = Taken { transition: 0, domain: None };
-        let (first_match, routes) = ([0; MOST_ROWS], Routes::none());
-        Selection { taken: [nothing; MOST_ROWS], count: 0, exits: RowSet::EMPTY, first_match, routes }
+        Selection {
+            taken: [Taken { transition: 0, domain: None }; MOST_ROWS],
+            count: 0,
+            exits: RowSet::EMPTY,
+            first_match: [0; MOST_ROWS],
+            choosers: [0; MOST_TRANSITIONS],
+            routes: Routes::none(),
+        }
+    }
+
+    /// The first active atomic state that chose a transition that is taken.
+    #[inline]
+    pub fn chooser(&self, transition: usize) -> usize {
+        self.choosers[transition].into()
     }
 
     #[inline]
@@ -187,7 +200,9 @@ impl Selection {
             let Some(row) = (climb & matching).last() else { continue };
             if !chosen.contains(row) {
                 chosen.insert(row);
-                self.admit(chart, session, self.first_match[row].into());
+                let number = self.first_match[row].into();
+                self.choosers[number] = atomic as u8;
+                self.admit(chart, session, number);
             }
         }
     }
@@ -236,23 +251,9 @@ impl Selection {
 
 /// "Domain and exit set use the history stored before the round."
 fn domain_by_history(chart: &Chart, session: &Session, transition: Transition) -> usize {
-    domain(chart, transition, effective_targets(chart, transition, |history| session.stored(history)))
-}
-
-/// The targets, histories replaced by what they remember or by their default lists.
-pub fn effective_targets(chart: &Chart, transition: Transition, stored: impl Fn(usize) -> RowSet) -> RowSet {
-    let mut effective = RowSet::EMPTY;
-    for target in chart.tables.listed(transition.targets()) {
-        if !chart.kinds().histories.contains(target) {
-            effective.insert(target);
-            continue;
-        }
-        effective |= match stored(target) {
-            RowSet::EMPTY => chart.tables.listed(chart.tables.row(target).list()).collect(),
-            remembered => remembered,
-        };
-    }
-    effective
+    let targets = chart.tables.listed(transition.targets()).collect();
+    let (effective, _) = chart.resolved(targets, |history| session.stored(history));
+    domain(chart, transition, effective)
 }
 
 /// The source itself, or its nearest ancestor that is compound or the root and has all targets

@@ -14,6 +14,14 @@ pub const FINAL: u64 = 3;
 pub const SHALLOW: u64 = 4;
 pub const DEEP: u64 = 5;
 
+/// The first column of an action.
+pub const RAISE: u64 = 0;
+pub const HOST: u64 = 1;
+pub const IF: u64 = 2;
+pub const ELSE_IF: u64 = 3;
+pub const ELSE: u64 = 4;
+pub const END: u64 = 5;
+
 const HEADER: usize = 6;
 
 /// A list or a block: a start and a count in its table.
@@ -206,6 +214,10 @@ impl<'a> Tables<'a> {
     #[inline]
     pub fn transition(&self, transition: usize) -> Transition<'a> {
         Transition(&self.transitions[transition])
+    }
+
+    pub fn all_rows(&self) -> impl Iterator<Item = Row<'a>> {
+        self.rows.iter().map(Row)
     }
 
     pub fn all_transitions(&self) -> impl Iterator<Item = Transition<'a>> {
