@@ -55,6 +55,7 @@ static void print_entry(const auttervil_chart *chart, uint32_t entry)
         break;
     case AUTTERVIL_TRACE_RAISED: printf("    raise %s\n", text(auttervil_name(chart, index))); break;
     case AUTTERVIL_TRACE_DONE: printf("    done.state.%s\n", text(auttervil_row_id(chart, index))); break;
+    case AUTTERVIL_TRACE_CHOSEN: printf("        chosen by %s\n", text(auttervil_row_id(chart, index))); break;
     default: printf("    entry %u\n", (unsigned)entry);
     }
 }
