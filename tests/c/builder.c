@@ -145,11 +145,20 @@ static void random_calls(void)
     for (i = 0; i < calls; i++) {
         uint64_t random = next_random();
         const char *id = ids[next_random() % (random % 64 == 0 ? COUNT(ids) : 2)];
-        switch (random % 6) {
+        switch (random % 10) {
         case 0: auttervil_add_entry(&b, id); break;
         case 1: auttervil_add_list(&b, id, targets[next_random() % COUNT(targets)]); break;
         case 2: auttervil_add_host(&b, next_random() % 64 == 0 ? 65536 : 1); break;
         case 3: auttervil_add_raise(&b, events[0]); break;
+        case 4: auttervil_add_if(&b, id); break;
+        case 5:
+            if (auttervil_open_ifs(&b) > 0)
+                auttervil_add_elseif(&b, id);
+            break;
+        case 6:
+            if (auttervil_open_ifs(&b) > 0)
+                auttervil_end_if(&b);
+            break;
         default: auttervil_add_transition(&b, id, events[next_random() % COUNT(events)], targets[next_random() % COUNT(targets)]);
         }
     }
@@ -168,8 +177,8 @@ static void one_try_is_enough(size_t tries)
         uint32_t fault;
         begin_with(most);
         random_calls();
-        needed = b.needed;
         fault = auttervil_finish(&b, &tables);
+        needed = b.needed;
         if (fault == AUTTERVIL_FAULT_NONE) {
             fitted++;
             enough = enough && memcmp(&b.have, &needed, sizeof needed) == 0;
@@ -189,7 +198,7 @@ static void one_try_is_enough(size_t tries)
 /* The limits of a transition, a block and an action: which, and of what. */
 static void more_than_each_may_have(void)
 {
-    const auttervil_counts most = counts(8, 8, 32, 32, 32, 32);
+    const auttervil_counts most = counts(8, 8, 32, 32, 64, 32);
     int i;
     small_chart(most);
     auttervil_add_transition(&b, "two", "a b c d", "one");
@@ -205,16 +214,16 @@ static void more_than_each_may_have(void)
     auttervil_add_transition(&b, "two", "a", "one one one one one one one one two");
     CHECK(ends_with(AUTTERVIL_FAULT_MANY_TARGETS, "two") && strcmp(b.owner, "two") == 0 && b.number == 1);
     small_chart(most);
-    for (i = 0; i < 7; i++)
+    for (i = 0; i < 31; i++)
         auttervil_add_host(&b, 65535);
     CHECK(ends_with(AUTTERVIL_FAULT_NONE, NULL) && compile() == AUTTERVIL_DONE);
     small_chart(most);
-    for (i = 0; i < 8; i++)
-        auttervil_add_raise(&b, "ninth");
-    CHECK(ends_with(AUTTERVIL_FAULT_MANY_ACTIONS, "ninth") && strcmp(b.owner, "one") == 0 && b.number == 0);
+    for (i = 0; i < 32; i++)
+        auttervil_add_raise(&b, "next");
+    CHECK(ends_with(AUTTERVIL_FAULT_MANY_ACTIONS, "next") && strcmp(b.owner, "one") == 0 && b.number == 0);
     small_chart(most);
     auttervil_add_exit(&b, "two");
-    for (i = 0; i < 9; i++)
+    for (i = 0; i < 33; i++)
         auttervil_add_host(&b, 1);
     CHECK(ends_with(AUTTERVIL_FAULT_MANY_ACTIONS, NULL) && strcmp(b.owner, "two") == 0 && b.number == AUTTERVIL_NONE);
     small_chart(most);
@@ -480,7 +489,7 @@ static void at_the_limits(void)
     begin_with(counts(ROWS, TRANSITIONS, TRANSITIONS, TRANSITIONS, ACTIONS, NAMES));
     add_states(1);
     for (i = 1; i <= NAMES; i++) {
-        if (i % 8 == 1)
+        if (i % 32 == 1)
             auttervil_add_transition(&b, "s1", "s1", NULL);
         snprintf(id, sizeof id, "n%d", i);
         auttervil_add_raise(&b, id);
@@ -488,12 +497,94 @@ static void at_the_limits(void)
     CHECK(ends_with(AUTTERVIL_FAULT_NAMES, "n768") && b.needed.names == NAMES + 1);
 }
 
+/* The cells of the actions, each as what it does and its argument, against a list that ends with a 9. */
+static int are_actions(const uint64_t *expected)
+{
+    const uint64_t *cells = tables.numbers == NULL ? NULL : tables.numbers + tables.cells - 4 * tables.numbers[4];
+    size_t i;
+    for (i = 0; expected[2 * i] != 9; i++)
+        if (cells == NULL || i >= tables.numbers[4] || cells[4 * i] != expected[2 * i] || cells[4 * i + 1] != expected[2 * i + 1] || cells[4 * i + 2] != 0 || cells[4 * i + 3] != 0)
+            return 0;
+    return cells != NULL && i == tables.numbers[4];
+}
+
+/* What is done where a row is active: each block ends what is open in it. */
+static void branches(void)
+{
+    const auttervil_counts most = counts(8, 8, 32, 32, 96, 32);
+    static const uint64_t nested[] = {1, 65535, 0, 4, 2, 1, 1, 1, 3, 2, 1, 2, 4, 0, 2, 2, 1, 3, 5, 0, 1, 4, 5, 0, 2, 1, 1, 5, 5, 0, 9};
+    int i;
+    small_chart(most);
+    auttervil_add_if(&b, "one");
+    auttervil_add_host(&b, 1);
+    auttervil_add_elseif(&b, "two");
+    auttervil_add_host(&b, 2);
+    auttervil_add_else(&b);
+    auttervil_add_if(&b, "two");
+    CHECK(auttervil_open_ifs(&b) == 2);
+    auttervil_add_host(&b, 3);
+    auttervil_end_if(&b);
+    CHECK(auttervil_open_ifs(&b) == 1);
+    auttervil_add_host(&b, 4);
+    auttervil_add_exit(&b, "two");
+    CHECK(auttervil_open_ifs(&b) == 0);
+    auttervil_add_if(&b, "one");
+    auttervil_add_host(&b, 5);
+    CHECK(ends_with(AUTTERVIL_FAULT_NONE, NULL) && are_actions(nested) && compile() == AUTTERVIL_DONE);
+    small_chart(most);
+    auttervil_end_if(&b);
+    CHECK(ends_with(AUTTERVIL_FAULT_NO_IF, NULL) && strcmp(b.owner, "one") == 0 && b.number == 0);
+    small_chart(most);
+    auttervil_add_elseif(&b, "two");
+    CHECK(ends_with(AUTTERVIL_FAULT_NO_IF, "two"));
+    small_chart(most);
+    auttervil_add_if(&b, "one");
+    auttervil_add_else(&b);
+    auttervil_add_elseif(&b, "two");
+    CHECK(ends_with(AUTTERVIL_FAULT_ELSE, "two"));
+    small_chart(most);
+    auttervil_add_if(&b, "one");
+    auttervil_add_else(&b);
+    auttervil_add_else(&b);
+    CHECK(ends_with(AUTTERVIL_FAULT_ELSE, NULL));
+    small_chart(most);
+    for (i = 0; i < 4; i++)
+        auttervil_add_if(&b, "one");
+    CHECK(auttervil_open_ifs(&b) == 4 && ends_with(AUTTERVIL_FAULT_NONE, NULL) && compile() == AUTTERVIL_DONE);
+    small_chart(most);
+    for (i = 0; i < 5; i++)
+        auttervil_add_if(&b, "one");
+    CHECK(ends_with(AUTTERVIL_FAULT_DEEP, "one"));
+    small_chart(most);
+    auttervil_add_if(&b, "three");
+    CHECK(ends_with(AUTTERVIL_FAULT_NO_ROW, "three"));
+    /* In names no root: that is for the rules. */
+    small_chart(most);
+    auttervil_add_if(&b, NULL);
+    CHECK(ends_with(AUTTERVIL_FAULT_NONE, NULL) && compile() == AUTTERVIL_TRANSITIONS);
+    /* 32 with the end that the block gets, and 33. */
+    small_chart(most);
+    auttervil_add_if(&b, "one");
+    for (i = 0; i < 29; i++)
+        auttervil_add_host(&b, 1);
+    CHECK(ends_with(AUTTERVIL_FAULT_NONE, NULL) && compile() == AUTTERVIL_DONE);
+    small_chart(most);
+    auttervil_add_if(&b, "one");
+    for (i = 0; i < 30; i++)
+        auttervil_add_host(&b, 1);
+    auttervil_add_exit(&b, "two");
+    CHECK(ends_with(AUTTERVIL_FAULT_MANY_ACTIONS, NULL) && strcmp(b.owner, "one") == 0 && b.number == 0);
+    begin_with(most);
+    auttervil_add_if(&b, NULL);
+    CHECK(ends_with(AUTTERVIL_FAULT_NOT_OPEN, NULL));
+}
+
 /* The limits of docs/tables.md, and the sizes of the greatest chart. */
 static void limits(void)
 {
     CHECK(ROWS == 256 && TRANSITIONS == 512 && NAMES == 768);
-    CHECK(REFERENCES == 256 * 256 + 512 * 8 && DESCRIPTORS == 512 * 4 && ACTIONS == (256 * 3 + 512) * 8);
-    CHECK(COUNT(numbers) == 120070 && COUNT(place) == 126214 && COUNT(names) == 49152);
+    CHECK(REFERENCES == 256 * 256 + 512 * 8 && DESCRIPTORS == 512 * 4 && ACTIONS == (256 * 3 + 512) * 32);
+    CHECK(COUNT(numbers) == 242950 && COUNT(place) == 249094 && COUNT(names) == 49152);
 }
 
 int main(void)
@@ -510,6 +601,7 @@ int main(void)
     unbegun();
     no_names();
     at_the_limits();
+    branches();
     limits();
     return report();
 }
