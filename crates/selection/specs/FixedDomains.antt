@@ -12,7 +12,7 @@ use Rattle.definition.specs.Rows.{fold, any, with, isEmpty, union, insert, inte
 use Rattle.definition.specs.declared.Kind.{Kind}
 use Rattle.definition.specs.Chart.{Chart, kind, isHistory}
 use Rattle.definition.specs.Tree.{descendants, anchor, anchors}
-use Rattle.follower.specs.Selection.{History, standIns, addStandIns, effectiveTargets, domainOf, domain, exitSet}
+use Rattle.follower.specs.Selection.{History, standIns, addStandIns, resolved, effectiveTargets, domainOf, domain, exitSet}
 use Rattle.laws.specs.Bools.{no, clash, and-left, and-right, bool-case, eq-case, not-so, or-left, or-right}
 
 unfoldable pub isHistoryRow : Chart → ℕ → Bool
@@ -66,7 +66,7 @@ module _ (c : Chart) (hist : History) where
     none-history = not-true _ (and-left (not (any (isHistoryRow c) ((c .transition) t .targets))) _ p)
 
     pub anchors-stand : effectiveTargets c hist ((c .transition) t) ≡ anchors c t
-    unfolding effectiveTargets anchors union
+    unfolding effectiveTargets resolved anchors union
     anchors-stand = stand-ins-plain [] ((c .transition) t .targets) none-history
 
     anchors-domain : domainOf c ((c .transition) t) (anchors c t) ≡ domain c hist ((c .transition) t)

@@ -18,6 +18,12 @@ use Rattle.selection.specs.declared.Selected.{Selected}
 use Rattle.selection.specs.Conflicts.{exits-append, exits-none}
 use Rattle.selection.specs.Ready.{IsSelected, Selects, Joined, Admits, Leaves}
 
+-- what stays behind n stays behind more
+pub drop-past : (n m : ℕ) (xs ys : List ℕ) → n ≤ m → drop n xs ≡ drop n ys → drop m xs ≡ drop m ys
+drop-past n m xs ys l e =
+    let z : n + (m - n) ≡ m = omega arith in
+    ap (λ (k : ℕ). drop k xs) (sym z) ∙ sym (drop-drop (m - n) n xs) ∙ ap (drop (m - n)) e ∙ drop-drop (m - n) n ys ∙ ap (λ (k : ℕ). drop k ys) z
+
 pub joined-is : (items : List ℕ) (kept : Selected) (t : ℕ) (own out : RowSet) → kept .len < length items →
     rowsOf out ≡ union (rowsOf (kept .exits)) (rowsOf own) → Joined items kept t own (set items (kept .len) t) (record { len = kept .len + 1; exits = out })
 joined-is items kept t own out l e = record {
@@ -36,7 +42,7 @@ module _ (c : Chart) (conf : List ℕ) (hist : History) where
   pub selects-of : (xs items : List ℕ) (r : Selected) → IsSelected c conf hist xs items r → Selects c conf hist items r
   selects-of xs items r h = selected-as xs (listOf items (r .len)) items r h (sym (h .is))
 
-  pub selects-none : (items : List ℕ) (r : Selected) → length items ≡ 256 → r .len ≡ 0 → rowsOf (r .exits) ≡ [] → Selects c conf hist items r
+  pub selects-none : (items : List ℕ) (r : Selected) → length items ≡ 768 → r .len ≡ 0 → rowsOf (r .exits) ≡ [] → Selects c conf hist items r
   selects-none items r s l e = record {
     is = refl;
     exits = e ∙ exits-none c conf hist ∙ ap (exits c conf hist) (sym none);
@@ -73,11 +79,8 @@ module _ (c : Chart) (conf : List ℕ) (hist : History) where
   admits-joined ts first items after n rest r t own h l f b m e j q = record {
     selected = selected-as (append (listOf items (rest .len)) t) ts after r (joins items after rest r t own h (omega arith) m e j) q;
     most = let k = j .len in omega arith;
-    behind = j .behind (n + 1) (omega arith) ∙ drop-on n 1 items first b;
+    behind = j .behind (n + 1) (omega arith) ∙ drop-past n (n + 1) items first (omega arith) b;
   }
-    where
-      drop-on : (n k : ℕ) (xs ys : List ℕ) → drop n xs ≡ drop n ys → drop (n + k) xs ≡ drop (n + k) ys
-      drop-on n k xs ys e = sym (drop-drop k n xs) ∙ ap (drop k) e ∙ drop-drop k n ys
 
 -- ---- a pass over the first n items that keeps some of them in front of those to come
 
@@ -114,18 +117,9 @@ module _ (c : Chart) (conf : List ℕ) (hist : History) (step : List ℕ → ℕ
           most = omega arith;
           small = s .small;
           selects = selects-of c conf hist _ after r (a .selected);
-          behind = further (a .behind) ∙ onward;
+          behind = drop-past (kept .len + 1) (i + 1) after items (omega arith) (a .behind) ∙ drop-past i (i + 1) items first (omega arith) (s .behind);
           pass = walk-turn step [] (listOf items (kept .len)) (listOf first n) n (listOf after (r .len)) i (getD items i 0) l (s .pass) (sift-item l) (a .selected .is);
         }
-      where
-        onward : drop (i + 1) items ≡ drop (i + 1) first
-        onward = sym (drop-drop 1 i items) ∙ ap (drop 1) (s .behind) ∙ drop-drop 1 i first
-
-        further : drop (kept .len + 1) after ≡ drop (kept .len + 1) items → drop (i + 1) after ≡ drop (i + 1) items
-        further e =
-            let m = s .most in
-            let z : kept .len + 1 + (i - kept .len) ≡ i + 1 = omega arith in
-            ap (λ (k : ℕ). drop k after) (sym z) ∙ sym (drop-drop (i - kept .len) (kept .len + 1) after) ∙ ap (drop (i - kept .len)) e ∙ drop-drop (i - kept .len) (kept .len + 1) items ∙ ap (λ (k : ℕ). drop k items) z
 
     pub sift-done : n ≤ i → Leaves c conf hist (fold step [] (listOf first n)) first n items kept
     sift-done l =

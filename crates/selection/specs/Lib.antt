@@ -4,3 +4,4 @@ pub mod Conflicts
 pub mod FixedDomains
 pub mod Ready
 pub mod Kept
+pub mod Choosers

@@ -39,7 +39,7 @@ pub record SelectReady (chart names starts domains : List ℕ) (atoms conf : Row
   pub fixed : DomainsFixed (chartOf chart) domains
   pub inside : Within (rowCount chart) (rowsOf conf)
   pub room : length history ≡ 1024
-  pub places : length items ≡ 256
+  pub places : length items ≡ 768
 
 -- the row that the definition says, a row of the chart
 pub record DomainIs (chart : List ℕ) (domain d : ℕ) : Type 0 where

@@ -5,14 +5,15 @@ ghost use Prim.Native.Nat.{_<_};
 ghost use lib.ListN.{length};
 ghost use Rattle.definition.specs.Rows.{fold, any};
 ghost use Rattle.definition.specs.Tables.{transitionCount, nameAt, chartOf};
-ghost use Rattle.follower.specs.Selection.{isInTheWay, keepBeside, admit, withoutConflicts, selected};
+ghost use Rattle.follower.specs.Selection.{isInTheWay, keepBeside, admit, withoutConflicts};
 ghost use Rattle.rowset.specs.Member.{rowsOf};
 ghost use Rattle.matching.specs.Events.{eventOf};
 ghost use Rattle.chart.specs.Within.{Within};
 ghost use Rattle.matching.specs.Chosen.{ChosenIn, listOf};
 ghost use Rattle.paths.specs.History.{storedAt};
 ghost use Rattle.selection.specs.FixedDomains.{DomainsFixed};
-ghost use Rattle.selection.specs.Ready.{HistoryReady, FixedReady, SelectReady, Candidate, IsSelected, Selects, Joined, Admits, Leaves};
+ghost use Rattle.selection.specs.Ready.{HistoryReady, FixedReady, SelectReady, Candidate, Selects, Joined, Admits, Leaves};
+ghost use Rattle.selection.specs.Choosers.{IsSelectedBy};
 use crate::Selected;
 use crate::domains::exit_set;
 use numbers::Transition;
@@ -159,7 +160,7 @@ fn without_conflicts(
     n: usize,
 ) -> Selected
     requires { ⌜ HistoryReady (now chart) (now history) × DomainsFixed (chartOf (now chart)) (now domains) × ChosenIn (transitionCount (now chart)) (now items) n ⌝ }
-    ensures { λ r. ⌜ IsSelected (chartOf (now (chart .entry))) (rowsOf conf) (storedAt (now (history .entry))) (withoutConflicts (chartOf (now (chart .entry))) (rowsOf conf) (storedAt (now (history .entry))) (listOf (now (items .entry)) n)) (now (items .exit)) r ⌝ }
+    ensures { λ r. ⌜ Leaves (chartOf (now (chart .entry))) (rowsOf conf) (storedAt (now (history .entry))) (withoutConflicts (chartOf (now (chart .entry))) (rowsOf conf) (storedAt (now (history .entry))) (listOf (now (items .entry)) n)) (now (items .entry)) n (now (items .exit)) r ⌝ }
 {
     let mut kept = Selected {
         len: 0,
@@ -174,7 +175,8 @@ fn without_conflicts(
     kept
 }
 
-// The transitions that a round of this event takes, in selection order, into the first of the lent items, and the rows that they exit.
+// The transitions that a round of this event takes, in selection order, into the first of the lent items, and the rows that they exit. Removing
+// conflicts leaves the places that say who chose each.
 pub fn select(
     chart: &[u64],
     names: &[u8],
@@ -187,7 +189,7 @@ pub fn select(
     items: &mut [u16],
 ) -> Selected
     requires { ⌜ SelectReady (now chart) (now names) (now starts) (now domains) atoms conf (now history) (now items) ⌝ }
-    ensures { λ r. ⌜ IsSelected (chartOf (now (chart .entry))) (rowsOf conf) (storedAt (now (history .entry))) (selected (chartOf (now (chart .entry))) (nameAt (now (names .entry))) (rowsOf conf) (storedAt (now (history .entry))) (eventOf (now (event .entry)))) (now (items .exit)) r ⌝ }
+    ensures { λ r. ⌜ IsSelectedBy (chartOf (now (chart .entry))) (nameAt (now (names .entry))) (rowsOf conf) (storedAt (now (history .entry))) (eventOf (now (event .entry))) (now (items .exit)) r ⌝ }
 {
     let n = matching::candidates(chart, names, starts, atoms, conf, event, items);
     without_conflicts(chart, domains, conf, history, items, n)

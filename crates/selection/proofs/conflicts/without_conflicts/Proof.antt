@@ -51,7 +51,7 @@ same-length c = c .before .loop .inv .selects .fits .room ∙ sym (c .before .be
 
 returns : tie.Need-returns Inv-loop μ-loop
 unfolding withoutConflicts
-returns c = sift-done _ _ _ _ _ _ _ _ _ (c .before .loop .inv) (c .loop-test .left) .selected
+returns c = sift-done _ _ _ _ _ _ _ _ _ (c .before .loop .inv) (c .loop-test .left)
 
 pub without-conflicts-spec : {M : Type 1} → statement M
 without-conflicts-spec =

@@ -3,7 +3,7 @@ use mathlib.Core.Path.{ap, _∙_}
 use Prim.Native.Nat.{_-_}
 use lib.ListN.{length}
 use borrow.Author.Needs.{needs}
-use Rattle.follower.specs.Selection.{addStandIns, effectiveTargets}
+use Rattle.follower.specs.Selection.{addStandIns, resolved, effectiveTargets}
 use Rattle.definition.specs.Tables.{chartOf}
 use Rattle.definition.specs.Rows.{fold}
 use Rattle.laws.specs.Passes.{Passed, pass-begin, pass-turn, pass-done}
@@ -47,7 +47,7 @@ loop-again : tie.Need-loop-again Inv-loop μ-loop
 loop-again c = pass-turn _ _ _ _ _ _ (c .before .before .before .loop-test .taken) (c .before .before .before .before .loop .inv) (add-at _ _ _ _ _ _ _ (c .add-stand-ins .ensures) (c .before .stored-at .ensures) (c .before .before .row-at .ensures .is))
 
 returns : tie.Need-returns Inv-loop μ-loop
-unfolding effectiveTargets
+unfolding effectiveTargets resolved
 returns c = pass-done _ _ _ _ _ (c .loop-test .left) (c .before .loop .inv) ∙ ap (fold _ []) (c .before .before .before .targets-of .ensures .is)
 
 pub effective-targets-spec : {M : Type 1} → statement M
