@@ -7,15 +7,17 @@ use native.Mathlib.Omega.{arith}
 use lib.Dec.{eqb, leb, ltb}
 use borrow.Author.Tests.{eqb-true, eq-eqb, leb-true, le-leb, ltb-true, lt-ltb, not-true}
 use Rattle.definition.specs.declared.Action.{Action}
-use Rattle.definition.specs.declared.Action.the-variants.{Raise, Host}
+use Rattle.definition.specs.declared.Action.the-variants.{Raise, Host, If, ElseIf, Else, End}
+use Rattle.definition.specs.declared.Reach.{Reach}
+use Rattle.definition.specs.declared.Reach.the-variants.{Live, Waiting, Past}
 use Rattle.definition.specs.declared.Kind.{Kind}
 use Rattle.definition.specs.Rows.{from, keep, minus, mem, all, flat, backwards}
 use Rattle.definition.specs.Names.{Name, isId}
 use Rattle.definition.specs.Chart.{Chart, Names, kindNo, kind, parent, isRoot, isParallel, isFinal}
 use Rattle.definition.specs.Tables.{noNumber, rowCount, transitionCount, actionCount, nameCount, rowCell, transitionCell, actionAt, blockAt, entryAt, exitAt, idAt, listBlockAt, transitionBlockAt, nameAt, chartOf}
-use Rattle.definition.specs.Rules.{each, argumentFits, slotFits, idDiffers, idFits, actionNamed, rule2}
+use Rattle.definition.specs.Rules.{each, slotFits, idDiffers, idFits, actionNamed, rule2}
 use Rattle.follower.specs.Selection.{History}
-use Rattle.follower.specs.Blocks.{Effect, exited, taken, entered, acted, raised, done, traceNo, queued, perform, performed}
+use Rattle.follower.specs.Blocks.{Effect, exited, taken, entered, acted, raised, done, chosen, traceNo, queued, after, perform, performIf, performedFrom, performed}
 use Rattle.follower.specs.Microstep.{exits, exitEffects, exiting, transitionEffects, targeted, Entry, initialBlock, defaultBlock, isDoneAbove, doneEffects, activeLeaving, activeAt, defaultEffects, entryEffects, entering, storedIn, staying, historyAfter, entryOf, fallen, effects}
 use Rattle.follower.specs.Follower.{firstEntry, firstEffects}
 use Rattle.definition.specs.Compiled.{ownNumbers}
@@ -24,7 +26,8 @@ use Rattle.laws.specs.Lists.{all-both, all-flat, flat-app}
 use Rattle.laws.specs.Loops.{each-below}
 use Rattle.laws.specs.Orders.{mem-backwards}
 use Rattle.accepted.specs.Tree.{low}
-use Rattle.tables.specs.Ranges.{RowIn, row-fits, transition-fits, argument-fits, optional-below}
+use Rattle.tables.specs.Ranges.{RowIn, row-fits, transition-fits, optional-below}
+use Rattle.tables.specs.Actions.{numberFits, number-fits}
 use Rattle.chart.specs.Ready.{Ready, CompiledWith}
 use Rattle.chart.specs.Own.{own-chart}
 use Rattle.matching.specs.Chosen.{Within}
@@ -35,17 +38,15 @@ use Rattle.events.specs.Rounds.{effectAt, queuedNames, isKnown, JoinsIn}
 
 -- ---- a number read back
 
-unfoldable pub indexOf : Effect → ℕ
-indexOf (exited i) = i
-indexOf (taken t) = t
-indexOf (entered i) = i
-indexOf (acted n) = n
-indexOf (raised n) = n
-indexOf (done i) = i
-
--- "kind × 65,536 + index": the index leaves the kind alone
+-- "kind × 65,536 + index": of what joins, the index leaves the kind alone
 unfoldable pub indexFits : Effect → Bool
-indexFits e = leb (indexOf e) 65535
+indexFits (exited i) = true
+indexFits (taken t) = true
+indexFits (entered i) = true
+indexFits (acted n) = true
+indexFits (raised n) = leb n 65535
+indexFits (done i) = leb i 65535
+indexFits (chosen i) = true
 
 module _ (k i : ℕ) (l : i ≤ 65535) where
   kind-back : (k * 65536 + i) / 65536 ≡ k
@@ -54,14 +55,13 @@ module _ (k i : ℕ) (l : i ≤ 65535) where
   index-back : (k * 65536 + i) % 65536 ≡ i
   index-back = omega arith
 
-effect-back : (e : Effect) → indexFits e ≡ true → effectAt (traceNo e) ≡ e
-unfolding effectAt traceNo indexFits indexOf
-effect-back (exited i) h = let l : i ≤ 65535 = leb-true _ _ h in rw (kind-back 1 i l, index-back 1 i l)
-effect-back (taken i) h = let l : i ≤ 65535 = leb-true _ _ h in rw (kind-back 2 i l, index-back 2 i l)
-effect-back (entered i) h = let l : i ≤ 65535 = leb-true _ _ h in rw (kind-back 3 i l, index-back 3 i l)
-effect-back (acted i) h = let l : i ≤ 65535 = leb-true _ _ h in rw (kind-back 4 i l, index-back 4 i l)
-effect-back (raised i) h = let l : i ≤ 65535 = leb-true _ _ h in rw (kind-back 5 i l, index-back 5 i l)
-effect-back (done i) h = let l : i ≤ 65535 = leb-true _ _ h in rw (kind-back 6 i l, index-back 6 i l)
+raised-back : (n : ℕ) → indexFits (raised n) ≡ true → effectAt (traceNo (raised n)) ≡ raised n
+unfolding effectAt traceNo indexFits
+raised-back n h = let l : n ≤ 65535 = leb-true _ _ h in rw (kind-back 5 n l, index-back 5 n l)
+
+done-back : (i : ℕ) → indexFits (done i) ≡ true → effectAt (traceNo (done i)) ≡ done i
+unfolding effectAt traceNo indexFits
+done-back i h = let l : i ≤ 65535 = leb-true _ _ h in rw (kind-back 6 i l, index-back 6 i l)
 
 -- what joins is known, and stands for the names that the effects queue
 module _ (chart : List ℕ) (names : Names) where
@@ -71,8 +71,9 @@ module _ (chart : List ℕ) (names : Names) where
   joining-known (taken i) h k = refl
   joining-known (entered i) h k = refl
   joining-known (acted i) h k = refl
-  joining-known (raised i) h k = rw (effect-back (raised i) h, k)
-  joining-known (done i) h k = rw (effect-back (done i) h, k)
+  joining-known (chosen i) h k = refl
+  joining-known (raised i) h k = rw (raised-back i h, k)
+  joining-known (done i) h k = rw (done-back i h, k)
 
   joining-queues : (e : Effect) → indexFits e ≡ true → flat (queued (chartOf chart) names) (map effectAt (joining e)) ≡ queued (chartOf chart) names e
   unfolding joining flat
@@ -80,8 +81,9 @@ module _ (chart : List ℕ) (names : Names) where
   joining-queues (taken i) h = unfold queued in refl
   joining-queues (entered i) h = unfold queued in refl
   joining-queues (acted i) h = unfold queued in refl
-  joining-queues (raised i) h = rw (effect-back (raised i) h) (append-nil (queued (chartOf chart) names (raised i)))
-  joining-queues (done i) h = rw (effect-back (done i) h) (append-nil (queued (chartOf chart) names (done i)))
+  joining-queues (chosen i) h = unfold queued in refl
+  joining-queues (raised i) h = rw (raised-back i h) (append-nil (queued (chartOf chart) names (raised i)))
+  joining-queues (done i) h = rw (done-back i h) (append-nil (queued (chartOf chart) names (done i)))
 
   pub joins-known : (es : List Effect) → all indexFits es ≡ true → all (isKnown chart) es ≡ true → all (isKnown chart) (map effectAt (joinsOf es)) ≡ true
   unfolding joinsOf flat all
@@ -104,7 +106,8 @@ pub record Passes (chart : List ℕ) (p : Effect → Bool) : Type 0 where
   pub exit : (i : ℕ) → i < rowCount chart → p (exited i) ≡ true
   pub take : (t : ℕ) → t < transitionCount chart → p (taken t) ≡ true
   pub enter : (i : ℕ) → i < rowCount chart → p (entered i) ≡ true
-  pub act : (a : ℕ) → a < actionCount chart → p (perform (actionAt chart a)) ≡ true
+  pub chose : (i : ℕ) → p (chosen i) ≡ true
+  pub act : (a : ℕ) → a < actionCount chart → all p (perform (actionAt chart a)) ≡ true
   -- the root is never done
   pub finish : (i : ℕ) → suc i < rowCount chart → p (done (suc i)) ≡ true
 
@@ -112,10 +115,23 @@ parallel-plain : (k : Kind) → isParallel k ≡ true → isRoot k ≡ false
 parallel-plain k h = not-so (isRoot k) (λ r. let a : kindNo k ≡ 2 = eqb-true _ _ h in let b : kindNo k ≡ 0 = eqb-true _ _ r in omega arith)
 
 module _ (chart : List ℕ) (g : Ready chart) (p : Effect → Bool) (h : Passes chart p) where
+  -- only the branches taken show, and what they show passes
+  if-passes : (r : Reach) (a : Action) → all p (perform a) ≡ true → all p (performIf r a) ≡ true
+  unfolding performIf all
+  if-passes Live a k = k
+  if-passes (Waiting n) a k = refl
+  if-passes (Past n) a k = refl
+
+  block-passes-from : (active : List ℕ) (r : Reach) (count start : ℕ) → start + count ≤ actionCount chart → all p (performedFrom active r (blockAt chart start count)) ≡ true
+  unfolding performedFrom blockAt from
+  block-passes-from active r zero start l = unfold all in refl
+  block-passes-from active r (suc n) start l =
+      all-both p (performIf r (actionAt chart start)) _ (if-passes r (actionAt chart start) (h .act start (omega arith)))
+      (block-passes-from active (after active (actionAt chart start) r) n (suc start) (omega arith))
+
   block-passes : (active : List ℕ) (count start : ℕ) → start + count ≤ actionCount chart → all p (performed active (blockAt chart start count)) ≡ true
-  unfolding performed blockAt all from
-  block-passes active zero start l = refl
-  block-passes active (suc n) start l = and-true (p (perform (actionAt chart start))) _ (h .act start (omega arith)) (block-passes active n (suc start) (omega arith))
+  unfolding performed
+  block-passes active count start l = block-passes-from active Live count start l
 
   row-in : (i : ℕ) → i < rowCount chart → RowIn chart i
   row-in i l = record { tables = g .tables; below = l }
@@ -125,11 +141,12 @@ module _ (chart : List ℕ) (g : Ready chart) (p : Effect → Bool) (h : Passes 
   exit-passes conf out i l =
       and-true (p (exited i)) _ (h .exit i l) (block-passes (activeLeaving conf out i) (rowCell chart i 6) (rowCell chart i 5) (row-fits chart i (row-in i l) .exit .inside))
 
-  transition-passes : (stay : List ℕ) (t : ℕ) → t < transitionCount chart → all p (transitionEffects (chartOf chart) stay t) ≡ true
+  transition-passes : (stay : List ℕ) (by : ℕ → ℕ) (t : ℕ) → t < transitionCount chart → all p (transitionEffects (chartOf chart) stay by t) ≡ true
   unfolding transitionEffects transitionBlockAt all
-  transition-passes stay t l =
+  transition-passes stay by t l =
       and-true (p (taken t)) _ (h .take t l)
-      (block-passes stay (transitionCell chart t 8) (transitionCell chart t 7) (transition-fits chart t (record { tables = g .tables; below = l }) .block .inside))
+      (and-true (p (chosen (by t))) _ (h .chose (by t))
+      (block-passes stay (transitionCell chart t 8) (transitionCell chart t 7) (transition-fits chart t (record { tables = g .tables; below = l }) .block .inside)))
 
   entry-block : (active : List ℕ) (i : ℕ) → i < rowCount chart → all p (performed active (entryAt chart i)) ≡ true
   unfolding entryAt
@@ -138,7 +155,7 @@ module _ (chart : List ℕ) (g : Ready chart) (p : Effect → Bool) (h : Passes 
   list-block : (active : List ℕ) (b : Bool) (i : ℕ) → i < rowCount chart → all p (performed active (cond b (listBlockAt chart i) [])) ≡ true
   unfolding listBlockAt
   list-block active true i l = block-passes active (rowCell chart i 10) (rowCell chart i 9) (row-fits chart i (row-in i l) .block .inside)
-  list-block active false i l = unfold performed all in refl
+  list-block active false i l = unfold performed performedFrom all in refl
 
   done-passes : (i : ℕ) → i < rowCount chart → isRoot (kind (chartOf chart) i) ≡ false → p (done i) ≡ true
   done-passes zero l r = let z = not-root-later chart 0 g r in absurd (omega arith)
@@ -193,16 +210,16 @@ module _ (chart : List ℕ) (g : Ready chart) (p : Effect → Bool) (h : Passes 
   exiting-passes conf out w = all-flat p (exitEffects (chartOf chart) conf out) (backwards out) (λ i m. exit-passes conf out i (w .at i (sym (mem-backwards i out) ∙ m)))
 
   -- of a round from this configuration
-  pub round-passes : (conf : List ℕ) (hist : History) (ts : List ℕ) → Within (rowCount chart) conf → Within (transitionCount chart) ts → all p (effects (chartOf chart) conf hist ts) ≡ true
+  pub round-passes : (conf : List ℕ) (hist : History) (by : ℕ → ℕ) (ts : List ℕ) → Within (rowCount chart) conf → Within (transitionCount chart) ts → all p (effects (chartOf chart) conf hist by ts) ≡ true
   unfolding effects entryOf
-  round-passes conf hist ts w v =
+  round-passes conf hist by ts w v =
       let c = chartOf chart in
-      let after = storedIn (historyAfter c conf hist ts) in
-      all-both p (exiting c conf (exits c conf hist ts) ++ flat (transitionEffects c (staying c conf hist ts)) ts) _
+      let later = storedIn (historyAfter c conf hist ts) in
+      all-both p (exiting c conf (exits c conf hist ts) ++ flat (transitionEffects c (staying c conf hist ts) by) ts) _
       (all-both p (exiting c conf (exits c conf hist ts)) _ (exiting-passes conf (exits c conf hist ts) (exits-within c (rowCount chart) conf hist ts _ w refl))
-      (all-flat p (transitionEffects c (staying c conf hist ts)) ts (λ t m. transition-passes (staying c conf hist ts) t (v .at t m))))
-      (entering-passes (staying c conf hist ts) (entryOf c conf hist ts) (fallen c after ts)
-      (entry-within c (targeted c hist after ts) _ refl (targeted-within c hist after ts _ refl)) (fallen-histories chart g after ts _ v refl))
+      (all-flat p (transitionEffects c (staying c conf hist ts) by) ts (λ t m. transition-passes (staying c conf hist ts) by t (v .at t m))))
+      (entering-passes (staying c conf hist ts) (entryOf c conf hist ts) (fallen c later ts)
+      (entry-within c (targeted c hist later ts) _ refl (targeted-within c hist later ts _ refl)) (fallen-histories chart g later ts _ v refl))
 
   -- and of a start
   pub start-passes : all p (firstEffects (chartOf chart)) ≡ true
@@ -213,15 +230,23 @@ module _ (chart : List ℕ) (g : Ready chart) (p : Effect → Bool) (h : Passes 
 
 -- ---- what the tables give
 
-action-known : (chart : List ℕ) (a : Action) → argumentFits chart a ≡ true → isKnown chart (perform a) ≡ true
-unfolding argumentFits isKnown perform
-action-known chart (Raise n) h = h
+action-known : (chart : List ℕ) (a : Action) → numberFits chart a ≡ true → all (isKnown chart) (perform a) ≡ true
+unfolding numberFits isKnown perform all
+action-known chart (Raise n) h = and-true (ltb n (nameCount chart)) true h refl
 action-known chart (Host n) h = refl
+action-known chart (If i) h = refl
+action-known chart (ElseIf i) h = refl
+action-known chart Else h = refl
+action-known chart End h = refl
 
-action-index : (chart : List ℕ) (a : Action) → nameCount chart ≤ 65535 → argumentFits chart a ≡ true → indexFits (perform a) ≡ true
-unfolding argumentFits indexFits indexOf perform
-action-index chart (Raise n) l h = let m : n < nameCount chart = ltb-true _ _ h in le-leb n 65535 (omega arith)
-action-index chart (Host n) l h = h
+action-index : (chart : List ℕ) (a : Action) → nameCount chart ≤ 65535 → numberFits chart a ≡ true → all indexFits (perform a) ≡ true
+unfolding numberFits indexFits perform all
+action-index chart (Raise n) l h = let m : n < nameCount chart = ltb-true _ _ h in and-true (leb n 65535) true (le-leb n 65535 (omega arith)) refl
+action-index chart (Host n) l h = refl
+action-index chart (If i) l h = refl
+action-index chart (ElseIf i) l h = refl
+action-index chart Else l h = refl
+action-index chart End l h = refl
 
 module _ (chart names : List ℕ) (k : CompiledWith chart names) where
   own-is : chartOf (ownNumbers chart) ≡ chartOf chart
@@ -241,16 +266,16 @@ module _ (chart names : List ℕ) (k : CompiledWith chart names) where
       (λ z. clash (eqb (idAt own (suc i)) noNumber) (eq-eqb _ _ (e ∙ z)) (not-true _ (f .0)))
 
   indices-pass : Passes chart indexFits
-  unfolding indexFits indexOf
+  unfolding indexFits
   indices-pass =
       let n = k .ready .tables .sized .counts .names in
       let r = k .ready .tables .sized .counts .rows in
-      let t = k .ready .tables .sized .counts .transitions in
       record {
-        exit = λ i l. le-leb i 65535 (omega arith);
-        take = λ i l. le-leb i 65535 (omega arith);
-        enter = λ i l. le-leb i 65535 (omega arith);
-        act = λ a l. action-index chart (actionAt chart a) (omega arith) (argument-fits chart a (record { tables = k .ready .tables; below = l }));
+        exit = λ i l. refl;
+        take = λ i l. refl;
+        enter = λ i l. refl;
+        chose = λ i. refl;
+        act = λ a l. action-index chart (actionAt chart a) (omega arith) (number-fits chart a (record { tables = k .ready .tables; below = l }));
         finish = λ i l. le-leb (suc i) 65535 (omega arith);
       }
 
@@ -260,7 +285,8 @@ module _ (chart names : List ℕ) (k : CompiledWith chart names) where
     exit = λ i l. refl;
     take = λ i l. refl;
     enter = λ i l. refl;
-    act = λ a l. action-known chart (actionAt chart a) (argument-fits chart a (record { tables = k .ready .tables; below = l }));
+    chose = λ i. refl;
+    act = λ a l. action-known chart (actionAt chart a) (number-fits chart a (record { tables = k .ready .tables; below = l }));
     finish = λ i l. and-true (ltb (suc i) (rowCount chart)) _ (lt-ltb _ _ l) (lt-ltb _ _ (id-known i l));
   }
 
@@ -275,10 +301,10 @@ module _ (chart names : List ℕ) (k : CompiledWith chart names) where
   unfolding queuedNames
   joins-stand es a b = record { inside = record { known = joins-known chart (nameAt names) es a b }; queues = joins-queue chart (nameAt names) es a }
 
-  pub round-joins : (conf : List ℕ) (hist : History) (ts : List ℕ) → Within (rowCount chart) conf → Within (transitionCount chart) ts → JoinsStand chart names (effects (chartOf chart) conf hist ts)
-  round-joins conf hist ts w v =
-      joins-stand (effects (chartOf chart) conf hist ts) (round-passes chart (k .ready) indexFits (indices-pass chart names k) conf hist ts w v)
-      (round-passes chart (k .ready) (isKnown chart) (known-pass chart names k) conf hist ts w v)
+  pub round-joins : (conf : List ℕ) (hist : History) (by : ℕ → ℕ) (ts : List ℕ) → Within (rowCount chart) conf → Within (transitionCount chart) ts → JoinsStand chart names (effects (chartOf chart) conf hist by ts)
+  round-joins conf hist by ts w v =
+      joins-stand (effects (chartOf chart) conf hist by ts) (round-passes chart (k .ready) indexFits (indices-pass chart names k) conf hist by ts w v)
+      (round-passes chart (k .ready) (isKnown chart) (known-pass chart names k) conf hist by ts w v)
 
   pub start-joins : JoinsStand chart names (firstEffects (chartOf chart))
   start-joins =

@@ -50,7 +50,8 @@ kind-none c names (suc (suc (suc zero))) i a b = refl
 kind-none c names (suc (suc (suc (suc zero)))) i a b = refl
 kind-none c names (suc (suc (suc (suc (suc zero))))) i a b = absurd (a refl)
 kind-none c names (suc (suc (suc (suc (suc (suc zero)))))) i a b = absurd (b refl)
-kind-none c names (suc (suc (suc (suc (suc (suc (suc k))))))) i a b = refl
+kind-none c names (suc (suc (suc (suc (suc (suc (suc zero))))))) i a b = refl
+kind-none c names (suc (suc (suc (suc (suc (suc (suc (suc k)))))))) i a b = refl
 
 module _ (c : Chart) (names : Names) (join : ℕ) where
   pub queued-none : (join / 65536 ≡ 5 → ⊥) → (join / 65536 ≡ 6 → ⊥) → queued c names (effectAt join) ≡ []

@@ -1,3 +1,4 @@
+pub mod Choosers
 pub mod Rounds
 pub mod Joining
 pub mod Choosing

@@ -11,19 +11,23 @@ use Rattle.definition.specs.Rows.{all, flat}
 use Rattle.definition.specs.Names.{Name}
 use Rattle.definition.specs.Chart.{Chart, Names}
 use Rattle.definition.specs.Tables.{rowCount, nameCount, nameAt, idAt, chartOf}
-use Rattle.follower.specs.Selection.{History, selected}
-use Rattle.follower.specs.Blocks.{Effect, exited, taken, entered, acted, raised, done, queued}
-use Rattle.follower.specs.Follower.{Follower, Round, idle, taking, roundIn}
+use Rattle.follower.specs.Selection.{History}
+use Rattle.follower.specs.Blocks.{Effect, exited, taken, entered, acted, raised, done, chosen, queued}
+use Rattle.follower.specs.Follower.{Follower, Round, idle, roundIn}
 use Rattle.rowset.specs.Member.{rowsOf}
 use Rattle.matching.specs.Chosen.{listOf, Within}
+use Rattle.matching.specs.Choosers.{choosersIn}
 use Rattle.selection.specs.declared.Selected.{Selected}
 use Rattle.selection.specs.History.{storedAt}
-use Rattle.selection.specs.Ready.{IsSelected, Selects}
+use Rattle.selection.specs.Ready.{Selects}
+use Rattle.selection.specs.Choosers.{IsSelectedBy}
 use Rattle.lookup.specs.declared.RowKinds.{RowKinds}
 use Rattle.lookup.specs.Lookup.{Lookup}
 use Rattle.state.specs.State.{configurationIn, historyIn}
 use Rattle.effects.specs.Kinds.{effectOf}
+use Rattle.effects.specs.Choosers.{chooserIn}
 use Rattle.queue.specs.Queues.{queueBytes, Waiting}
+use Rattle.events.specs.Choosers.{takingBy}
 use Rattle.events.specs.declared.Source.{Source}
 use Rattle.events.specs.declared.Source.the-variants.{Nothing, Eventless, Internal, External}
 use Rattle.events.specs.declared.Choice.{Choice}
@@ -40,29 +44,28 @@ externalAfter Eventless f = f .external
 externalAfter Internal f = f .external
 externalAfter External f = drop 1 (f .external)
 
--- the round that takes these transitions for an event from there
-unfoldable pub roundBy : Source → Chart → Names → Follower → List ℕ → Round
-roundBy Nothing c names f ts = idle
-roundBy Eventless c names f ts = taking c names f (internalAfter Eventless f) (externalAfter Eventless f) ts
-roundBy Internal c names f ts = taking c names f (internalAfter Internal f) (externalAfter Internal f) ts
-roundBy External c names f ts = taking c names f (internalAfter External f) (externalAfter External f) ts
+-- the round that takes these transitions, which by says who chose, for an event from there
+unfoldable pub roundBy : Source → Chart → Names → Follower → (ℕ → ℕ) → List ℕ → Round
+roundBy Nothing c names f by ts = idle
+roundBy Eventless c names f by ts = takingBy c names f by (internalAfter Eventless f) (externalAfter Eventless f) ts
+roundBy Internal c names f by ts = takingBy c names f by (internalAfter Internal f) (externalAfter Internal f) ts
+roundBy External c names f by ts = takingBy c names f by (internalAfter External f) (externalAfter External f) ts
 
 -- all that the selection for an event is given: what is worked out of the chart, the session's numbers, room for the items
 pub record EventReady (chart names index : List ℕ) (kinds : RowKinds) (numbers items : List ℕ) : Type 0 where
   pub looked : Lookup chart names index kinds
   pub size : length numbers ≡ 1031
   pub inside : Within (rowCount chart) (rowsOf (configurationIn numbers))
-  pub places : length items ≡ 256
+  pub places : length items ≡ 768
 
--- what was selected for the event
+-- what was selected for the event, and who chose it
 abbrev pub Found : List ℕ → List ℕ → List ℕ → Option Name → List ℕ → Selected → Type 0
 Found chart names numbers event items r =
-    IsSelected (chartOf chart) (rowsOf (configurationIn numbers)) (storedAt (historyIn numbers))
-    (selected (chartOf chart) (nameAt names) (rowsOf (configurationIn numbers)) (storedAt (historyIn numbers)) event) items r
+    IsSelectedBy (chartOf chart) (nameAt names) (rowsOf (configurationIn numbers)) (storedAt (historyIn numbers)) event items r
 
--- the choice of a running session's next round: hist reads the stored history of f
+-- the choice of a running session's next round: hist reads the stored history of f; the places behind the items say who chose (R-6)
 pub record Chooses (c : Chart) (names : Names) (f : Follower) (hist : History) (items : List ℕ) (r : Choice) : Type 0 where
-  pub is : roundIn Running c names f ≡ roundBy (r .source) c names f (listOf items (r .selected .len))
+  pub is : roundIn Running c names f ≡ roundBy (r .source) c names f (chooserIn (choosersIn items)) (listOf items (r .selected .len))
   pub selected : Selects c (f .configuration) hist items (r .selected)
   pub internal : r .source ≡ Internal → f .internal ≡ [] → ⊥
   pub external : r .source ≡ External → f .external ≡ [] → ⊥
@@ -101,6 +104,7 @@ isKnown chart (taken t) = true
 isKnown chart (entered i) = true
 isKnown chart (acted n) = true
 isKnown chart (raised n) = ltb n (nameCount chart)
+isKnown chart (chosen i) = true
 isKnown chart (done i) = ltb i (rowCount chart) && ltb (idAt chart i) (nameCount chart)
 
 pub record JoinsIn (chart joins : List ℕ) : Type 0 where

@@ -97,7 +97,7 @@ pub fn choose(
     external: &[u8],
     items: &mut [u16],
 ) -> Choice
-    requires { ⌜ Lookup (now chart) (now names) (now index) kinds × HoldsAt (now chart) (now numbers) (now internal) (now external) × (length (now items) ≡ 256) ⌝ }
+    requires { ⌜ Lookup (now chart) (now names) (now index) kinds × HoldsAt (now chart) (now numbers) (now internal) (now external) × (length (now items) ≡ 768) ⌝ }
     ensures { λ r. ⌜ Chooses (chartOf (now (chart .entry))) (nameAt (now (names .entry))) (stateAt (now (chart .entry)) (now (numbers .entry)) (now (internal .entry)) (now (external .entry))) (storedAt (historyIn (now (numbers .entry)))) (now (items .exit)) r ⌝ }
 {
     let first = select_eventless(chart, names, index, kinds, numbers, items);

@@ -10,7 +10,7 @@ select-eventless-requires : tie.Need-select-eventless-requires
 select-eventless-requires c κs = event-ready _ _ _ _ (c .before .before .before .before .before .before .before .before .pre .0) _ _ _ _ _ (c .before .before .before .before .before .before .before .before .pre .1) (c .before .before .before .before .before .before .before .before .pre .2)
 
 same-length : tie.Need-same-length
-same-length c = c .before .before .before .before .select-eventless .ensures .fits .room ∙ sym (c .before .before .before .before .before .before .before .before .before .before .before .before .before .pre .2)
+same-length c = c .before .before .before .before .select-eventless .ensures .chosen .fits .room ∙ sym (c .before .before .before .before .before .before .before .before .before .before .before .before .before .pre .2)
 
 returns : tie.Need-returns
 returns c = choose-eventless _ _ (c .before .before .before .before .before .before .before .before .before .before .before .before .before .pre .0 .compiled) _ _ _ _ (c .before .before .before .before .before .before .before .before .before .before .before .before .before .pre .1) _ _ (c .before .before .before .before .select-eventless .ensures) (c .if1 .taken)
@@ -19,10 +19,10 @@ first-name-requires : tie.Need-first-name-requires
 first-name-requires c κs = let e = internal-size _ _ _ _ (c .before .before .before .before .before .before .before .before .before .before .before .before .before .before .before .pre .1 .spells) in record { inside = omega arith }
 
 select-event-requires : tie.Need-select-event-requires
-select-event-requires c κs = event-ready _ _ _ _ (c .before .before .before .before .before .before .before .before .before .before .before .before .before .before .before .before .before .pre .0) _ _ _ _ _ (c .before .before .before .before .before .before .before .before .before .before .before .before .before .before .before .before .before .pre .1) (c .before .before .before .before .before .before .before .before .select-eventless .ensures .fits .room)
+select-event-requires c κs = event-ready _ _ _ _ (c .before .before .before .before .before .before .before .before .before .before .before .before .before .before .before .before .before .pre .0) _ _ _ _ _ (c .before .before .before .before .before .before .before .before .before .before .before .before .before .before .before .before .before .pre .1) (c .before .before .before .before .before .before .before .before .select-eventless .ensures .chosen .fits .room)
 
 same-length-2 : tie.Need-same-length-2
-same-length-2 c = c .before .before .select-event .ensures .fits .room ∙ sym (c .before .before .before .before .before .before .before .before .before .before .before .before .before .before .before .before .before .before .before .before .pre .2)
+same-length-2 c = c .before .before .select-event .ensures .chosen .fits .room ∙ sym (c .before .before .before .before .before .before .before .before .before .before .before .before .before .before .before .before .before .before .before .before .pre .2)
 
 returns-2 : tie.Need-returns-2
 returns-2 c = choose-internal _ _ (c .before .before .before .before .before .before .before .before .before .before .before .before .before .before .before .before .before .before .before .before .pre .0 .compiled) _ _ _ _ (c .before .before .before .before .before .before .before .before .before .before .before .before .before .before .before .before .before .before .before .before .pre .1) _ _ (c .before .before .before .before .before .before .before .before .before .before .before .select-eventless .ensures) (c .before .before .before .before .before .before .before .if1 .left) (c .before .before .before .before .before .if2 .taken) _ _ _ (c .before .before .before .before .first-name .ensures) (c .before .before .select-event .ensures)
@@ -31,16 +31,16 @@ first-name-requires-2 : tie.Need-first-name-requires-2
 first-name-requires-2 c κs = let e = external-size _ _ _ _ (c .before .before .before .before .before .before .before .before .before .before .before .before .before .before .before .before .before .pre .1 .spells) in record { inside = omega arith }
 
 select-event-requires-2 : tie.Need-select-event-requires-2
-select-event-requires-2 c κs = event-ready _ _ _ _ (c .before .before .before .before .before .before .before .before .before .before .before .before .before .before .before .before .before .before .before .pre .0) _ _ _ _ _ (c .before .before .before .before .before .before .before .before .before .before .before .before .before .before .before .before .before .before .before .pre .1) (c .before .before .before .before .before .before .before .before .before .before .select-eventless .ensures .fits .room)
+select-event-requires-2 c κs = event-ready _ _ _ _ (c .before .before .before .before .before .before .before .before .before .before .before .before .before .before .before .before .before .before .before .pre .0) _ _ _ _ _ (c .before .before .before .before .before .before .before .before .before .before .before .before .before .before .before .before .before .before .before .pre .1) (c .before .before .before .before .before .before .before .before .before .before .select-eventless .ensures .chosen .fits .room)
 
 same-length-3 : tie.Need-same-length-3
-same-length-3 c = c .before .before .select-event2 .ensures .fits .room ∙ sym (c .before .before .before .before .before .before .before .before .before .before .before .before .before .before .before .before .before .before .before .before .before .before .pre .2)
+same-length-3 c = c .before .before .select-event2 .ensures .chosen .fits .room ∙ sym (c .before .before .before .before .before .before .before .before .before .before .before .before .before .before .before .before .before .before .before .before .before .before .pre .2)
 
 returns-3 : tie.Need-returns-3
 returns-3 c = choose-external _ _ (c .before .before .before .before .before .before .before .before .before .before .before .before .before .before .before .before .before .before .before .before .before .before .pre .0 .compiled) _ _ _ _ (c .before .before .before .before .before .before .before .before .before .before .before .before .before .before .before .before .before .before .before .before .before .before .pre .1) _ _ (c .before .before .before .before .before .before .before .before .before .before .before .before .before .select-eventless .ensures) (c .before .before .before .before .before .before .before .before .before .if1 .left) (c .before .before .before .before .before .before .before .if2 .left) (c .before .before .before .before .before .if3 .taken) _ _ _ (c .before .before .before .before .first-name2 .ensures) (c .before .before .select-event2 .ensures)
 
 same-length-4 : tie.Need-same-length-4
-same-length-4 c = c .before .before .before .before .before .before .before .before .select-eventless .ensures .fits .room ∙ sym (c .before .before .before .before .before .before .before .before .before .before .before .before .before .before .before .before .before .pre .2)
+same-length-4 c = c .before .before .before .before .before .before .before .before .select-eventless .ensures .chosen .fits .room ∙ sym (c .before .before .before .before .before .before .before .before .before .before .before .before .before .before .before .before .before .pre .2)
 
 returns-4 : tie.Need-returns-4
 returns-4 c = choose-nothing _ _ (c .before .before .before .before .before .before .before .before .before .before .before .before .before .before .before .before .before .pre .0 .compiled) _ _ _ _ (c .before .before .before .before .before .before .before .before .before .before .before .before .before .before .before .before .before .pre .1) _ _ (c .before .before .before .before .before .before .before .before .select-eventless .ensures) (c .before .before .before .before .if1 .left) (c .before .before .if2 .left) (c .if3 .left)

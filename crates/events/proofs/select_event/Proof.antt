@@ -14,7 +14,7 @@ select-requires : tie.Need-select-requires
 select-requires c κs = record { prepared = prepared _ _ _ _ (c .before .before .before .before .before .before .before .before .before .before .before .before .pre .looked); fixed = c .before .before .before .before .before .before .before .before .before .before .before .before .pre .looked .indexed .domains; inside = rw (c .before .before .before .before .set-at .ensures) (c .before .before .before .before .before .before .before .before .before .before .before .before .pre .inside); room = history-part (c .before .before .before .before .before .before .before .before .before .before .before .before .args .numbers .now) (c .before .before .before .before .before .before .before .before .before .before .before .before .pre .size); places = c .before .before .before .before .before .before .before .before .before .before .before .before .pre .places }
 
 same-length : tie.Need-same-length
-same-length c = c .before .before .select .ensures .fits .room ∙ sym (c .before .before .before .before .before .before .before .before .before .before .before .before .before .before .before .pre .places)
+same-length c = c .before .before .select .ensures .chosen .fits .room ∙ sym (c .before .before .before .before .before .before .before .before .before .before .before .before .before .before .before .pre .places)
 
 returns : tie.Need-returns
 returns c = rw (← c .before .before .before .before .before .before .before .set-at .ensures) (c .before .before .select .ensures)
