@@ -9,7 +9,7 @@ use borrow.Author.Tests.{eqb-true, not-true}
 use Rattle.definition.specs.declared.Kind.{Kind}
 use Rattle.definition.specs.Rows.{mem, isEmpty, insert, union, meets}
 use Rattle.definition.specs.Chart.{Chart, kindNo, kind, isState, isParallel, isFinal}
-use Rattle.definition.specs.Tree.{children, isCompound, isAtomic, defaultTargets}
+use Rattle.definition.specs.Tree.{children, isCompound, isAtomic}
 use Rattle.follower.specs.Microstep.{pathsBelow, Entry, hasNoChildIn, complete, entrySet}
 use Rattle.laws.specs.Bools.{no, clash, not-so, and-left, and-right, or-elim}
 use Rattle.laws.specs.Sets.{mem-those}
@@ -61,10 +61,6 @@ module _ (c : Chart) (targets : ℕ → List ℕ) (set byDefault : List ℕ) (i 
 pub record AllAtomic (c : Chart) (xs : List ℕ) : Type 0 where
   pub at : (i : ℕ) → mem i xs ≡ true → isAtomic c i ≡ true
 
-pub none-atomic : (c : Chart) (xs : List ℕ) → xs ≡ [] → AllAtomic c xs
-unfolding mem
-none-atomic c xs e = record { at = λ i m. absurd (no (sym (ap (mem i) e) ∙ m)) }
-
 pub all-atomic : (c : Chart) (xs : List ℕ) → xs ≡ atomicRows c → AllAtomic c xs
 unfolding atomicRows
 all-atomic c xs e = record {
@@ -98,32 +94,32 @@ complete-leaf c targets set byDefault atoms i h a m =
 -- ---- the pass
 
 -- the rows below k are done
-pub record Completing (c : Chart) (aim : List ℕ) (e : Entered) (k : ℕ) : Type 0 where
+pub record Completing (c : Chart) (targets : ℕ → List ℕ) (aim : List ℕ) (e : Entered) (k : ℕ) : Type 0 where
   pub within : Within (c .rows) (rowsOf (e .set))
-  pub done : Counted (complete c (defaultTargets c)) (aimedAt aim) (enteredAs e) (c .rows) k
+  pub done : Counted (complete c targets) (aimedAt aim) (enteredAs e) (c .rows) k
 
-module _ (c : Chart) (aim : List ℕ) where
-  pub completing-begin : (e : Entered) → rowsOf (e .set) ≡ aim → rowsOf (e .«by_default») ≡ [] → Within (c .rows) aim → Completing c aim e 0
+module _ (c : Chart) (targets : ℕ → List ℕ) (aim : List ℕ) where
+  pub completing-begin : (e : Entered) → rowsOf (e .set) ≡ aim → rowsOf (e .«by_default») ≡ [] → Within (c .rows) aim → Completing c targets aim e 0
   completing-begin e q n w = record {
     within = subst (Within (c .rows)) (sym q) w;
-    done = count-begin (complete c (defaultTargets c)) (aimedAt aim) (enteredAs e) (c .rows) (rw (q, n));
+    done = count-begin (complete c targets) (aimedAt aim) (enteredAs e) (c .rows) (rw (q, n));
   }
 
-  pub completing-row : (e : Entered) (k : ℕ) (o : Found) (r : Row) → Completing c aim e k → o ≡ nextIn (rowsOf (e .set)) k → o ≡ At r → r .0 < c .rows
+  pub completing-row : (e : Entered) (k : ℕ) (o : Found) (r : Row) → Completing c targets aim e k → o ≡ nextIn (rowsOf (e .set)) k → o ≡ At r → r .0 < c .rows
   completing-row e k o r g q h = g .within .at (r .0) (found-next (e .set) k o q r h .here)
 
-  pub completing-turn : (e f : Entered) (k : ℕ) (o : Found) (r : Row) → Completing c aim e k → o ≡ nextIn (rowsOf (e .set)) k → o ≡ At r →
-      enteredAs f ≡ complete c (defaultTargets c) (enteredAs e) (r .0) → Completing c aim f (r .0 + 1)
+  pub completing-turn : (e f : Entered) (k : ℕ) (o : Found) (r : Row) → Completing c targets aim e k → o ≡ nextIn (rowsOf (e .set)) k → o ≡ At r →
+      enteredAs f ≡ complete c targets (enteredAs e) (r .0) → Completing c targets aim f (r .0 + 1)
   completing-turn e f k o r g q h n = record {
     within = record {
-      at = λ j m. or-elim (mem j (rowsOf (e .set))) (asksFor c (defaultTargets c) (rowsOf (e .set)) (r .0) j) (g .within .at j) (asked-inside c (defaultTargets c) (rowsOf (e .set)) (r .0) j)
-          (sym (ap (λ (x : Entry). mem j (x .set)) n ∙ mem-complete c (defaultTargets c) (enteredAs e) (r .0) j) ∙ m);
+      at = λ j m. or-elim (mem j (rowsOf (e .set))) (asksFor c targets (rowsOf (e .set)) (r .0) j) (g .within .at j) (asked-inside c targets (rowsOf (e .set)) (r .0) j)
+          (sym (ap (λ (x : Entry). mem j (x .set)) n ∙ mem-complete c targets (enteredAs e) (r .0) j) ∙ m);
     };
-    done = skip-turn (complete c (defaultTargets c)) (aimedAt aim) (enteredAs e) (c .rows) (e .set) (complete-out c (defaultTargets c) (rowsOf (e .set)) (rowsOf (e .«by_default»)))
+    done = skip-turn (complete c targets) (aimedAt aim) (enteredAs e) (c .rows) (e .set) (complete-out c targets (rowsOf (e .set)) (rowsOf (e .«by_default»)))
         (enteredAs f) k o r (g .done) q h (completing-row e k o r g q h) n;
   }
 
-  pub completing-end : (e : Entered) (k : ℕ) (o : Found) → Completing c aim e k → o ≡ nextIn (rowsOf (e .set)) k → o ≡ Nothing → enteredAs e ≡ entrySet c (defaultTargets c) aim
+  pub completing-end : (e : Entered) (k : ℕ) (o : Found) → Completing c targets aim e k → o ≡ nextIn (rowsOf (e .set)) k → o ≡ Nothing → enteredAs e ≡ entrySet c targets aim
   unfolding entrySet
   completing-end e k o g q h =
-      skip-end (complete c (defaultTargets c)) (aimedAt aim) (enteredAs e) (c .rows) (e .set) (complete-out c (defaultTargets c) (rowsOf (e .set)) (rowsOf (e .«by_default»))) k o (g .done) q h
+      skip-end (complete c targets) (aimedAt aim) (enteredAs e) (c .rows) (e .set) (complete-out c targets (rowsOf (e .set)) (rowsOf (e .«by_default»))) k o (g .done) q h

@@ -1,35 +1,37 @@
 -- The plan of a round: what stays, what is left, what is entered; and that its effects are the definition's.
 use mathlib.Core.Path.{_≡_, ap, sym, _∙_}
 use mathlib.Core.Bool.{Bool, true, false, cond}
-use mathlib.Core.List.{List, [], _++_}
+use mathlib.Core.List.{List, [], _∷_, _++_}
 use Prim.Native.Nat.{ℕ, _^_, _<_, _≤_}
 use native.Mathlib.Omega.{arith}
-use Rattle.definition.specs.Rows.{keep, mem, isEmpty, flat, union, minus, intersection}
+use lib.ListN.{replicate}
+use Rattle.definition.specs.Rows.{nothingAt, keep, mem, isEmpty, flat, union, minus, intersection}
 use Rattle.definition.specs.Chart.{Chart, isHistory}
 use Rattle.definition.specs.Tables.{rowCount, transitionCount, kindAt, chartOf}
-use Rattle.definition.specs.Tree.{descendants, defaultTargets}
-use Rattle.follower.specs.Selection.{History, effectiveTargets, domain, exitSet}
+use Rattle.definition.specs.Tree.{descendants}
+use Rattle.follower.specs.Selection.{History, effectiveTargets, initialTargets, domain, exitSet}
 use Rattle.follower.specs.Blocks.{Effect}
-use Rattle.follower.specs.Microstep.{stored, addExits, exits, historyAfter, storedIn, staying, exiting, transitionEffects, pathsBelow, addTargets, targeted, Entry, entrySet, entryOf, fellToDefault, addFallen, fallen, entering, configurationAfter, effects}
-use Rattle.follower.specs.Follower.{firstEntry, firstEffects}
+use Rattle.follower.specs.Microstep.{stored, addExits, exits, historyAfter, storedIn, staying, exiting, transitionEffects, pathsBelow, addTargets, targeted, Entry, entrySet, entryOf, fellToDefault, addFallen, fallen, withInitial, fallenOf, entering, configurationAfter, effects}
+use Rattle.follower.specs.Follower.{firstEntry, firstFallen, firstEffects}
 use Rattle.laws.specs.Bools.{no, and-left, or-elim}
 use Rattle.laws.specs.Sets.{mem-union, mem-intersection, mem-minus}
 use Rattle.laws.specs.Lists.{keep-mem}
 use Rattle.laws.specs.Passes.{fold-keeps}
 use Rattle.accepted.specs.Sound.{Sound}
 use Rattle.theory.specs.Entry.{path-inside, entry-inside}
+use Rattle.rowset.specs.declared.RowSet.{RowSet}
 use Rattle.rowset.specs.Member.{rowsOf}
 use Rattle.chart.specs.Ready.{Ready}
 use Rattle.chart.specs.Within.{Within, Taken, within-none}
+use Rattle.paths.specs.History.{storedAt}
 use Rattle.effects.specs.declared.Tally.{Tally}
 use Rattle.effects.specs.Trace.{Places, Wrote, Room, wrote-both, room-first, room-next}
 use Rattle.effects.specs.Entering.{entryIs, HistoryRows}
-use Rattle.effects.specs.Bounds.{round-room}
+use Rattle.effects.specs.Bounds.{round-room, entering-room}
 use Rattle.microstep.specs.declared.Plan.{Plan}
-use Rattle.microstep.specs.declared.Entered.{Entered}
 use Rattle.microstep.specs.Stored.{after-stored}
 use Rattle.microstep.specs.Targets.{targeted-same, fallen-same}
-use Rattle.microstep.specs.Entry.{enteredAs}
+use Rattle.microstep.specs.Initial.{initial-same, with-initial-same, defaults-within, start-stored}
 
 -- the plan is the definition's for these transitions, taken together from a configuration with its stored history
 pub record Planned (c : Chart) (conf : List ℕ) (hist : History) (ts : List ℕ) (p : Plan) : Type 0 where
@@ -37,7 +39,7 @@ pub record Planned (c : Chart) (conf : List ℕ) (hist : History) (ts : List ℕ
   pub stay : rowsOf (p .stay) ≡ staying c conf hist ts
   pub out : rowsOf (p .out) ≡ exits c conf hist ts
   pub entry : entryIs (p .set) (p .«by_default») ≡ entryOf c conf hist ts
-  pub fallen : rowsOf (p .fallen) ≡ fallen c (storedIn (historyAfter c conf hist ts)) ts
+  pub fallen : rowsOf (p .fallen) ≡ fallenOf c conf hist ts
 
 -- its rows are the chart's
 pub record PlanReady (chart : List ℕ) (p : Plan) : Type 0 where
@@ -45,6 +47,12 @@ pub record PlanReady (chart : List ℕ) (p : Plan) : Type 0 where
   pub out : Within (rowCount chart) (rowsOf (p .out))
   pub set : Within (rowCount chart) (rowsOf (p .set))
   pub fallen : HistoryRows chart (rowsOf (p .fallen))
+
+-- the plan is the definition's for a start
+pub record StartPlanned (c : Chart) (p : Plan) : Type 0 where
+  pub stay : rowsOf (p .stay) ≡ []
+  pub entry : entryIs (p .set) (p .«by_default») ≡ firstEntry c
+  pub fallen : rowsOf (p .fallen) ≡ firstFallen c
 
 -- counts so far that leave room for a round
 pub record Small (t : Tally) : Type 0 where
@@ -54,16 +62,27 @@ pub record Small (t : Tally) : Type 0 where
 -- ---- the history after the exits, as a function of the row
 
 module _ (c : Chart) (g : Sound c) (conf : List ℕ) (hist : History) (ts : List ℕ) (w : Within (c .transitions) ts) (out : List ℕ) (e : out ≡ exits c conf hist ts) where
-  agree : (t x : ℕ) → mem t ts ≡ true → mem x ((c .transition) t .targets) ≡ true → storedIn (historyAfter c conf hist ts) x ≡ stored c conf hist out x
-  agree t x m n = after-stored c conf hist ts x (g .targetInside t (w .at t m) x n) ∙ ap (λ (xs : List ℕ). stored c conf hist xs x) (sym e)
+  agree : (h : ℕ) → h < c .rows → storedIn (historyAfter c conf hist ts) h ≡ stored c conf hist out h
+  agree h l = after-stored c conf hist ts h l ∙ ap (λ (xs : List ℕ). stored c conf hist xs h) (sym e)
 
-  pub plan-entry : (aim : List ℕ) (i : Entry) → i ≡ entrySet c (defaultTargets c) aim → aim ≡ targeted c hist (stored c conf hist out) ts → i ≡ entryOf c conf hist ts
+  agree-targets : (t x : ℕ) → mem t ts ≡ true → mem x ((c .transition) t .targets) ≡ true → storedIn (historyAfter c conf hist ts) x ≡ stored c conf hist out x
+  agree-targets t x m n = agree x (g .targetInside t (w .at t m) x n)
+
+  pub plan-entry : (aim : List ℕ) (i : Entry) → i ≡ entrySet c (initialTargets c (stored c conf hist out)) aim → aim ≡ targeted c hist (stored c conf hist out) ts → i ≡ entryOf c conf hist ts
   unfolding entryOf
   plan-entry aim i f h =
-      f ∙ ap (entrySet c (defaultTargets c)) (h ∙ sym (targeted-same c hist (storedIn (historyAfter c conf hist ts)) (stored c conf hist out) ts agree))
+      f ∙ ap (entrySet c (initialTargets c (stored c conf hist out))) (h ∙ sym (targeted-same c hist (storedIn (historyAfter c conf hist ts)) (stored c conf hist out) ts agree-targets)) ∙
+      ap (λ (targets : ℕ → List ℕ). entrySet c targets (targeted c hist (storedIn (historyAfter c conf hist ts)) ts))
+      (sym (initial-same c g (storedIn (historyAfter c conf hist ts)) (stored c conf hist out) agree))
 
-  pub plan-fallen : (fell : List ℕ) → fell ≡ fallen c (stored c conf hist out) ts → fell ≡ fallen c (storedIn (historyAfter c conf hist ts)) ts
-  plan-fallen fell h = h ∙ sym (fallen-same c hist (storedIn (historyAfter c conf hist ts)) (stored c conf hist out) ts agree)
+  pub plan-fallen : (aimed fell : List ℕ) (i : Entry) → i ≡ entryOf c conf hist ts → aimed ≡ fallen c (stored c conf hist out) ts → fell ≡ withInitial c (stored c conf hist out) aimed (i .byDefault) →
+      fell ≡ fallenOf c conf hist ts
+  unfolding fallenOf
+  plan-fallen aimed fell i q h k =
+      k ∙ sym (with-initial-same c g (storedIn (historyAfter c conf hist ts)) (stored c conf hist out) agree aimed (i .byDefault)) ∙
+      ap (λ (xs : List ℕ). withInitial c (storedIn (historyAfter c conf hist ts)) xs (i .byDefault))
+      (h ∙ sym (fallen-same c hist (storedIn (historyAfter c conf hist ts)) (stored c conf hist out) ts agree-targets)) ∙
+      ap (λ (x : Entry). withInitial c (storedIn (historyAfter c conf hist ts)) (fallen c (storedIn (historyAfter c conf hist ts)) ts) (x .byDefault)) q
 
   pub plan-stay : (stay : List ℕ) → stay ≡ minus conf out → stay ≡ staying c conf hist ts
   unfolding staying
@@ -93,8 +112,8 @@ targeted-within c before after ts aim e =
     rw e (fold-keeps (addTargets c before after) (Within (c .rows)) ts []
     (λ t set m v. union-within (c .rows) set _ v (record { at = path-inside c (domain c before ((c .transition) t)) (effectiveTargets c after ((c .transition) t)) })) (within-none (c .rows)))
 
-pub entry-within : (c : Chart) (aim : List ℕ) (i : Entry) → i ≡ entrySet c (defaultTargets c) aim → Within (c .rows) aim → Within (c .rows) (i .set)
-entry-within c aim i e w = rw e (record { at = entry-inside c (defaultTargets c) aim (w .at) })
+pub entry-within : (c : Chart) (targets : ℕ → List ℕ) (aim : List ℕ) (i : Entry) → i ≡ entrySet c targets aim → Within (c .rows) aim → Within (c .rows) (i .set)
+entry-within c targets aim i e w = rw e (record { at = entry-inside c targets aim (w .at) })
 
 -- the fallen are histories among the targets
 pub fallen-histories : (chart : List ℕ) → Ready chart → (after : History) (ts fell : List ℕ) → Within (transitionCount chart) ts → fell ≡ fallen (chartOf chart) after ts → HistoryRows chart fell
@@ -114,66 +133,91 @@ fallen-histories chart g after ts fell w e = record {
 
 -- ---- effects
 
--- what is written for a plan
-unfoldable pub planEffects : Chart → Plan → List ℕ → List Effect
-planEffects c p ts =
-    exiting c (rowsOf (p .conf)) (rowsOf (p .out)) ++ flat (transitionEffects c (rowsOf (p .stay))) ts ++ entering c (rowsOf (p .stay)) (entryIs (p .set) (p .«by_default»)) (rowsOf (p .fallen))
+-- what is written for a plan; by says which row chose a transition
+unfoldable pub planEffects : Chart → Plan → (ℕ → ℕ) → List ℕ → List Effect
+planEffects c p by ts =
+    exiting c (rowsOf (p .conf)) (rowsOf (p .out)) ++ flat (transitionEffects c (rowsOf (p .stay)) by) ts ++
+    entering c (rowsOf (p .stay)) (entryIs (p .set) (p .«by_default»)) (rowsOf (p .fallen))
 
-pub plan-effects : (c : Chart) (conf : List ℕ) (hist : History) (ts : List ℕ) (p : Plan) → Planned c conf hist ts p → planEffects c p ts ≡ effects c conf hist ts
+pub plan-effects : (c : Chart) (conf : List ℕ) (hist : History) (by : ℕ → ℕ) (ts : List ℕ) (p : Plan) → Planned c conf hist ts p → planEffects c p by ts ≡ effects c conf hist by ts
 unfolding planEffects effects
-plan-effects c conf hist ts p h = rw (h .from, h .out, h .stay, h .entry, h .fallen)
+plan-effects c conf hist by ts p h = rw (h .from, h .out, h .stay, h .entry, h .fallen)
 
 pub plan-next : (c : Chart) (conf : List ℕ) (hist : History) (ts : List ℕ) (p : Plan) → Planned c conf hist ts p → union (rowsOf (p .stay)) (rowsOf (p .set)) ≡ configurationAfter c conf hist ts
 unfolding configurationAfter
 plan-next c conf hist ts p h = rw (h .stay) (ap (λ (e : Entry). union (staying c conf hist ts) (e .set)) (h .entry))
 
 -- the pieces have room, one after the other, and together are the plan's effects
-module _ (chart : List ℕ) (p : Plan) (chosen : List ℕ) (old : Places) (t : Tally) (h : PlanReady chart p) (w : Taken (transitionCount chart) chosen) (s : Small t) where
-  whole : Room t (exiting (chartOf chart) (rowsOf (p .conf)) (rowsOf (p .out)) ++ flat (transitionEffects (chartOf chart) (rowsOf (p .stay))) chosen ++ entering (chartOf chart) (rowsOf (p .stay)) (entryIs (p .set) (p .«by_default»)) (rowsOf (p .fallen)))
+module _ (chart : List ℕ) (p : Plan) (by : ℕ → ℕ) (chosen : List ℕ) (old : Places) (t : Tally) (h : PlanReady chart p) (w : Taken (transitionCount chart) chosen) (s : Small t) where
+  whole : Room t (exiting (chartOf chart) (rowsOf (p .conf)) (rowsOf (p .out)) ++ flat (transitionEffects (chartOf chart) (rowsOf (p .stay)) by) chosen ++ entering (chartOf chart) (rowsOf (p .stay)) (entryIs (p .set) (p .«by_default»)) (rowsOf (p .fallen)))
   whole =
-      round-room chart (h .ready .tables) t (rowsOf (p .conf)) (p .out) chosen (rowsOf (p .stay)) (p .set) (p .«by_default») (p .fallen) (s .entries) (s .names) (h .out) (w .most) (w .inside) (h .set) (h .fallen)
+      round-room chart (h .ready .tables) t (rowsOf (p .conf)) (p .out) by chosen (rowsOf (p .stay)) (p .set) (p .«by_default») (p .fallen) (s .entries) (s .names) (h .out) (w .most) (w .inside) (h .set) (h .fallen)
 
-  before-entries : Room t (exiting (chartOf chart) (rowsOf (p .conf)) (rowsOf (p .out)) ++ flat (transitionEffects (chartOf chart) (rowsOf (p .stay))) chosen)
-  before-entries = room-first t (exiting (chartOf chart) (rowsOf (p .conf)) (rowsOf (p .out)) ++ flat (transitionEffects (chartOf chart) (rowsOf (p .stay))) chosen) _ whole
+  before-entries : Room t (exiting (chartOf chart) (rowsOf (p .conf)) (rowsOf (p .out)) ++ flat (transitionEffects (chartOf chart) (rowsOf (p .stay)) by) chosen)
+  before-entries = room-first t (exiting (chartOf chart) (rowsOf (p .conf)) (rowsOf (p .out)) ++ flat (transitionEffects (chartOf chart) (rowsOf (p .stay)) by) chosen) _ whole
 
   pub exits-room : Room t (exiting (chartOf chart) (rowsOf (p .conf)) (rowsOf (p .out)))
-  exits-room = room-first t (exiting (chartOf chart) (rowsOf (p .conf)) (rowsOf (p .out))) (flat (transitionEffects (chartOf chart) (rowsOf (p .stay))) chosen) before-entries
+  exits-room = room-first t (exiting (chartOf chart) (rowsOf (p .conf)) (rowsOf (p .out))) (flat (transitionEffects (chartOf chart) (rowsOf (p .stay)) by) chosen) before-entries
 
   module _ (old1 : Places) (t1 : Tally) (w1 : Wrote old old1 t t1 (exiting (chartOf chart) (rowsOf (p .conf)) (rowsOf (p .out)))) where
-    pub taken-room : Room t1 (flat (transitionEffects (chartOf chart) (rowsOf (p .stay))) chosen)
-    taken-room = room-next old old1 t t1 (exiting (chartOf chart) (rowsOf (p .conf)) (rowsOf (p .out))) (flat (transitionEffects (chartOf chart) (rowsOf (p .stay))) chosen) before-entries w1
+    pub taken-room : Room t1 (flat (transitionEffects (chartOf chart) (rowsOf (p .stay)) by) chosen)
+    taken-room = room-next old old1 t t1 (exiting (chartOf chart) (rowsOf (p .conf)) (rowsOf (p .out))) (flat (transitionEffects (chartOf chart) (rowsOf (p .stay)) by) chosen) before-entries w1
 
-    module _ (old2 : Places) (t2 : Tally) (w2 : Wrote old1 old2 t1 t2 (flat (transitionEffects (chartOf chart) (rowsOf (p .stay))) chosen)) where
-      both : Wrote old old2 t t2 (exiting (chartOf chart) (rowsOf (p .conf)) (rowsOf (p .out)) ++ flat (transitionEffects (chartOf chart) (rowsOf (p .stay))) chosen)
-      both = wrote-both old old1 old2 t t1 t2 (exiting (chartOf chart) (rowsOf (p .conf)) (rowsOf (p .out))) (flat (transitionEffects (chartOf chart) (rowsOf (p .stay))) chosen) w1 w2
+    module _ (old2 : Places) (t2 : Tally) (w2 : Wrote old1 old2 t1 t2 (flat (transitionEffects (chartOf chart) (rowsOf (p .stay)) by) chosen)) where
+      both : Wrote old old2 t t2 (exiting (chartOf chart) (rowsOf (p .conf)) (rowsOf (p .out)) ++ flat (transitionEffects (chartOf chart) (rowsOf (p .stay)) by) chosen)
+      both = wrote-both old old1 old2 t t1 t2 (exiting (chartOf chart) (rowsOf (p .conf)) (rowsOf (p .out))) (flat (transitionEffects (chartOf chart) (rowsOf (p .stay)) by) chosen) w1 w2
 
       pub entries-room : Room t2 (entering (chartOf chart) (rowsOf (p .stay)) (entryIs (p .set) (p .«by_default»)) (rowsOf (p .fallen)))
-      entries-room = room-next old old2 t t2 (exiting (chartOf chart) (rowsOf (p .conf)) (rowsOf (p .out)) ++ flat (transitionEffects (chartOf chart) (rowsOf (p .stay))) chosen) _ whole both
+      entries-room = room-next old old2 t t2 (exiting (chartOf chart) (rowsOf (p .conf)) (rowsOf (p .out)) ++ flat (transitionEffects (chartOf chart) (rowsOf (p .stay)) by) chosen) _ whole both
 
       pub plan-wrote : (old3 : Places) (t3 : Tally) → Wrote old2 old3 t2 t3 (entering (chartOf chart) (rowsOf (p .stay)) (entryIs (p .set) (p .«by_default»)) (rowsOf (p .fallen))) →
-          Wrote old old3 t t3 (planEffects (chartOf chart) p chosen)
+          Wrote old old3 t t3 (planEffects (chartOf chart) p by chosen)
       unfolding planEffects
-      plan-wrote old3 t3 w3 = wrote-both old old2 old3 t t2 t3 (exiting (chartOf chart) (rowsOf (p .conf)) (rowsOf (p .out)) ++ flat (transitionEffects (chartOf chart) (rowsOf (p .stay))) chosen) _ both w3
+      plan-wrote old3 t3 w3 = wrote-both old old2 old3 t t2 t3 (exiting (chartOf chart) (rowsOf (p .conf)) (rowsOf (p .out)) ++ flat (transitionEffects (chartOf chart) (rowsOf (p .stay)) by) chosen) _ both w3
 
--- ---- the first entry
+-- ---- a start
 
 pub paths-within : (c : Chart) (d : ℕ) (to xs : List ℕ) → xs ≡ pathsBelow c d to → Within (c .rows) xs
 paths-within c d to xs e = rw e (record { at = path-inside c d to })
 
-pub first-is : (c : Chart) (aim : List ℕ) (i : Entry) → i ≡ entrySet c (defaultTargets c) aim → aim ≡ pathsBelow c 0 (defaultTargets c 0) → i ≡ firstEntry c
+-- by a history that has nothing stored for the chart's rows
+pub first-is : (c : Chart) → Sound c → (hist : History) → ((h : ℕ) → h < c .rows → hist h ≡ nothingAt h) → (aim : List ℕ) (i : Entry) → i ≡ entrySet c (initialTargets c hist) aim →
+    aim ≡ pathsBelow c 0 (initialTargets c hist 0) → i ≡ firstEntry c
 unfolding firstEntry
-first-is c aim i e f = e ∙ ap (entrySet c (defaultTargets c)) f
+first-is c g hist n aim i e f =
+    e ∙ ap (entrySet c (initialTargets c hist)) f ∙ ap (λ (targets : ℕ → List ℕ). entrySet c targets (pathsBelow c 0 (targets 0))) (initial-same c g hist nothingAt n)
 
-pub first-effects : (c : Chart) (e : Entered) → enteredAs e ≡ firstEntry c → entering c [] (enteredAs e) [] ≡ firstEffects c
-unfolding firstEffects
-first-effects c e q = ap (λ (i : Entry). entering c [] i []) q
+-- by zeros, where nothing is exited
+pub first-by-zeros : (chart : List ℕ) → Ready chart → (conf out : RowSet) → rowsOf out ≡ [] → (aim : List ℕ) (i : Entry) →
+    i ≡ entrySet (chartOf chart) (initialTargets (chartOf chart) (stored (chartOf chart) (rowsOf conf) (storedAt (replicate 1024 0)) (rowsOf out))) aim →
+    aim ≡ pathsBelow (chartOf chart) 0 (initialTargets (chartOf chart) (stored (chartOf chart) (rowsOf conf) (storedAt (replicate 1024 0)) (rowsOf out)) 0) → i ≡ firstEntry (chartOf chart)
+first-by-zeros chart g conf out e =
+    first-is (chartOf chart) (g .sound) (stored (chartOf chart) (rowsOf conf) (storedAt (replicate 1024 0)) (rowsOf out))
+    (start-stored (chartOf chart) (rowsOf conf) (rowsOf out) (g .tables .sized .counts .rows) e)
+
+pub first-defaults : (c : Chart) (i : Entry) → i ≡ firstEntry c → Within (c .rows) (i .byDefault)
+unfolding firstEntry
+first-defaults c i e = defaults-within c (initialTargets c nothingAt) (pathsBelow c 0 (initialTargets c nothingAt 0)) i e
+
+pub first-fallen : (c : Chart) (i : Entry) (fell : List ℕ) → i ≡ firstEntry c → fell ≡ withInitial c nothingAt [] (0 ∷ i .byDefault) → fell ≡ firstFallen c
+unfolding firstFallen
+first-fallen c i fell e f = f ∙ ap (λ (x : Entry). withInitial c nothingAt [] (0 ∷ x .byDefault)) e
+
+-- what is written for the plan of a start
+unfoldable pub startEffects : Chart → Plan → List Effect
+startEffects c p = entering c (rowsOf (p .stay)) (entryIs (p .set) (p .«by_default»)) (rowsOf (p .fallen))
+
+pub start-effects : (c : Chart) (p : Plan) → StartPlanned c p → startEffects c p ≡ firstEffects c
+unfolding startEffects firstEffects
+start-effects c p h = rw (h .stay, h .entry, h .fallen)
+
+pub start-room : (chart : List ℕ) (p : Plan) (t : Tally) → PlanReady chart p → Small t → Room t (startEffects (chartOf chart) p)
+unfolding startEffects
+start-room chart p t h s = entering-room chart (h .ready .tables) t (rowsOf (p .stay)) (p .set) (p .«by_default») (p .fallen) (s .entries) (s .names) (h .set) (h .fallen)
 
 pub no-histories : (chart xs : List ℕ) → Ready chart → xs ≡ [] → HistoryRows chart xs
 unfolding mem
 no-histories chart xs g e = record { ready = g; at = λ h m. absurd (no (rw e at m)) }
-
-pub first-wrote : (c : Chart) (i : Entry) (stay fell : List ℕ) (old new : Places) (t r : Tally) → stay ≡ [] → fell ≡ [] → Wrote old new t r (entering c stay i fell) → Wrote old new t r (entering c [] i [])
-first-wrote c i stay fell old new t r e f w = rw (e, f) at w
 
 -- ---- after the round
 

@@ -10,7 +10,7 @@ use lib.ListN.{length, getD}
 use Rattle.definition.specs.Rows.{fold, keep, any, mem, isEmpty, insert, union, with}
 use Rattle.definition.specs.Chart.{Chart, Transition, kind, parent, isRoot, isHistory}
 use Rattle.definition.specs.Tree.{ancestors, isDescendant, descendants, listed, defaultTargets, anchor, anchors}
-use Rattle.follower.specs.Selection.{History, orDefault, standIns, addStandIns, effectiveTargets, domain}
+use Rattle.follower.specs.Selection.{History, orDefault, standIns, addStandIns, resolved, effectiveTargets, domain}
 use Rattle.follower.specs.Microstep.{pathsBelow, addTargets, targeted, fellToDefault, addFallen, fallen}
 use Rattle.laws.specs.Bools.{no, clash, not-so, or-left, or-right, or-elim, or-false, and-left, and-right, and-true, both-ways}
 use Rattle.laws.specs.Sets.{ascends-ext, mem-union, mem-one}
@@ -40,7 +40,7 @@ paths-set c d xs = paths-same c d (union [] xs) xs (λ a. mem-union a [] xs)
 
 module _ (c : Chart) (before after : History) where
   pub effective-same : (t : Transition) → ((x : ℕ) → mem x (t .targets) ≡ true → before x ≡ after x) → effectiveTargets c before t ≡ effectiveTargets c after t
-  unfolding effectiveTargets addStandIns standIns
+  unfolding effectiveTargets resolved addStandIns standIns
   effective-same t h = fold-same (addStandIns c before) (addStandIns c after) (t .targets) [] (λ x set m. rw (h x m))
 
   pub fell-same : (t : Transition) → ((x : ℕ) → mem x (t .targets) ≡ true → before x ≡ after x) → keep (fellToDefault c before) (t .targets) ≡ keep (fellToDefault c after) (t .targets)
@@ -177,16 +177,20 @@ unfolding orDefault
 default-rows P [] default f g = g
 default-rows P (x ∷ xs) default f g = f
 
+-- what stands in for a row
+pub stand-ins-within : (c : Chart) → Sound c → (hist : History) → ((h : ℕ) → h < c .rows → Within (c .rows) (hist h)) → (x : ℕ) → x < c .rows → (e : ℕ) → mem e (standIns c hist x) ≡ true → e < c .rows
+unfolding standIns
+stand-ins-within c g hist w x k e m = go (isHistory (kind c x)) m
+  where
+    go : (b : Bool) → mem e (cond b (orDefault (hist x) (listed c x)) (x ∷ [])) ≡ true → e < c .rows
+    go true m = default-rows (λ i. i < c .rows) (hist x) (listed c x) (w x k .at) (g .listInside x) e m
+    go false m = rw (mem-one e x m) k
+
 pub effective-within : (c : Chart) → Sound c → (hist : History) → ((h : ℕ) → h < c .rows → Within (c .rows) (hist h)) → (t : ℕ) → t < c .transitions → (to : List ℕ) →
     to ≡ effectiveTargets c hist ((c .transition) t) → Within (c .rows) to
-effective-within c g hist w t l to q = record { at = λ e m. let x = effective-of c hist t e (sym (ap (mem e) q) ∙ m) in inside (x .0) (g .targetInside t l (x .0) (x .1)) e (x .2) }
-  where
-    inside : (x : ℕ) → x < c .rows → (e : ℕ) → mem e (standIns c hist x) ≡ true → e < c .rows
-    inside x k e m = unfold standIns in go (isHistory (kind c x)) m
-      where
-        go : (b : Bool) → mem e (cond b (orDefault (hist x) (listed c x)) (x ∷ [])) ≡ true → e < c .rows
-        go true m = default-rows (λ i. i < c .rows) (hist x) (listed c x) (w x k .at) (g .listInside x) e m
-        go false m = rw (mem-one e x m) k
+effective-within c g hist w t l to q = record {
+  at = λ e m. let x = effective-of c hist t e (sym (ap (mem e) q) ∙ m) in stand-ins-within c g hist w (x .0) (g .targetInside t l (x .0) (x .1)) e (x .2);
+}
 
 pub default-within : (c : Chart) → Sound c → (i : ℕ) → i < c .rows → (xs : List ℕ) → xs ≡ union [] (defaultTargets c i) → Within (c .rows) xs
 unfolding mem

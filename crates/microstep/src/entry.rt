@@ -1,20 +1,24 @@
 // The entry set.
 ghost use mathlib.Core.Path.{_≡_};
 ghost use mathlib.Core.Bool.{true};
+ghost use Prim.Native.Nat.{_<_};
 ghost use Rattle.definition.specs.Rows.{mem};
 ghost use Rattle.definition.specs.Tables.{rowCount, chartOf};
-ghost use Rattle.definition.specs.Tree.{defaultTargets};
-ghost use Rattle.follower.specs.Microstep.{pathsBelow, complete, entrySet};
+ghost use Rattle.follower.specs.Selection.{initialTargets};
+ghost use Rattle.follower.specs.Microstep.{stored, pathsBelow, complete, entrySet};
 ghost use Rattle.follower.specs.Follower.{firstEntry};
 ghost use Rattle.rowset.specs.Member.{rowsOf};
-ghost use Rattle.chart.specs.Ready.{Ready, RowReady};
+ghost use Rattle.chart.specs.Ready.{Ready};
 ghost use Rattle.chart.specs.Within.{Within};
-ghost use Rattle.microstep.specs.Entry.{enteredAs, AllAtomic};
+ghost use Rattle.paths.specs.History.{storedAt};
+ghost use Rattle.microstep.specs.Stored.{RoundReady};
+ghost use Rattle.microstep.specs.Entry.{enteredAs};
 use crate::Entered;
+use crate::initial::initial_targets;
 use chart::children_of;
-use chart::default_targets_of;
 use chart::is_compound;
 use kinds::is_parallel;
+use matching::atomic_rows;
 use numbers::Row;
 use numbers::row_after;
 use paths::paths_below;
@@ -22,18 +26,37 @@ use rowset::Found;
 use rowset::RowSet;
 use tables::kind_of;
 
-// The default entry targets of r and their ancestors below it.
-fn default_paths(chart: &[u64], r: Row) -> RowSet
-    requires { ⌜ RowReady (now chart) (r .0) ⌝ }
-    ensures { λ s. ⌜ rowsOf s ≡ pathsBelow (chartOf (now (chart .entry))) (r .0) (defaultTargets (chartOf (now (chart .entry))) (r .0)) ⌝ }
+// The initial targets of r and their ancestors below it.
+fn initial_paths(
+    chart: &[u64],
+    atoms: RowSet,
+    conf: RowSet,
+    history: &[u64],
+    out: RowSet,
+    r: Row,
+) -> RowSet
+    requires { ⌜ RoundReady (now chart) (now history) atoms conf × (r .0 < rowCount (now chart)) ⌝ }
+    ensures { λ s. ⌜ rowsOf s ≡ pathsBelow (chartOf (now (chart .entry))) (r .0) (initialTargets (chartOf (now (chart .entry))) (stored (chartOf (now (chart .entry))) (rowsOf conf) (storedAt (now (history .entry))) (rowsOf out)) (r .0)) ⌝ }
 {
-    paths_below(chart, r, default_targets_of(chart, r))
+    paths_below(
+        chart,
+        r,
+        initial_targets(chart, atoms, conf, history, out, r),
+    )
 }
 
 // What row r of the set asks for is added.
-fn complete_row(chart: &[u64], atoms: RowSet, e: Entered, r: Row) -> Entered
-    requires { ⌜ AllAtomic (chartOf (now chart)) (rowsOf atoms) × RowReady (now chart) (r .0) × (mem (r .0) (rowsOf (e .set)) ≡ true) ⌝ }
-    ensures { λ f. ⌜ enteredAs f ≡ complete (chartOf (now (chart .entry))) (defaultTargets (chartOf (now (chart .entry)))) (enteredAs e) (r .0) ⌝ }
+fn complete_row(
+    chart: &[u64],
+    atoms: RowSet,
+    conf: RowSet,
+    history: &[u64],
+    out: RowSet,
+    e: Entered,
+    r: Row,
+) -> Entered
+    requires { ⌜ RoundReady (now chart) (now history) atoms conf × (r .0 < rowCount (now chart)) × (mem (r .0) (rowsOf (e .set)) ≡ true) ⌝ }
+    ensures { λ f. ⌜ enteredAs f ≡ complete (chartOf (now (chart .entry))) (initialTargets (chartOf (now (chart .entry))) (stored (chartOf (now (chart .entry))) (rowsOf conf) (storedAt (now (history .entry))) (rowsOf out))) (enteredAs e) (r .0) ⌝ }
 {
     if atoms.has(r) {
         return e;
@@ -54,15 +77,23 @@ fn complete_row(chart: &[u64], atoms: RowSet, e: Entered, r: Row) -> Entered
         return e;
     }
     Entered {
-        set: set.union(default_paths(chart, r)),
+        set: set.union(initial_paths(chart, atoms, conf, history, out, r)),
         by_default: by_default.with(r),
     }
 }
 
-// The entry set for what is aimed at: from member to member in document order, since what a row adds stands after it.
-pub fn entry_set(chart: &[u64], atoms: RowSet, aim: RowSet) -> Entered
-    requires { ⌜ AllAtomic (chartOf (now chart)) (rowsOf atoms) × Ready (now chart) × Within (rowCount (now chart)) (rowsOf aim) ⌝ }
-    ensures { λ e. ⌜ enteredAs e ≡ entrySet (chartOf (now (chart .entry))) (defaultTargets (chartOf (now (chart .entry)))) (rowsOf aim) ⌝ }
+// The entry set for what is aimed at: from member to member in document order, since what a row adds stands after it. Initial lists go by
+// the history as the exits left it.
+pub fn entry_set(
+    chart: &[u64],
+    atoms: RowSet,
+    conf: RowSet,
+    history: &[u64],
+    out: RowSet,
+    aim: RowSet,
+) -> Entered
+    requires { ⌜ RoundReady (now chart) (now history) atoms conf × Within (rowCount (now chart)) (rowsOf aim) ⌝ }
+    ensures { λ e. ⌜ enteredAs e ≡ entrySet (chartOf (now (chart .entry))) (initialTargets (chartOf (now (chart .entry))) (stored (chartOf (now (chart .entry))) (rowsOf conf) (storedAt (now (history .entry))) (rowsOf out))) (rowsOf aim) ⌝ }
 {
     let mut e = Entered {
         set: aim,
@@ -73,7 +104,7 @@ pub fn entry_set(chart: &[u64], atoms: RowSet, aim: RowSet) -> Entered
         let set = e.set;
         match set.next_from(k) {
             Found::At(r) => {
-                e = complete_row(chart, atoms, e, r);
+                e = complete_row(chart, atoms, conf, history, out, e, r);
                 k = row_after(r);
             }
             Found::Nothing => {
@@ -83,10 +114,14 @@ pub fn entry_set(chart: &[u64], atoms: RowSet, aim: RowSet) -> Entered
     }
 }
 
-// "Start enters the root's initial targets".
+// "Start enters the root's initial targets"; nothing is stored.
 pub fn first_entry(chart: &[u64]) -> Entered
     requires { ⌜ Ready (now chart) ⌝ }
     ensures { λ e. ⌜ (enteredAs e ≡ firstEntry (chartOf (now (chart .entry)))) × Within (rowCount (now (chart .entry))) (rowsOf (e .set)) ⌝ }
 {
-    entry_set(chart, RowSet::empty(), default_paths(chart, Row(0)))
+    let nothing = [0u64; 1024];
+    let atoms = atomic_rows(chart);
+    let none = RowSet::empty();
+    let aim = initial_paths(chart, atoms, none, &nothing, none, Row(0));
+    entry_set(chart, atoms, none, &nothing, none, aim)
 }

@@ -1,15 +1,16 @@
 // What a set of transitions does to the configuration: stored history, the entry set, the plan of a round and its effects.
-pub use entry::first_entry;
 pub use planning::closing_effects;
 pub use planning::first_effects;
 pub use planning::next_configuration;
 pub use planning::plan_effects;
 pub use planning::plan_round;
+pub use planning::plan_start;
 use rowset::RowSet;
 pub use storing::history_rows;
 pub use storing::store;
 
 pub mod entry;
+mod initial;
 pub mod planning;
 pub mod storing;
 mod targets;

@@ -1,21 +1,23 @@
 // The plan of a round and its effects; the effects of the first entry and of the last exit.
 ghost use mathlib.Core.Path.{_≡_};
-ghost use mathlib.Core.List.{[]};
+ghost use lib.ListN.{length};
 ghost use Rattle.definition.specs.Rows.{union};
 ghost use Rattle.definition.specs.Tables.{rowCount, transitionCount, chartOf};
-ghost use Rattle.follower.specs.Microstep.{exits, exiting, entering};
+ghost use Rattle.follower.specs.Microstep.{exits, exiting};
 ghost use Rattle.rowset.specs.Member.{rowsOf};
 ghost use Rattle.chart.specs.Ready.{Ready};
 ghost use Rattle.chart.specs.Within.{Within, Taken};
 ghost use Rattle.paths.specs.History.{storedAt};
 ghost use Rattle.selection.specs.FixedDomains.{DomainsFixed};
 ghost use Rattle.effects.specs.Trace.{places, Wrote};
+ghost use Rattle.effects.specs.Choosers.{chooserIn};
 ghost use Rattle.microstep.specs.Stored.{RoundReady};
-ghost use Rattle.microstep.specs.Entry.{enteredAs};
-ghost use Rattle.microstep.specs.Plan.{Planned, PlanReady, Small, planEffects};
-use crate::Entered;
+ghost use Rattle.microstep.specs.Plan.{Planned, PlanReady, StartPlanned, Small, planEffects, startEffects};
 use crate::Plan;
 use crate::entry::entry_set;
+use crate::entry::first_entry;
+use crate::initial::first_fallen;
+use crate::initial::with_initial;
 use crate::targets::fallen_of;
 use crate::targets::targeted;
 use effects::Tally;
@@ -39,16 +41,36 @@ pub fn plan_round(
 {
     let stay = conf.minus(out);
     let aim = targeted(chart, domains, atoms, conf, history, out, chosen);
-    let e = entry_set(chart, atoms, aim);
+    let e = entry_set(chart, atoms, conf, history, out, aim);
     let set = e.set;
     let by_default = e.by_default;
+    let fallen = fallen_of(chart, domains, atoms, conf, history, out, chosen);
     Plan {
         conf: conf,
         stay: stay,
         out: out,
         set: set,
         by_default: by_default,
-        fallen: fallen_of(chart, domains, atoms, conf, history, out, chosen),
+        fallen: with_initial(chart, atoms, conf, history, out, fallen, by_default),
+    }
+}
+
+// The plan of a start: nothing is active or left.
+pub fn plan_start(chart: &[u64]) -> Plan
+    requires { ⌜ Ready (now chart) ⌝ }
+    ensures { λ p. ⌜ StartPlanned (chartOf (now (chart .entry))) p × PlanReady (now (chart .entry)) p ⌝ }
+{
+    let none = RowSet::empty();
+    let e = first_entry(chart);
+    let set = e.set;
+    let by_default = e.by_default;
+    Plan {
+        conf: none,
+        stay: none,
+        out: none,
+        set: set,
+        by_default: by_default,
+        fallen: first_fallen(chart, by_default),
     }
 }
 
@@ -61,17 +83,18 @@ pub fn next_configuration(plan: Plan) -> RowSet
     stay.union(set)
 }
 
-// The effects of the round: exits, then the transitions, then entries.
+// The effects of the round: exits, then the transitions, each with the row that chose it in its place of by, then entries.
 pub fn plan_effects(
     chart: &[u64],
     plan: Plan,
     chosen: &[u16],
+    by: &[u16],
     trace: &mut [u32],
     joins: &mut [u32],
     tally: Tally,
 ) -> Tally
-    requires { ⌜ PlanReady (now chart) plan × Taken (transitionCount (now chart)) (now chosen) × Small tally ⌝ }
-    ensures { λ s. ⌜ Wrote (places (now (trace .entry)) (now (joins .entry))) (places (now (trace .exit)) (now (joins .exit))) tally s (planEffects (chartOf (now (chart .entry))) plan (now (chosen .entry))) ⌝ }
+    requires { ⌜ PlanReady (now chart) plan × Taken (transitionCount (now chart)) (now chosen) × (length (now by) ≡ 512) × Small tally ⌝ }
+    ensures { λ s. ⌜ Wrote (places (now (trace .entry)) (now (joins .entry))) (places (now (trace .exit)) (now (joins .exit))) tally s (planEffects (chartOf (now (chart .entry))) plan (chooserIn (now (by .entry))) (now (chosen .entry))) ⌝ }
 {
     let conf = plan.conf;
     let out = plan.out;
@@ -80,32 +103,26 @@ pub fn plan_effects(
     let by_default = plan.by_default;
     let fallen = plan.fallen;
     let left = exit_effects(chart, conf, out, trace, joins, tally);
-    let taken = transition_effects(chart, stay, chosen, trace, joins, left);
+    let taken = transition_effects(chart, stay, chosen, by, trace, joins, left);
     entry_effects(chart, stay, set, by_default, fallen, trace, joins, taken)
 }
 
+// The effects of a start: entries alone.
 pub fn first_effects(
     chart: &[u64],
-    e: Entered,
+    plan: Plan,
     trace: &mut [u32],
     joins: &mut [u32],
     tally: Tally,
 ) -> Tally
-    requires { ⌜ Ready (now chart) × Within (rowCount (now chart)) (rowsOf (e .set)) × Small tally ⌝ }
-    ensures { λ s. ⌜ Wrote (places (now (trace .entry)) (now (joins .entry))) (places (now (trace .exit)) (now (joins .exit))) tally s (entering (chartOf (now (chart .entry))) [] (enteredAs e) []) ⌝ }
+    requires { ⌜ PlanReady (now chart) plan × Small tally ⌝ }
+    ensures { λ s. ⌜ Wrote (places (now (trace .entry)) (now (joins .entry))) (places (now (trace .exit)) (now (joins .exit))) tally s (startEffects (chartOf (now (chart .entry))) plan) ⌝ }
 {
-    let set = e.set;
-    let by_default = e.by_default;
-    entry_effects(
-        chart,
-        RowSet::empty(),
-        set,
-        by_default,
-        RowSet::empty(),
-        trace,
-        joins,
-        tally,
-    )
+    let stay = plan.stay;
+    let set = plan.set;
+    let by_default = plan.by_default;
+    let fallen = plan.fallen;
+    entry_effects(chart, stay, set, by_default, fallen, trace, joins, tally)
 }
 
 // "A closing session's next round exits all that is active in exit order".

@@ -53,7 +53,7 @@ fn effective_after(
 }
 
 // The set with target x, if x is a history that falls to its default list.
-fn add_fell(
+pub fn add_fell(
     chart: &[u64],
     atoms: RowSet,
     conf: RowSet,

@@ -5,7 +5,7 @@ use lib.ListN.{length}
 use borrow.Author.Needs.{needs}
 use Rattle.definition.specs.Rows.{fold}
 use Rattle.follower.specs.Microstep.{stored}
-use Rattle.follower.specs.Selection.{addStandIns, effectiveTargets}
+use Rattle.follower.specs.Selection.{addStandIns, resolved, effectiveTargets}
 use Rattle.definition.specs.Tables.{chartOf}
 use Rattle.laws.specs.Passes.{Passed, pass-begin, pass-turn, pass-done}
 use Rattle.rowset.specs.Member.{rowsOf}
@@ -48,7 +48,7 @@ loop-again : tie.Need-loop-again Inv-loop μ-loop
 loop-again c = pass-turn _ _ _ _ _ _ (c .before .before .before .loop-test .taken) (c .before .before .before .before .loop .inv) (stand-in _ _ (c .before .stored-after .ensures) _ _ _ _ _ _ refl (c .add-stand-ins .ensures) (c .before .before .row-at .ensures .is))
 
 returns : tie.Need-returns Inv-loop μ-loop
-unfolding effectiveTargets
+unfolding effectiveTargets resolved
 returns c = pass-done _ _ _ _ _ (c .loop-test .left) (c .before .loop .inv) ∙ ap (fold _ []) (c .before .before .before .targets-of .ensures .is)
 
 pub effective-after-spec : {M : Type 1} → statement M
