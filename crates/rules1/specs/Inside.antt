@@ -1,14 +1,14 @@
 -- A start and a count inside a table, without a sum that could be too large.
-use mathlib.Core.Path.{_≡_, sym}
+use mathlib.Core.Path.{_≡_, refl, sym, _∙_}
 use mathlib.Core.Bool.{Bool, true, false, _&&_}
 use Prim.Native.Nat.{ℕ, _+_, _-_, _<_, _≤_}
 use native.Mathlib.Omega.{arith}
 use lib.Dec.{eqb, leb, ltb}
 use borrow.Author.Tests.{eqb-true, leb-true, le-leb, lt-leb, lt-ltb, le-ltb}
 use mathlib.Core.List.{List}
-use Rattle.definition.specs.Tables.{rowCount, nameCount, referenceCell, descriptorCell}
-use Rattle.definition.specs.Rules.{inside, referenceInRange, descriptorInRange}
-use Rattle.laws.specs.Bools.{both-ways}
+use Rattle.definition.specs.Tables.{mostActions, rowCount, nameCount, referenceCount, actionCount, rowCell, referenceCell, descriptorCell}
+use Rattle.definition.specs.Rules.{inside, optionalBelow, blockFits, rowInRange, referenceInRange, descriptorInRange}
+use Rattle.laws.specs.Bools.{both-ways, and-left, and-right, and-true, and4}
 
 -- a list inside its table and no longer than it may be
 abbrev pub isShortList : ℕ → ℕ → ℕ → ℕ → Bool
