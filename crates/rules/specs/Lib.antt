@@ -6,3 +6,4 @@ pub mod Transitions
 pub mod Verdict
 pub mod Nesting
 pub mod Branches
+pub mod Initial

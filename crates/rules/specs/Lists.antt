@@ -15,6 +15,7 @@ use Rattle.definition.specs.Chart.{Chart, kind, isRoot, isState, isShallow, isH
 use Rattle.definition.specs.Tables.{part, referencesAt, blockAt, kindAt, parentAt, entryAt, exitAt, listAt, listBlockAt, chartOf}
 use Rattle.definition.specs.Tree.{isDescendant, isChild, isCompound, isDomainKind, ancestors}
 use Rattle.definition.specs.Rules.{areApart, isUnder, initialFits, defaultFits, listFits, blocksFit, rowListsFit, isNoRoot, targetsFit, rule4}
+use Rattle.laws.specs.Bools.{no, bool-case}
 use Rattle.laws.specs.Lists.{empty-list}
 use Rattle.rules1.specs.Inside.{Bare}
 use Rattle.tables.specs.Parts.{BlockOf}
@@ -60,10 +61,6 @@ descendant-is c a i xs h m e f g = rw (e, f, g a)
 pub under-is : (c : Chart) (a i : ℕ) (xs : List ℕ) (m : Bool) → m ≡ mem a xs → ((x : ℕ) → mem x xs ≡ mem x (ancestors c i)) → m ≡ isUnder c a i
 unfolding isUnder
 under-is c a i xs m f g = f ∙ g a
-
-pub domain-is : (c : Chart) (s : RowSet) (i : ℕ) (b : Bool) → Marks (isChild c) (c .rows) s → b ≡ mem i (rowsOf s) → (isRoot (kind c i) || (isState (kind c i) && b)) ≡ isDomainKind c i
-unfolding isDomainKind isCompound
-domain-is c s i b m e = rw (e, marks-children c s m i)
 
 module _ (numbers : List ℕ) (i : ℕ) (l : List ℕ) (e : l ≡ listAt numbers i) where
   abbrev chart : Chart

@@ -5,7 +5,7 @@ ghost use Rattle.definition.specs.Rows.{all, from, mem};
 ghost use Rattle.definition.specs.Chart.{isHistory};
 ghost use Rattle.definition.specs.Tables.{rowCount, transitionCount, kindAt, sourceAt, conditionAt, transitionAt, chartOf};
 ghost use Rattle.definition.specs.Tree.{isDescendant, isChild, anchor};
-ghost use Rattle.definition.specs.Rules.{areApart, defaultFits, listFits, blocksFit, rowListsFit, isNoRoot, targetsFit, rule4, isInOrder, isSourceKind, hasUse, conditionFits, spins, transitionFits, rule5, verdict, keepsRules};
+ghost use Rattle.definition.specs.Rules.{areApart, defaultFits, listFits, blocksFit, rowListsFit, isNoRoot, targetsFit, rule3, rule4, isInOrder, isSourceKind, hasUse, conditionFits, spins, transitionFits, rule5, verdict, keepsRules};
 ghost use Rattle.rowset.specs.Member.{rowsOf};
 ghost use Rattle.tables.specs.Ranges.{InTables, RowIn, TransitionIn, RowsIn};
 ghost use Rattle.tables.specs.Parts.{RowOf};
@@ -294,7 +294,7 @@ pub fn lists_keep(numbers: &[u64], sets: &[u64]) -> bool
 }
 
 fn keeps_lists(numbers: &[u64]) -> bool
-    requires { ⌜ TreeIn (now numbers) ⌝ }
+    requires { ⌜ TreeIn (now numbers) × (rule3 (chartOf (now numbers)) ≡ true) ⌝ }
     ensures { λ b. ⌜ b ≡ rule4 (chartOf (now (numbers .entry))) ⌝ }
 {
     let mut sets = [0u64; 1024];

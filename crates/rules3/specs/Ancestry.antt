@@ -1,5 +1,6 @@
 -- The ancestors of every row, as sets of four words each, one after the other.
 use mathlib.Core.Path.{_≡_, ap, _∙_}
+use mathlib.Core.Bool.{true}
 use mathlib.Core.List.{List, []}
 use Prim.Native.Nat.{ℕ, _+_, _*_, _<_, _≤_}
 use native.Mathlib.Omega.{arith}
@@ -9,6 +10,7 @@ use Rattle.definition.specs.Rows.{mem, insert}
 use Rattle.definition.specs.Chart.{parent}
 use Rattle.definition.specs.Tables.{rowCount, chartOf}
 use Rattle.definition.specs.Tree.{ancestors}
+use Rattle.definition.specs.Rules.{rule3}
 use Rattle.laws.specs.Bools.{eq-case}
 use Rattle.laws.specs.Sets.{mem-insert}
 use Rattle.accepted.specs.Tree.{ancestors-on}
@@ -99,6 +101,7 @@ pub record Ancestry (numbers : List ℕ) (n : ℕ) (sets : List ℕ) : Type 0 wh
 -- tables whose parents fit, and beside them the sets
 pub record Climbed (numbers sets : List ℕ) : Type 0 where
   pub tree : TreeIn numbers
+  pub rule : rule3 (chartOf numbers) ≡ true
   pub ancestry : Ancestry numbers (rowCount numbers) sets
 
 -- the set of row i, as it was read

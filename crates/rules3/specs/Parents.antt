@@ -8,14 +8,14 @@ use lib.Dec.{eqb}
 use borrow.Author.Tests.{eq-eqb, ne-eqb, lt-ltb, le-ltb}
 use Rattle.definition.specs.Rows.{from, keep, those, mem, any, all, isEmpty, insert}
 use Rattle.definition.specs.Chart.{Chart, kind, parent, isRoot, isParallel, isHistory}
-use Rattle.definition.specs.Tables.{noNumber, rowCount, kindAt, parentAt, chartOf}
+use Rattle.definition.specs.Tables.{noNumber, rowCount, rowCell, kindAt, parentAt, chartOf}
 use Rattle.definition.specs.Tree.{ancestors, isChild, children}
 use Rattle.definition.specs.Rules.{mayStand, parentFits, isHistoryOf, needsChild, standsWell, rule3}
 use Rattle.laws.specs.Bools.{clash, both-ways, bool-case, or-false, and-false, and-left, and-right, and-true, and3}
 use Rattle.laws.specs.Sets.{mem-insert}
 use Rattle.laws.specs.Lists.{mem-cases}
 use Rattle.laws.specs.Loops.{from-last, any-append, each-below, below-each}
-use Rattle.accepted.specs.Tree.{ancestors-on, ancestors-top, ancestor-low}
+use Rattle.accepted.specs.Tree.{Tree, ancestors-on, ancestors-top, ancestor-low}
 use Rattle.rowset.specs.declared.RowSet.{RowSet}
 use Rattle.rowset.specs.Member.{rowsOf}
 use Rattle.kinds.specs.Stands.{root-no-history}
@@ -217,3 +217,9 @@ parent-in numbers i q r e l = let b = r .below in record { tables = r .tables; b
 
 pub tree-kept : (numbers : List ℕ) → InTables numbers → rule3 (chartOf numbers) ≡ true → TreeIn numbers
 tree-kept numbers t h = record { tables = t; fits = parents-kept (chartOf numbers) h }
+
+-- what accepted charts are shown of stands on rule 3 too
+pub tree-of : (numbers : List ℕ) → InTables numbers → rule3 (chartOf numbers) ≡ true → Tree (chartOf numbers)
+unfolding kindAt parentAt rowCell
+tree-of numbers t h =
+    record { rule = h; some = t .sized .counts .some; beyondKind = λ i l. rw (le-ltb i (rowCount numbers) l); beyondParent = λ i l. rw (le-ltb i (rowCount numbers) l) }

@@ -3,7 +3,7 @@ use borrow.Author.Tests.{not-true, not-false}
 use Rattle.laws.specs.Loops.{told}
 use Rattle.definition.specs.Chart.{isHistory}
 use Rattle.definition.specs.Tables.{chartOf}
-use Rattle.rules.specs.Initial.{owner-is, fits-default, fits-none, fits-other, fits-descendants}
+use Rattle.rules.specs.Initial.{owner-is, fits-default, fits-none, fits-other, fits-under}
 use Rattle.rules.proofs.list_fits.Statement.{statement}
 use Rattle.rules.proofs.list_fits.Tie as tie
 
@@ -39,13 +39,13 @@ returns-3 c =
     fits-other _ _ _ (c .before .before .before .before .list-of .ensures .is) (told isHistory _ _ _ _ (c .before .before .before .before .before .before .before .kind-of .ensures) (c .before .before .before .before .before .before .is-history .ensures) (c .before .before .before .before .before .if1 .left)) (c .before .before .before .if2 .left)
     (owner-is _ _ _ _ _ _ (c .before .before .before .before .before .before .before .kind-of .ensures) (c .before .before .is-root .ensures) (c .before .is-state .ensures) (not-true _ (c .if3 .taken)))
 
-all-descendants-requires : tie.Need-all-descendants-requires
-all-descendants-requires c κs = search needs
+all-under-requires : tie.Need-all-under-requires
+all-under-requires c κs = search needs
 
 returns-4 : tie.Need-returns-4
 returns-4 c =
-    fits-descendants _ _ _ (c .before .before .before .before .before .list-of .ensures .is) (told isHistory _ _ _ _ (c .before .before .before .before .before .before .before .before .kind-of .ensures) (c .before .before .before .before .before .before .before .is-history .ensures) (c .before .before .before .before .before .before .if1 .left)) (c .before .before .before .before .if2 .left) _ (c .before .before .before .before .before .before .before .before .before .before .before .pre .0 .tree) (c .before .before .before .before .before .list-of .ensures .within)
-    (owner-is _ _ _ _ _ _ (c .before .before .before .before .before .before .before .before .kind-of .ensures) (c .before .before .before .is-root .ensures) (c .before .before .is-state .ensures) (not-false _ (c .before .if3 .left))) (c .all-descendants .ensures)
+    fits-under _ _ _ (c .before .before .before .before .before .list-of .ensures .is) (told isHistory _ _ _ _ (c .before .before .before .before .before .before .before .before .kind-of .ensures) (c .before .before .before .before .before .before .before .is-history .ensures) (c .before .before .before .before .before .before .if1 .left)) (c .before .before .before .before .if2 .left) _ _ (c .before .before .before .before .before .before .before .before .before .before .before .pre .0) (c .before .before .before .before .before .list-of .ensures .within)
+    (owner-is _ _ _ _ _ _ (c .before .before .before .before .before .before .before .before .kind-of .ensures) (c .before .before .before .is-root .ensures) (c .before .before .is-state .ensures) (not-false _ (c .before .if3 .left))) (c .all-under .ensures)
 
 pub list-fits-spec : {M : Type 1} → statement M
 list-fits-spec =
@@ -61,5 +61,5 @@ list-fits-spec =
     is-root-requires
     is-state-requires
     returns-3
-    all-descendants-requires
+    all-under-requires
     returns-4)

@@ -27,7 +27,7 @@ returns-3 : tie.Need-returns-3
 returns-3 c = search (needs, said-laws, verdict-laws)
 
 keeps-lists-requires : tie.Need-keeps-lists-requires
-keeps-lists-requires c κs = tree-kept _ (rule1-tables _ _ _ _ (sym (c .before .before .before .before .before .keeps-sizes .ensures) ∙ not-false _ (c .before .before .before .before .if1 .left))) (sym (c .before .keeps-tree .ensures) ∙ not-false _ (c .if3 .left))
+keeps-lists-requires c κs = let k = sym (c .before .keeps-tree .ensures) ∙ not-false _ (c .if3 .left) in (tree-kept _ (rule1-tables _ _ _ _ (sym (c .before .before .before .before .before .keeps-sizes .ensures) ∙ not-false _ (c .before .before .before .before .if1 .left))) k, k)
 
 returns-4 : tie.Need-returns-4
 returns-4 c = search (needs, said-laws, verdict-laws)
