@@ -11,15 +11,15 @@ use Rattle.definition.specs.declared.Action.the-variants.{Raise, Host, If, Else
 use Rattle.definition.specs.declared.Reach.{Reach}
 use Rattle.definition.specs.declared.Reach.the-variants.{Live, Waiting, Past}
 use Rattle.definition.specs.declared.Kind.{Kind}
-use Rattle.definition.specs.Rows.{from, keep, minus, mem, all, flat, backwards}
+use Rattle.definition.specs.Rows.{nothingAt, from, keep, minus, mem, all, flat, backwards}
 use Rattle.definition.specs.Names.{Name, isId}
 use Rattle.definition.specs.Chart.{Chart, Names, kindNo, kind, parent, isRoot, isParallel, isFinal}
 use Rattle.definition.specs.Tables.{noNumber, rowCount, transitionCount, actionCount, nameCount, rowCell, transitionCell, actionAt, blockAt, entryAt, exitAt, idAt, listBlockAt, transitionBlockAt, nameAt, chartOf}
 use Rattle.definition.specs.Rules.{each, slotFits, idDiffers, idFits, actionNamed, rule2}
-use Rattle.follower.specs.Selection.{History}
+use Rattle.follower.specs.Selection.{History, initialTargets}
 use Rattle.follower.specs.Blocks.{Effect, exited, taken, entered, acted, raised, done, chosen, traceNo, queued, after, perform, performIf, performedFrom, performed}
-use Rattle.follower.specs.Microstep.{exits, exitEffects, exiting, transitionEffects, targeted, Entry, initialBlock, defaultBlock, isDoneAbove, doneEffects, activeLeaving, activeAt, defaultEffects, entryEffects, entering, storedIn, staying, historyAfter, entryOf, fallen, effects}
-use Rattle.follower.specs.Follower.{firstEntry, firstEffects}
+use Rattle.follower.specs.Microstep.{exits, exitEffects, exiting, transitionEffects, targeted, Entry, initialBlock, defaultBlock, isDoneAbove, doneEffects, activeLeaving, activeAt, defaultEffects, entryEffects, entering, storedIn, staying, historyAfter, entryOf, fallen, fallenOf, effects}
+use Rattle.follower.specs.Follower.{firstEntry, firstFallen, firstEffects}
 use Rattle.definition.specs.Compiled.{ownNumbers}
 use Rattle.laws.specs.Bools.{clash, not-so, and3, and-left, and-right, and-true}
 use Rattle.laws.specs.Lists.{all-both, all-flat, flat-app}
@@ -33,6 +33,7 @@ use Rattle.chart.specs.Own.{own-chart}
 use Rattle.matching.specs.Chosen.{Within}
 use Rattle.effects.specs.Entering.{rowEntered, entry-pieces, final-later, not-root-later, HistoryRows}
 use Rattle.effects.specs.Trace.{joining, joinsOf}
+use Rattle.microstep.specs.Initial.{initial-histories}
 use Rattle.microstep.specs.Plan.{exits-within, targeted-within, entry-within, fallen-histories, paths-within, no-histories}
 use Rattle.events.specs.Rounds.{effectAt, queuedNames, isKnown, JoinsIn}
 
@@ -211,22 +212,24 @@ module _ (chart : List ℕ) (g : Ready chart) (p : Effect → Bool) (h : Passes 
 
   -- of a round from this configuration
   pub round-passes : (conf : List ℕ) (hist : History) (by : ℕ → ℕ) (ts : List ℕ) → Within (rowCount chart) conf → Within (transitionCount chart) ts → all p (effects (chartOf chart) conf hist by ts) ≡ true
-  unfolding effects entryOf
+  unfolding effects entryOf fallenOf
   round-passes conf hist by ts w v =
       let c = chartOf chart in
       let later = storedIn (historyAfter c conf hist ts) in
       all-both p (exiting c conf (exits c conf hist ts) ++ flat (transitionEffects c (staying c conf hist ts) by) ts) _
       (all-both p (exiting c conf (exits c conf hist ts)) _ (exiting-passes conf (exits c conf hist ts) (exits-within c (rowCount chart) conf hist ts _ w refl))
       (all-flat p (transitionEffects c (staying c conf hist ts) by) ts (λ t m. transition-passes (staying c conf hist ts) by t (v .at t m))))
-      (entering-passes (staying c conf hist ts) (entryOf c conf hist ts) (fallen c later ts)
-      (entry-within c (targeted c hist later ts) _ refl (targeted-within c hist later ts _ refl)) (fallen-histories chart g later ts _ v refl))
+      (entering-passes (staying c conf hist ts) (entryOf c conf hist ts) (fallenOf c conf hist ts)
+      (entry-within c (initialTargets c later) (targeted c hist later ts) _ refl (targeted-within c hist later ts _ refl))
+      (initial-histories chart g later (fallen c later ts) ((entryOf c conf hist ts) .byDefault) _ (fallen-histories chart g later ts _ v refl) refl))
 
   -- and of a start
   pub start-passes : all p (firstEffects (chartOf chart)) ≡ true
-  unfolding firstEffects firstEntry
+  unfolding firstEffects firstEntry firstFallen
   start-passes =
-      entering-passes [] (firstEntry (chartOf chart)) []
-      (entry-within (chartOf chart) _ _ refl (paths-within (chartOf chart) 0 _ _ refl)) (no-histories chart [] g refl)
+      let c = chartOf chart in
+      entering-passes [] (firstEntry c) (firstFallen c) (entry-within c (initialTargets c nothingAt) _ _ refl (paths-within c 0 (initialTargets c nothingAt 0) _ refl))
+      (initial-histories chart g nothingAt [] (0 ∷ (firstEntry c) .byDefault) _ (no-histories chart [] g refl) refl)
 
 -- ---- what the tables give
 
