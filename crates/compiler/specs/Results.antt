@@ -7,11 +7,11 @@ use native.Mathlib.Omega.{arith}
 use lib.Dec.{eqb}
 use lib.ListN.{length, take, drop, length-append, length-drop, take-append-drop}
 use lib.Seq.{length-take-le}
-use borrow.Author.Tests.{eq-eqb, eqb-true, le-ltb}
+use borrow.Author.Tests.{eq-eqb, eqb-true}
 use Rattle.definition.specs.declared.Answer.{Answer}
 use Rattle.definition.specs.declared.Answer.the-variants.{Done}
 use Rattle.definition.specs.Rows.{same, all, from, mem}
-use Rattle.definition.specs.Tables.{tablesSize, rowCount, rowCell, kindAt, parentAt, chartOf}
+use Rattle.definition.specs.Tables.{tablesSize, rowCount, chartOf}
 use Rattle.definition.specs.Tree.{ancestors}
 use Rattle.definition.specs.Rules.{countsFit, compiledSize, rule1, rule2, rule3, rule4, rule5, verdict}
 use Rattle.definition.specs.Answers.{answerNo}
@@ -20,10 +20,9 @@ use Rattle.laws.specs.Bools.{clash, not-so, and-left}
 use Rattle.laws.specs.Sets.{mem-union}
 use Rattle.laws.specs.Passes.{drop-end}
 use Rattle.laws.specs.Parts.{part-end}
-use Rattle.accepted.specs.Tree.{Tree}
 use Rattle.accepted.specs.Sound.{verdict-rule1, verdict-rule2, verdict-sound}
 use Rattle.tables.specs.Ranges.{InTables, rule1-tables}
-use Rattle.rules3.specs.Parents.{tree-kept}
+use Rattle.rules3.specs.Parents.{tree-kept, tree-of}
 use Rattle.rules3.specs.Ancestry.{setOf, Climbed}
 use Rattle.rules.specs.Verdict.{firstThree, three-3, three-parts, unbroken}
 use Rattle.chart.specs.Own.{Sizes, rule1-sizes, answer-done, compiled-ready}
@@ -153,11 +152,6 @@ module _ (place names : List ℕ) (n : ℕ) (a : Answer) (size : n ≡ tablesSiz
 
 -- ---- the check, rule by rule
 
-tree-of : (numbers : List ℕ) → InTables numbers → rule3 (chartOf numbers) ≡ true → Tree (chartOf numbers)
-unfolding kindAt parentAt rowCell
-tree-of numbers t h =
-    record { rule = h; some = t .sized .counts .some; beyondKind = λ i l. rw (le-ltb i (rowCount numbers) l); beyondParent = λ i l. rw (le-ltb i (rowCount numbers) l) }
-
 module _ (place names : List ℕ) (n : ℕ) (size : n ≡ tablesSize place) (l : n ≤ length place) where
   abbrev own : List ℕ
   own = take n place
@@ -213,6 +207,7 @@ module _ (place names : List ℕ) (n : ℕ) (size : n ≡ tablesSize place) (l :
     own-climbed b2 e2 g2 =
         record {
           tree = own-tree .tree;
+          rule = parts .2;
           ancestry = record {
             size = own-tree .room;
             at = λ i k a. ap (mem a) (above-are (chartOf own) (tree-of own own-tables (parts .2)) held (sym e2 ∙ g2) i k) ∙ mem-union a [] (ancestors (chartOf own) i);
