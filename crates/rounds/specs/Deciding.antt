@@ -15,7 +15,7 @@ use Rattle.follower.specs.Selection.{History}
 use Rattle.follower.specs.Follower.{Follower, did, roundIn, refusalIf, refusal}
 use Rattle.theory.specs.Runs.{Fits, not-refused}
 use Rattle.rowset.specs.Member.{rowsOf}
-use Rattle.matching.specs.Chosen.{listOf, Taken, chosen-length}
+use Rattle.matching.specs.Chosen.{listOf, Taken}
 use Rattle.selection.specs.declared.Selected.{Selected}
 use Rattle.selection.specs.History.{storedAt}
 use Rattle.selection.specs.Ready.{Selects}
@@ -41,15 +41,12 @@ use Rattle.rounds.specs.declared.Step.{Step}
 use Rattle.rounds.specs.Turns.{judged, judged-none, untouched, Turned, turned-idle, turned-refused, turned-did}
 use Rattle.rounds.specs.Traces.{Filled, Drafted, Joined, joined-all, joined-in, joined-size, wrote-entries, wrote-trace}
 use Rattle.rounds.specs.Judging.{Counted, refusal-judged}
-use Rattle.rounds.specs.Taking.{roundEffects, nextBy, round-did, StepReady, Decided, Commits, round-ready, left, shown}
+use Rattle.rounds.specs.Taking.{roundEffects, nextBy, round-did, stepTakes, byIn, lent-taken, StepReady, Decided, Commits, round-ready, left, shown}
 
 -- ---- the choice
 
 pub chosen-fit : (c : Chart) (conf : List ℕ) (hist : History) (items : List ℕ) (r : Selected) → Selects c conf hist items r → Taken (c .transitions) (listOf items (r .len))
-chosen-fit c conf hist items r h = record {
-  most = let e = chosen-length (c .transitions) items (r .len) (h .fits) in let m = h .fits .most in omega arith;
-  inside = h .fits .inside;
-}
+chosen-fit c conf hist items r h = lent-taken (c .transitions) items (r .len) (h .fits)
 
 module _ (chart names index : List ℕ) (kinds : RowKinds) (numbers internal external : List ℕ) (g : Lookup chart names index kinds) (h : HoldsAt chart numbers internal external)
     (items : List ℕ) (choice : Choice) (ch : Chooses (chartOf chart) (nameAt names) (stateAt chart numbers internal external) (storedAt (historyIn numbers)) items choice) where
@@ -64,7 +61,7 @@ module _ (chart names index : List ℕ) (kinds : RowKinds) (numbers internal ext
   unfolding roundBy
   taken-idle t old q e =
       turned-idle (roundIn Running (chartOf chart) (nameAt names) f) f t numbers internal external old (h .spells) q
-      (ch .is ∙ ap (λ (source : Source). roundBy source (chartOf chart) (nameAt names) f ts) e)
+      (ch .is ∙ ap (λ (source : Source). roundBy source (chartOf chart) (nameAt names) f (byIn items) ts) e)
 
   pub plan-asks : IndexOf (chartOf chart) index × (length numbers ≡ 1031) × RoundReady chart (historyIn numbers) (kinds .atomic) (configurationIn numbers) ×
       Selects (chartOf chart) (rowsOf (configurationIn numbers)) (storedAt (historyIn numbers)) items (choice .selected)
@@ -75,51 +72,57 @@ module _ (chart names index : List ℕ) (kinds : RowKinds) (numbers internal ext
     subst (λ (conf : List ℕ). Selects (chartOf chart) conf (storedAt (historyIn numbers)) items (choice .selected)) (sym (conf-read chart names (g .compiled) f numbers internal external h)) (ch .selected),
   )
 
-  pub step-ready : (choice .source ≡ Nothing → ⊥) → (step : Step) → (step .source ≡ choice .source) ×
-      Planned (chartOf chart) (rowsOf (configurationIn numbers)) (storedAt (historyIn numbers)) ts (step .plan) × PlanReady chart (step .plan) → StepReady chart names kinds numbers internal external step ts
+  pub step-ready : (choice .source ≡ Nothing → ⊥) → (step : Step) → (step .source ≡ choice .source) × (step .len ≡ choice .selected .len) ×
+      Planned (chartOf chart) (rowsOf (configurationIn numbers)) (storedAt (historyIn numbers)) ts (step .plan) × PlanReady chart (step .plan) → StepReady chart names kinds numbers internal external step items
   step-ready z step p = record {
     compiled = g .compiled;
     rows = g .rows;
     holds = h;
-    is = rw (p .0) (ch .is);
-    fits = chosen-fit (chartOf chart) (rowsOf (configurationIn numbers)) (storedAt (historyIn numbers)) items (choice .selected) (plan-asks .3);
+    is = rw (p .0, p .1) (ch .is);
+    lent = rw (p .1) (ch .selected .fits);
     inner = rw (p .0) (ch .internal);
     outer = rw (p .0) (ch .external);
     some = rw (p .0) z;
-    planned = p .1;
-    ready = p .2;
+    planned = rw (p .1) (p .2);
+    ready = p .3;
   }
 
 -- ---- 7 and 10
 
-module _ (chart names : List ℕ) (kinds : RowKinds) (numbers internal external : List ℕ) (step : Step) (ts : List ℕ) (g : StepReady chart names kinds numbers internal external step ts)
+module _ (chart names : List ℕ) (kinds : RowKinds) (numbers internal external : List ℕ) (step : Step) (items : List ℕ) (g : StepReady chart names kinds numbers internal external step items)
     (kept : ℕ) (n : kept ≡ internalLeft (step .source) (internalIn numbers)) where
   abbrev from : Follower
   from = stateAt chart numbers internal external
 
+  abbrev takes : List ℕ
+  takes = stepTakes items step
+
+  abbrev who : ℕ → ℕ
+  who = byIn items
+
   abbrev es : List Effect
-  es = roundEffects (chartOf chart) from ts
+  es = roundEffects (chartOf chart) from who takes
 
   abbrev next : Follower
-  next = nextBy (step .source) (chartOf chart) (nameAt names) from ts
+  next = nextBy (step .source) (chartOf chart) (nameAt names) from who takes
 
   waiting : QueueIs (internalAfter (step .source) from) (internalBytes (step .source) internal) kept
-  waiting = rw n (left chart names kinds numbers internal external step ts g .internal)
+  waiting = rw n (left chart names kinds numbers internal external step items g .internal)
 
   pub few-kept : kept ≤ 32
   few-kept = waiting .short
 
   is-round : roundIn Running (chartOf chart) (nameAt names) from ≡ did next es
-  is-round = g .is ∙ round-did (step .source) (chartOf chart) (nameAt names) from ts (g .some)
+  is-round = g .is ∙ round-did (step .source) (chartOf chart) (nameAt names) from who takes (g .some)
 
-  module _ (t : Tally) (q : Counted t (planEffects (chartOf chart) (step .plan) ts)) (old : List ℕ) (o : Outcome)
+  module _ (t : Tally) (q : Counted t (planEffects (chartOf chart) (step .plan) who takes)) (old : List ℕ) (o : Outcome)
       (j : o ≡ judged (refusalIf (ltb 32 (kept + t .names)) (ltb (length old) (t .entries)))) where
     is-judged : o ≡ judged (refusal (length old) next es)
     unfolding nextBy
     is-judged =
         j ∙
         ap judged (refusal-judged (chartOf chart) (nameAt names) (length old) kept t (internalAfter (step .source) from) next es
-        (subst (Counted t) (shown chart names kinds numbers internal external step ts g) q) (waiting .count) refl)
+        (subst (Counted t) (shown chart names kinds numbers internal external step items g) q) (waiting .count) refl)
 
     pub taken-refused : (u : Turn) → u ≡ untouched o → (o ≡ Did → ⊥) → Turned (roundIn Running (chartOf chart) (nameAt names) from) from u numbers internal external old old
     taken-refused u y z =
@@ -133,12 +136,12 @@ module _ (chart names : List ℕ) (kinds : RowKinds) (numbers internal external 
       fits = not-refused (length old) next es goes
 
       -- the entries that were drafted have room
-      pub draft-fits : (draft : List ℕ) → Drafted draft t (planEffects (chartOf chart) (step .plan) ts) → t .entries ≤ length old
-      draft-fits draft w = let l = fits .roomy in let e = w .wrote .entries in let n = ap {B = ℕ} length (shown chart names kinds numbers internal external step ts g) in omega arith
+      pub draft-fits : (draft : List ℕ) → Drafted draft t (planEffects (chartOf chart) (step .plan) who takes) → t .entries ≤ length old
+      draft-fits draft w = let l = fits .roomy in let e = w .wrote .entries in let n = ap {B = ℕ} length (shown chart names kinds numbers internal external step items g) in omega arith
 
-      module _ (joins : List ℕ) (v : Joined joins t (planEffects (chartOf chart) (step .plan) ts)) where
+      module _ (joins : List ℕ) (v : Joined joins t (planEffects (chartOf chart) (step .plan) who takes)) where
         joined-es : Joined joins t es
-        joined-es = subst (Joined joins t) (shown chart names kinds numbers internal external step ts g) v
+        joined-es = subst (Joined joins t) (shown chart names kinds numbers internal external step items g) v
 
         -- no more join than are kept
         pub few-join : t .names ≤ 32
@@ -157,14 +160,14 @@ module _ (chart names : List ℕ) (kinds : RowKinds) (numbers internal external 
         joins-size = joined-size joins t es joined-es few-join
 
         pub is-decided : Decided chart names kinds numbers internal external step (take (t .names) joins)
-        is-decided = record { chosen = ts; made = g; joined = joined-all joins t es joined-es few-join; short = fits .short }
+        is-decided = record { items = items; made = g; joined = joined-all joins t es joined-es few-join; short = fits .short }
 
         -- shown and kept, it is done
-        pub taken-did : (new : List ℕ) → Filled old new t (planEffects (chartOf chart) (step .plan) ts) → (numbersNow internalNow externalNow : List ℕ) →
+        pub taken-did : (new : List ℕ) → Filled old new t (planEffects (chartOf chart) (step .plan) who takes) → (numbersNow internalNow externalNow : List ℕ) →
             Commits chart names kinds numbers internal external step (take (t .names) joins) numbersNow internalNow externalNow →
             Turned (roundIn Running (chartOf chart) (nameAt names) from) from (record { outcome = Did; count = t .entries }) numbersNow internalNow externalNow old new
         unfolding is-decided
         taken-did new w numbersNow internalNow externalNow k =
-            let v : Filled old new t es = subst (Filled old new t) (shown chart names kinds numbers internal external step ts g) w in
+            let v : Filled old new t es = subst (Filled old new t) (shown chart names kinds numbers internal external step items g) w in
             turned-did (roundIn Running (chartOf chart) (nameAt names) from) from (record { outcome = Did; count = t .entries }) numbersNow internalNow externalNow old new next es is-round goes refl
             (k .next is-decided) (wrote-entries old new t es (fits .roomy) v) (wrote-trace old new t es (fits .roomy) v)

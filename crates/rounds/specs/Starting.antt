@@ -16,19 +16,17 @@ use Rattle.definition.specs.Names.{Name}
 use Rattle.definition.specs.Chart.{Chart}
 use Rattle.definition.specs.Tables.{rowCount, nameAt, chartOf}
 use Rattle.follower.specs.Blocks.{Effect, traceNo, queued}
-use Rattle.follower.specs.Microstep.{Entry, entering}
+use Rattle.follower.specs.Microstep.{Entry}
 use Rattle.definition.specs.Answers.{modeNo}
 use Rattle.definition.specs.Compiled.{words}
 use Rattle.follower.specs.Follower.{Follower, noHistory, endedFollower, modeOf, refusalIf, refusal, firstEntry, firstEffects, firstFollower, startOr, start}
 use Rattle.theory.specs.Runs.{Fits, not-refused}
 use Rattle.rowset.specs.Member.{rowsOf}
 use Rattle.chart.specs.Ready.{CompiledWith}
-use Rattle.matching.specs.Chosen.{Within}
 use Rattle.effects.specs.declared.Tally.{Tally}
 use Rattle.effects.specs.Trace.{joinsOf, queues-all, Places, Wrote}
-use Rattle.microstep.specs.declared.Entered.{Entered}
-use Rattle.microstep.specs.Entry.{enteredAs}
-use Rattle.microstep.specs.Plan.{first-effects}
+use Rattle.microstep.specs.declared.Plan.{Plan}
+use Rattle.microstep.specs.Plan.{PlanReady, StartPlanned, startEffects, start-effects}
 use Rattle.legality.specs.Rows.{RowsReady}
 use Rattle.queue.specs.Queues.{queueBytes, queueOf, queue-none}
 use Rattle.state.specs.State.{historyWords, numbersOf, historyIn, traceWith}
@@ -52,8 +50,8 @@ zeros-ended : (c : Chart) → replicate 1031 0 ≡ numbersOf (words []) (history
 unfolding numbersOf modeNo
 zeros-ended c = let w = sym words-none in let h = zeros-none c in λ j. w j ++ (h j ++ (0 ∷ 0 ∷ 0 ∷ []))
 
-module _ (chart names : List ℕ) (k : CompiledWith chart names) (numbers internal old : List ℕ) (y : numbers ≡ replicate 1031 0) (z : internal ≡ replicate 2048 0) (e : Entered)
-    (q : (enteredAs e ≡ firstEntry (chartOf chart)) × Within (rowCount chart) (rowsOf (e .set))) (t : Tally) (n : Counted t (entering (chartOf chart) [] (enteredAs e) [])) (o : Outcome)
+module _ (chart names : List ℕ) (k : CompiledWith chart names) (numbers internal old : List ℕ) (y : numbers ≡ replicate 1031 0) (z : internal ≡ replicate 2048 0) (e : Plan)
+    (q : StartPlanned (chartOf chart) e × PlanReady chart e) (t : Tally) (n : Counted t (startEffects (chartOf chart) e)) (o : Outcome)
     (j : o ≡ judged (refusalIf (ltb 32 (0 + t .names)) (ltb (length old) (t .entries)))) where
   abbrev es : List Effect
   es = firstEffects (chartOf chart)
@@ -61,8 +59,8 @@ module _ (chart names : List ℕ) (k : CompiledWith chart names) (numbers intern
   abbrev first : Follower
   first = firstFollower (chartOf chart) (nameAt names)
 
-  shown : entering (chartOf chart) [] (enteredAs e) [] ≡ es
-  shown = first-effects (chartOf chart) e (q .0)
+  shown : startEffects (chartOf chart) e ≡ es
+  shown = start-effects (chartOf chart) e (q .0)
 
   is-judged : o ≡ judged (refusal (length old) first es)
   unfolding firstFollower
@@ -84,7 +82,7 @@ module _ (chart names : List ℕ) (k : CompiledWith chart names) (numbers intern
   zeros-size = rw y
 
   pub first-ready : RowsReady chart (rowsOf (e .set))
-  first-ready = record { ready = k .ready; inside = q .1 .at }
+  first-ready = record { ready = k .ready; inside = q .1 .set .at }
 
   module _ (some-other : (a : Answer) → o ≡ Refused a → ⊥) where
     goes : refusal (length old) first es ≡ none
@@ -100,10 +98,10 @@ module _ (chart names : List ℕ) (k : CompiledWith chart names) (numbers intern
     entered : JoinsStand chart names es
     entered = start-joins chart names k
 
-    module _ (before after : Places) (r : Tally) (same : before .trace ≡ old) (w : Wrote before after nothing r (entering (chartOf chart) [] (enteredAs e) [])) (joins : List ℕ)
-        (v : Joined joins t (entering (chartOf chart) [] (enteredAs e) [])) where
+    module _ (before after : Places) (r : Tally) (same : before .trace ≡ old) (w : Wrote before after nothing r (startEffects (chartOf chart) e)) (joins : List ℕ)
+        (v : Joined joins t (startEffects (chartOf chart) e)) where
       wrote : Filled old (after .trace) t es
-      wrote = subst (Filled old (after .trace) t) shown (rw (← same) (filled-again before after t r (entering (chartOf chart) [] (enteredAs e) []) w (n .entries ∙ sym (zero-add _))))
+      wrote = subst (Filled old (after .trace) t) shown (rw (← same) (filled-again before after t r (startEffects (chartOf chart) e) w (n .entries ∙ sym (zero-add _))))
 
       joined-es : Joined joins t es
       joined-es = subst (Joined joins t) shown v
@@ -142,7 +140,7 @@ module _ (chart names : List ℕ) (k : CompiledWith chart names) (numbers intern
           StartDone (start (chartOf chart) (nameAt names) (length old)) (record { answer = Done; count = t .entries }) cells inner (replicate 2048 0) old (after .trace)
       unfolding start startOr firstFollower
       start-done inner waiting mode cells joined m w =
-          let conf : rowsOf (e .set) ≡ (firstEntry (chartOf chart)) .set = ap (λ (i : Entry). i .set) (q .0) in
+          let conf : rowsOf (e .set) ≡ (firstEntry (chartOf chart)) .set = ap (λ (i : Entry). i .set) (q .0 .entry) in
           let hist : historyIn numbers ≡ historyWords (noHistory (chartOf chart)) = ap (λ (ws : List ℕ). historyIn ws) y ∙ zeros-none (chartOf chart) in
           let count : waiting ≡ length (flat (queued (chartOf chart) (nameAt names)) es) = joined .1 ∙ zero-add _ ∙ ap {B = ℕ} length names-now in
           let mode-is = m ∙ ap (modeOf (chartOf chart)) conf in

@@ -7,7 +7,8 @@ use Prim.Native.Nat.{ℕ, _+_, _*_, _/_, _≤_, _<_}
 use native.Mathlib.Nat.{zero-add}
 use native.Mathlib.Omega.{arith}
 use lib.Dec.{ltb}
-use lib.ListN.{length, getD, take, drop, length-append, List·getD-eq-default}
+use lib.ListN.{length, getD, take, drop, length-append, length-drop, List·getD-eq-default}
+use lib.Seq.{take-all}
 use borrow.Author.Tests.{ltb-true, ltb-false, le-ltb}
 use Rattle.definition.specs.declared.Mode.{Mode}
 use Rattle.definition.specs.declared.Mode.the-variants.{Running, Closing}
@@ -29,10 +30,12 @@ use Rattle.theory.specs.Runs.{Fits, not-refused}
 use Rattle.rowset.specs.declared.RowSet.{RowSet}
 use Rattle.rowset.specs.Member.{rowsOf}
 use Rattle.chart.specs.Ready.{setAt, CompiledWith}
-use Rattle.matching.specs.Chosen.{listOf, Within, Taken, chosen-length, atomicRows}
+use Rattle.matching.specs.Chosen.{listOf, Within, Taken, ChosenIn, chosen-length, atomicRows}
+use Rattle.matching.specs.Choosers.{choosersIn}
 use Rattle.selection.specs.History.{storedAt}
 use Rattle.effects.specs.declared.Tally.{Tally}
 use Rattle.effects.specs.Trace.{joinsOf, queues-all}
+use Rattle.effects.specs.Choosers.{chooserIn}
 use Rattle.lookup.specs.declared.RowKinds.{RowKinds}
 use Rattle.lookup.specs.Lookup.{KindsOf}
 use Rattle.microstep.specs.declared.Plan.{Plan}
@@ -49,6 +52,7 @@ use Rattle.state.specs.Places.{numbers-size, history-size, reads-internal, read
 use Rattle.events.specs.declared.Source.{Source}
 use Rattle.events.specs.declared.Source.the-variants.{Nothing, Eventless, Internal, External}
 use Rattle.events.specs.Rounds.{Waits, internalAfter, externalAfter, internalBytes, externalBytes, roundBy, queuedNames, JoinsIn}
+use Rattle.events.specs.Choosers.{takingBy}
 use Rattle.events.specs.Left.{internalLeft, externalLeft, QueueIs, EventLeft, event-left}
 use Rattle.events.specs.Entries.{JoinsStand, round-joins}
 use Rattle.events.specs.Choosing.{conf-read, conf-within, history-read}
@@ -57,51 +61,70 @@ use Rattle.rounds.specs.Judging.{LeavesInternal, LeavesExternal}
 
 -- ---- the definition's round that takes these transitions
 
-abbrev pub roundEffects : Chart → Follower → List ℕ → List Effect
-roundEffects c f ts = effects c (f .configuration) (storedIn (f .history)) ts
+abbrev pub roundEffects : Chart → Follower → (ℕ → ℕ) → List ℕ → List Effect
+roundEffects c f by ts = effects c (f .configuration) (storedIn (f .history)) by ts
 
-unfoldable pub nextBy : Source → Chart → Names → Follower → List ℕ → Follower
-nextBy source c names f ts = record {
+unfoldable pub nextBy : Source → Chart → Names → Follower → (ℕ → ℕ) → List ℕ → Follower
+nextBy source c names f by ts = record {
   configuration = configurationAfter c (f .configuration) (storedIn (f .history)) ts;
   history = historyAfter c (f .configuration) (storedIn (f .history)) ts;
-  internal = internalAfter source f ++ flat (queued c names) (roundEffects c f ts);
+  internal = internalAfter source f ++ flat (queued c names) (roundEffects c f by ts);
   external = externalAfter source f;
   mode = modeOf c (configurationAfter c (f .configuration) (storedIn (f .history)) ts);
 }
 
-pub round-did : (source : Source) (c : Chart) (names : Names) (f : Follower) (ts : List ℕ) → (source ≡ Nothing → ⊥) → roundBy source c names f ts ≡ did (nextBy source c names f ts) (roundEffects c f ts)
-unfolding roundBy nextBy taking
-round-did Nothing c names f ts n = absurd (n refl)
-round-did Eventless c names f ts n = refl
-round-did Internal c names f ts n = refl
-round-did External c names f ts n = refl
+pub round-did : (source : Source) (c : Chart) (names : Names) (f : Follower) (by : ℕ → ℕ) (ts : List ℕ) → (source ≡ Nothing → ⊥) →
+    roundBy source c names f by ts ≡ did (nextBy source c names f by ts) (roundEffects c f by ts)
+unfolding roundBy nextBy takingBy
+round-did Nothing c names f by ts n = absurd (n refl)
+round-did Eventless c names f by ts n = refl
+round-did Internal c names f by ts n = refl
+round-did External c names f by ts n = refl
 
 -- ---- a round that is to be done
 
+-- the transitions of a step, which are the first of the items, and who chose each: the places behind those say it (R-6)
+abbrev pub stepTakes : List ℕ → Step → List ℕ
+stepTakes items step = listOf items (step .len)
+
+abbrev pub byIn : List ℕ → ℕ → ℕ
+byIn items = chooserIn (choosersIn items)
+
+-- the part that is lent of them
+pub choosers-part : (items : List ℕ) → length items ≡ 768 → take 512 (drop 256 items) ≡ choosersIn items
+choosers-part items e = take-all 512 (drop 256 items) (omega (arith, length-drop 256 items))
+
+pub choosers-size : (items : List ℕ) → length items ≡ 768 → length (take 512 (drop 256 items)) ≡ 512
+choosers-size items e = ap {B = ℕ} length (choosers-part items e) ∙ omega (arith, length-drop 256 items)
+
+pub lent-taken : (k : ℕ) (items : List ℕ) (n : ℕ) → ChosenIn k items n → Taken k (listOf items n)
+lent-taken k items n h = record { most = let e = chosen-length k items n h in let m = h .most in omega arith; inside = h .inside }
+
 -- these transitions were chosen, for an event from there, and planned
-pub record StepReady (chart names : List ℕ) (kinds : RowKinds) (numbers internal external : List ℕ) (step : Step) (ts : List ℕ) : Type 0 where
+pub record StepReady (chart names : List ℕ) (kinds : RowKinds) (numbers internal external : List ℕ) (step : Step) (items : List ℕ) : Type 0 where
   pub compiled : CompiledWith chart names
   pub rows : KindsOf (chartOf chart) kinds
   pub holds : HoldsAt chart numbers internal external
-  pub is : roundIn Running (chartOf chart) (nameAt names) (stateAt chart numbers internal external) ≡ roundBy (step .source) (chartOf chart) (nameAt names) (stateAt chart numbers internal external) ts
-  pub fits : Taken (transitionCount chart) ts
+  pub is : roundIn Running (chartOf chart) (nameAt names) (stateAt chart numbers internal external) ≡
+      roundBy (step .source) (chartOf chart) (nameAt names) (stateAt chart numbers internal external) (byIn items) (stepTakes items step)
+  pub lent : ChosenIn (transitionCount chart) items (step .len)
   pub inner : step .source ≡ Internal → (stateAt chart numbers internal external) .internal ≡ [] → ⊥
   pub outer : step .source ≡ External → (stateAt chart numbers internal external) .external ≡ [] → ⊥
   pub some : step .source ≡ Nothing → ⊥
-  pub planned : Planned (chartOf chart) (rowsOf (configurationIn numbers)) (storedAt (historyIn numbers)) ts (step .plan)
+  pub planned : Planned (chartOf chart) (rowsOf (configurationIn numbers)) (storedAt (historyIn numbers)) (stepTakes items step) (step .plan)
   pub ready : PlanReady chart (step .plan)
 
 -- and not refused: these join the internal queue
 pub record Decided (chart names : List ℕ) (kinds : RowKinds) (numbers internal external : List ℕ) (step : Step) (joins : List ℕ) : Type 0 where
-  pub chosen : List ℕ
-  pub made : StepReady chart names kinds numbers internal external step chosen
-  pub joined : joins ≡ joinsOf (roundEffects (chartOf chart) (stateAt chart numbers internal external) chosen)
-  pub short : length ((nextBy (step .source) (chartOf chart) (nameAt names) (stateAt chart numbers internal external) chosen) .internal) ≤ 32
+  pub items : List ℕ
+  pub made : StepReady chart names kinds numbers internal external step items
+  pub joined : joins ≡ joinsOf (roundEffects (chartOf chart) (stateAt chart numbers internal external) (byIn items) (stepTakes items step))
+  pub short : length ((nextBy (step .source) (chartOf chart) (nameAt names) (stateAt chart numbers internal external) (byIn items) (stepTakes items step)) .internal) ≤ 32
 
 -- the places then spell the next state
 pub record Commits (chart names : List ℕ) (kinds : RowKinds) (numbers internal external : List ℕ) (step : Step) (joins numbersNow internalNow externalNow : List ℕ) : Type 0 where
   pub next : (d : Decided chart names kinds numbers internal external step joins) →
-      Spells (nextBy (step .source) (chartOf chart) (nameAt names) (stateAt chart numbers internal external) (d .chosen)) numbersNow internalNow externalNow
+      Spells (nextBy (step .source) (chartOf chart) (nameAt names) (stateAt chart numbers internal external) (byIn (d .items)) (stepTakes (d .items) step)) numbersNow internalNow externalNow
 
 some-name : (queue : List Name) (n : ℕ) → n ≡ length queue → (queue ≡ [] → ⊥) → 0 < n
 some-name [] n e z = absurd (z refl)
@@ -176,7 +199,13 @@ module _ (chart names : List ℕ) (k : CompiledWith chart names) (f : Follower) 
 
 -- ---- a step that is ready
 
-module _ (chart names : List ℕ) (kinds : RowKinds) (numbers internal external : List ℕ) (step : Step) (ts : List ℕ) (g : StepReady chart names kinds numbers internal external step ts) where
+module _ (chart names : List ℕ) (kinds : RowKinds) (numbers internal external : List ℕ) (step : Step) (items : List ℕ) (g : StepReady chart names kinds numbers internal external step items) where
+  abbrev ts : List ℕ
+  ts = stepTakes items step
+
+  abbrev by : ℕ → ℕ
+  by = byIn items
+
   abbrev source : Source
   source = step .source
 
@@ -187,16 +216,16 @@ module _ (chart names : List ℕ) (kinds : RowKinds) (numbers internal external 
   f = stateAt chart numbers internal external
 
   abbrev es : List Effect
-  es = roundEffects (chartOf chart) f ts
+  es = roundEffects (chartOf chart) f by ts
 
   abbrev next : Follower
-  next = nextBy source (chartOf chart) (nameAt names) f ts
+  next = nextBy source (chartOf chart) (nameAt names) f by ts
 
   pub planned : Planned (chartOf chart) (f .configuration) (storedIn (f .history)) ts plan
   planned = planned-from chart names (g .compiled) f numbers internal external (g .holds) ts plan (g .planned)
 
-  pub shown : planEffects (chartOf chart) plan ts ≡ es
-  shown = plan-effects (chartOf chart) (f .configuration) (storedIn (f .history)) ts plan planned
+  pub shown : planEffects (chartOf chart) plan by ts ≡ es
+  shown = plan-effects (chartOf chart) (f .configuration) (storedIn (f .history)) by ts plan planned
 
   pub left : EventLeft source f numbers internal external
   left = event-left (chartOf chart) f numbers internal external source (g .holds) (g .inner) (g .outer)
@@ -209,8 +238,8 @@ module _ (chart names : List ℕ) (kinds : RowKinds) (numbers internal external 
 
   pub entered : JoinsStand chart names es
   entered =
-      round-joins chart names (g .compiled) (f .configuration) (storedIn (f .history)) ts
-      (subst (Within (rowCount chart)) (conf-read chart names (g .compiled) f numbers internal external (g .holds)) within) (g .fits .inside)
+      round-joins chart names (g .compiled) (f .configuration) (storedIn (f .history)) by ts
+      (subst (Within (rowCount chart)) (conf-read chart names (g .compiled) f numbers internal external (g .holds)) within) (g .lent .inside)
 
   pub internal-leaves : LeavesInternal source (internalIn numbers)
   internal-leaves = leaves-internal chart names (g .compiled) f numbers internal external (g .holds) source (g .inner)
@@ -243,33 +272,39 @@ module _ (chart names : List ℕ) (kinds : RowKinds) (numbers internal external 
 -- ---- what is decided is kept
 
 module _ (chart names : List ℕ) (kinds : RowKinds) (numbers internal external : List ℕ) (step : Step) (joins : List ℕ) (d : Decided chart names kinds numbers internal external step joins) where
-  abbrev g : StepReady chart names kinds numbers internal external step (d .chosen)
+  abbrev g : StepReady chart names kinds numbers internal external step (d .items)
   g = d .made
+
+  abbrev chosen : List ℕ
+  chosen = stepTakes (d .items) step
+
+  abbrev who : ℕ → ℕ
+  who = byIn (d .items)
 
   abbrev here : Follower
   here = stateAt chart numbers internal external
 
   abbrev after : Follower
-  after = nextBy (step .source) (chartOf chart) (nameAt names) here (d .chosen)
+  after = nextBy (step .source) (chartOf chart) (nameAt names) here who chosen
 
-  names-now : queuedNames (chartOf chart) (nameAt names) joins ≡ flat (queued (chartOf chart) (nameAt names)) (roundEffects (chartOf chart) here (d .chosen))
-  names-now = ap (queuedNames (chartOf chart) (nameAt names)) (d .joined) ∙ entered chart names kinds numbers internal external step (d .chosen) g .queues
+  names-now : queuedNames (chartOf chart) (nameAt names) joins ≡ flat (queued (chartOf chart) (nameAt names)) (roundEffects (chartOf chart) here who chosen)
+  names-now = ap (queuedNames (chartOf chart) (nameAt names)) (d .joined) ∙ entered chart names kinds numbers internal external step (d .items) g .queues
 
   module _ (inner : List ℕ) (kept : ℕ) (i : inner ≡ internalBytes (step .source) internal) (n : kept ≡ internalLeft (step .source) (internalIn numbers)) where
     queue-now : QueueIs (internalAfter (step .source) here) inner kept
-    queue-now = rw (i, n) (left chart names kinds numbers internal external step (d .chosen) g .internal)
+    queue-now = rw (i, n) (left chart names kinds numbers internal external step (d .items) g .internal)
 
     next-length : kept + length (queuedNames (chartOf chart) (nameAt names) joins) ≡ length (after .internal)
     unfolding nextBy
     next-length =
         let a = queue-now .count in
         let b = ap {B = ℕ} length names-now in
-        omega (arith, length-append (internalAfter (step .source) here) (flat (queued (chartOf chart) (nameAt names)) (roundEffects (chartOf chart) here (d .chosen))))
+        omega (arith, length-append (internalAfter (step .source) here) (flat (queued (chartOf chart) (nameAt names)) (roundEffects (chartOf chart) here who chosen)))
 
     pub names-join : CompiledWith chart names × JoinsIn chart joins × (inner ≡ queueBytes (queueOf inner kept)) × (kept + length (queuedNames (chartOf chart) (nameAt names) joins) ≤ 32)
     names-join = (
       g .compiled,
-      rw (d .joined) (entered chart names kinds numbers internal external step (d .chosen) g .inside),
+      rw (d .joined) (entered chart names kinds numbers internal external step (d .items) g .inside),
       queue-now .again,
       let l = d .short in
           let m = next-length in
@@ -286,17 +321,17 @@ module _ (chart names : List ℕ) (kinds : RowKinds) (numbers internal external 
         Spells after cells inner2 outer
     unfolding nextBy
     committed stored inner2 outer waiting others conf mode cells joined x y h k r m e =
-        let p = planned chart names kinds numbers internal external step (d .chosen) g in
-        let b = left chart names kinds numbers internal external step (d .chosen) g in
-        let is : rowsOf conf ≡ configurationAfter (chartOf chart) (here .configuration) (storedIn (here .history)) (d .chosen) =
-        r ∙ plan-next (chartOf chart) (here .configuration) (storedIn (here .history)) (d .chosen) (step .plan) p in
+        let p = planned chart names kinds numbers internal external step (d .items) g in
+        let b = left chart names kinds numbers internal external step (d .items) g in
+        let is : rowsOf conf ≡ configurationAfter (chartOf chart) (here .configuration) (storedIn (here .history)) chosen =
+        r ∙ plan-next (chartOf chart) (here .configuration) (storedIn (here .history)) chosen (step .plan) p in
         let w : HistoryStored chart (rowsOf (configurationIn numbers)) (rowsOf (step .plan .out)) (historyIn numbers) stored = rw (g .planned .from) at h in
         let size : length stored ≡ 1024 = w .room ∙ history-size here numbers internal external (g .holds .spells) in
         let back : historyIn (take 4 numbers ++ (stored ++ drop 1024 (drop 4 numbers))) ≡ stored = back-history numbers stored (numbers-size here numbers internal external (g .holds .spells)) size in
         let fit : state.Fits stored = subst state.Fits back (state.fits-part (take 4 numbers ++ (stored ++ drop 1024 (drop 4 numbers))) 4 1024 k) in
-        let hist : historyIn (take 4 numbers ++ (stored ++ drop 1024 (drop 4 numbers))) ≡ historyWords (historyAfter (chartOf chart) (here .configuration) (storedIn (here .history)) (d .chosen)) =
+        let hist : historyIn (take 4 numbers ++ (stored ++ drop 1024 (drop 4 numbers))) ≡ historyWords (historyAfter (chartOf chart) (here .configuration) (storedIn (here .history)) chosen) =
         back ∙
-        history-next chart names (g .compiled) here numbers internal external (g .holds) (kinds .atomic) (step .plan .out) (d .chosen) stored (g .rows .atomic) (g .planned .out) w fit in
+        history-next chart names (g .compiled) here numbers internal external (g .holds) (kinds .atomic) (step .plan .out) chosen stored (g .rows .atomic) (g .planned .out) w fit in
         let inside = joined .1 ∙ next-length in
         let outside = y ∙ b .external .count in
         let mode-is = m ∙ ap (modeOf (chartOf chart)) is in

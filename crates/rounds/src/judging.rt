@@ -1,16 +1,15 @@
 // 7 and 10, judged by what was counted.
 ghost use mathlib.Core.Path.{_≡_};
-ghost use mathlib.Core.List.{[]};
 ghost use Prim.Native.Nat.{_+_, _≤_};
 ghost use lib.Dec.{ltb};
 ghost use lib.ListN.{length};
 ghost use Rattle.definition.specs.Tables.{rowCount, chartOf};
-ghost use Rattle.follower.specs.Microstep.{exiting, entering};
+ghost use Rattle.follower.specs.Microstep.{exiting};
 ghost use Rattle.follower.specs.Follower.{refusalIf};
 ghost use Rattle.rowset.specs.Member.{rowsOf};
 ghost use Rattle.chart.specs.Ready.{Ready};
 ghost use Rattle.matching.specs.Chosen.{Within};
-ghost use Rattle.microstep.specs.Entry.{enteredAs};
+ghost use Rattle.microstep.specs.Plan.{PlanReady, startEffects};
 ghost use Rattle.rounds.specs.Turns.{judged, untouched};
 ghost use Rattle.rounds.specs.Judging.{Counted};
 ghost use Rattle.rounds.specs.Traces.{Joined};
@@ -19,7 +18,7 @@ use crate::Outcome;
 use crate::Turn;
 use definition::Answer;
 use effects::Tally;
-use microstep::Entered;
+use microstep::Plan;
 use rowset::RowSet;
 
 // A round that is not done changes nothing.
@@ -59,10 +58,10 @@ pub fn count_closing(chart: &[u64], conf: RowSet) -> Tally
 }
 
 // What joins at a start is kept.
-pub fn count_first(chart: &[u64], e: Entered, joins: &mut [u32]) -> Tally
-    requires { ⌜ Ready (now chart) × Within (rowCount (now chart)) (rowsOf (e .set)) × (length (now joins) ≡ 32) ⌝ }
-    ensures { λ t. ⌜ Counted t (entering (chartOf (now (chart .entry))) [] (enteredAs e) []) × Joined (now (joins .exit)) t (entering (chartOf (now (chart .entry))) [] (enteredAs e) []) ⌝ }
+pub fn count_first(chart: &[u64], plan: Plan, joins: &mut [u32]) -> Tally
+    requires { ⌜ PlanReady (now chart) plan × (length (now joins) ≡ 32) ⌝ }
+    ensures { λ t. ⌜ Counted t (startEffects (chartOf (now (chart .entry))) plan) × Joined (now (joins .exit)) t (startEffects (chartOf (now (chart .entry))) plan) ⌝ }
 {
     let mut none = [0u32; 0];
-    microstep::first_effects(chart, e, &mut none, joins, NOTHING)
+    microstep::first_effects(chart, plan, &mut none, joins, NOTHING)
 }

@@ -41,9 +41,10 @@ pub struct Turn {
     pub count: usize,
 }
 
-// What a round of a running session takes: where its event comes from, and what its transitions do.
+// What a round of a running session takes: where its event comes from, how many transitions, and what they do.
 pub struct Step {
     pub source: Source,
+    pub len: usize,
     pub plan: Plan,
 }
 

@@ -35,7 +35,7 @@ fn round(
     items: &mut [u16],
     trace: &mut [u32],
 ) -> Turn
-    requires { ⌜ Lookup (now chart) (now names) (now index) kinds × HoldsAt (now chart) (now numbers) (now internal) (now external) × (length (now items) ≡ 256) ⌝ }
+    requires { ⌜ Lookup (now chart) (now names) (now index) kinds × HoldsAt (now chart) (now numbers) (now internal) (now external) × (length (now items) ≡ 768) ⌝ }
     ensures { λ r. ⌜ Turned (round (chartOf (now (chart .entry))) (nameAt (now (names .entry))) (stateAt (now (chart .entry)) (now (numbers .entry)) (now (internal .entry)) (now (external .entry)))) (stateAt (now (chart .entry)) (now (numbers .entry)) (now (internal .entry)) (now (external .entry))) r (now (numbers .exit)) (now (internal .exit)) (now (external .exit)) (now (trace .entry)) (now (trace .exit)) ⌝ }
 {
     let mode = state::mode_from(numbers[state::MODE]);
@@ -124,7 +124,7 @@ pub fn run(
     let kinds = lookup::row_kinds(chart);
     let mut index = [0u16; lookup::INDEX];
     lookup::put_index(chart, &mut index);
-    let mut items = [0u16; 256];
+    let mut items = [0u16; matching::ITEMS];
     let mut done: u32 = 0;
     let mut count: usize = 0;
     while done < rounds {

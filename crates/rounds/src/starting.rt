@@ -26,7 +26,7 @@ pub fn start(
     requires { ⌜ CompiledWith (now chart) (now names) × (now numbers ≡ replicate 1031 0) × (now internal ≡ replicate 2048 0) ⌝ }
     ensures { λ r. ⌜ StartDone (start (chartOf (now (chart .entry))) (nameAt (now (names .entry))) (length (now (trace .entry)))) r (now (numbers .exit)) (now (internal .exit)) (replicate 2048 0) (now (trace .entry)) (now (trace .exit)) ⌝ }
 {
-    let first = microstep::first_entry(chart);
+    let first = microstep::plan_start(chart);
     let conf = first.set;
     let mut joins = [0u32; JOINS];
     let tally = count_first(chart, first, &mut joins);

@@ -7,9 +7,10 @@ ghost use Rattle.definition.specs.declared.Mode.the-variants.{Running};
 ghost use Rattle.definition.specs.Tables.{transitionCount, nameAt, chartOf};
 ghost use Rattle.follower.specs.Follower.{modeOf, roundIn};
 ghost use Rattle.rowset.specs.Member.{rowsOf};
-ghost use Rattle.matching.specs.Chosen.{listOf, Taken};
+ghost use Rattle.matching.specs.Chosen.{listOf, ChosenIn};
 ghost use Rattle.selection.specs.History.{storedAt};
 ghost use Rattle.selection.specs.Ready.{Selects};
+ghost use Rattle.effects.specs.Trace.{places, Wrote};
 ghost use Rattle.microstep.specs.Stored.{RoundReady};
 ghost use Rattle.microstep.specs.Plan.{Planned, PlanReady, planEffects};
 ghost use Rattle.legality.specs.Rows.{RowsReady};
@@ -18,8 +19,8 @@ ghost use Rattle.lookup.specs.Lookup.{IndexOf, Lookup};
 ghost use Rattle.events.specs.Left.{internalLeft, externalLeft};
 ghost use Rattle.rounds.specs.Turns.{Turned};
 ghost use Rattle.rounds.specs.Judging.{LeavesInternal, LeavesExternal};
-ghost use Rattle.rounds.specs.Taking.{StepReady, Decided, Commits};
-ghost use Rattle.rounds.specs.Traces.{Filled, Drafted, EntriesFit};
+ghost use Rattle.rounds.specs.Taking.{stepTakes, byIn, StepReady, Decided, Commits};
+ghost use Rattle.rounds.specs.Traces.{nothing, Filled, Drafted, EntriesFit};
 use crate::JOINS;
 use crate::NOTHING;
 use crate::Outcome;
@@ -32,7 +33,6 @@ use effects::Tally;
 use events::Choice;
 use events::Source;
 use lookup::RowKinds;
-use microstep::Plan;
 use rowset::RowSet;
 use state::State;
 
@@ -84,22 +84,40 @@ fn copy_entries(draft: &[u32], n: usize, trace: &mut [u32])
     }
 }
 
+// What the step does is written. Its transitions are the first of the items; the places behind those say which row chose each.
+fn step_effects(
+    chart: &[u64],
+    step: Step,
+    items: &[u16],
+    trace: &mut [u32],
+    joins: &mut [u32],
+) -> Tally
+    requires { ⌜ PlanReady (now chart) (step .plan) × ChosenIn (transitionCount (now chart)) (now items) (step .len) ⌝ }
+    ensures { λ t. ⌜ Wrote (places (now (trace .entry)) (now (joins .entry))) (places (now (trace .exit)) (now (joins .exit))) nothing t (planEffects (chartOf (now (chart .entry))) (step .plan) (byIn (now (items .entry))) (stepTakes (now (items .entry)) step)) ⌝ }
+{
+    let plan = step.plan;
+    let n = step.len;
+    let chosen = &items[..n];
+    let by = &items[matching::CHOOSERS..matching::ITEMS];
+    microstep::plan_effects(chart, plan, chosen, by, trace, joins, NOTHING)
+}
+
 // The effects that were drafted, into the trace. Where the draft was too short they are all worked out again.
 fn show_plan(
     chart: &[u64],
-    plan: Plan,
-    chosen: &[u16],
+    step: Step,
+    items: &[u16],
     draft: &[u32],
     tally: Tally,
     trace: &mut [u32],
 )
-    requires { ⌜ PlanReady (now chart) plan × Taken (transitionCount (now chart)) (now chosen) × Drafted (now draft) tally (planEffects (chartOf (now chart)) plan (now chosen)) × (tally .entries ≤ length (now trace)) ⌝ }
-    ensures { λ _. ⌜ Filled (now (trace .entry)) (now (trace .exit)) tally (planEffects (chartOf (now (chart .entry))) plan (now (chosen .entry))) ⌝ }
+    requires { ⌜ PlanReady (now chart) (step .plan) × ChosenIn (transitionCount (now chart)) (now items) (step .len) × Drafted (now draft) tally (planEffects (chartOf (now chart)) (step .plan) (byIn (now items)) (stepTakes (now items) step)) × (tally .entries ≤ length (now trace)) ⌝ }
+    ensures { λ _. ⌜ Filled (now (trace .entry)) (now (trace .exit)) tally (planEffects (chartOf (now (chart .entry))) (step .plan) (byIn (now (items .entry))) (stepTakes (now (items .entry)) step)) ⌝ }
 {
     let n = tally.entries;
     if (draft.len() as u64) < n {
         let mut none = [0u32; 0];
-        microstep::plan_effects(chart, plan, chosen, trace, &mut none, NOTHING);
+        step_effects(chart, step, items, trace, &mut none);
         return;
     }
     copy_entries(draft, n as usize, trace);
@@ -157,23 +175,22 @@ fn carry_out(
     internal: &mut [u8],
     external: &mut [u8],
     step: Step,
-    chosen: &[u16],
+    items: &[u16],
     trace: &mut [u32],
 ) -> Turn
-    requires { ⌜ StepReady (now chart) (now names) kinds (now numbers) (now internal) (now external) step (now chosen) ⌝ }
+    requires { ⌜ StepReady (now chart) (now names) kinds (now numbers) (now internal) (now external) step (now items) ⌝ }
     ensures { λ r. ⌜ Turned (roundIn Running (chartOf (now (chart .entry))) (nameAt (now (names .entry))) (stateAt (now (chart .entry)) (now (numbers .entry)) (now (internal .entry)) (now (external .entry)))) (stateAt (now (chart .entry)) (now (numbers .entry)) (now (internal .entry)) (now (external .entry))) r (now (numbers .exit)) (now (internal .exit)) (now (external .exit)) (now (trace .entry)) (now (trace .exit)) ⌝ }
 {
     let source = step.source;
-    let plan = step.plan;
     let kept = internal_left(source, numbers[state::INTERNAL]);
     let mut draft = [0u32; DRAFT];
     let mut joins = [0u32; JOINS];
-    let tally = microstep::plan_effects(chart, plan, chosen, &mut draft, &mut joins, NOTHING);
+    let tally = step_effects(chart, step, items, &mut draft, &mut joins);
     let outcome = judge(kept, tally, trace.len());
     let Outcome::Did = outcome else {
         return unchanged(outcome);
     };
-    show_plan(chart, plan, chosen, &draft, tally, trace);
+    show_plan(chart, step, items, &draft, tally, trace);
     let n = tally.names as usize;
     commit(
         chart,
@@ -201,7 +218,7 @@ fn plan_step(
     items: &[u16],
 ) -> Step
     requires { ⌜ IndexOf (chartOf (now chart)) (now index) × (length (now numbers) ≡ 1031) × RoundReady (now chart) (historyIn (now numbers)) (kinds .atomic) (configurationIn (now numbers)) × Selects (chartOf (now chart)) (rowsOf (configurationIn (now numbers))) (storedAt (historyIn (now numbers))) (now items) (choice .selected) ⌝ }
-    ensures { λ s. ⌜ (s .source ≡ choice .source) × Planned (chartOf (now (chart .entry))) (rowsOf (configurationIn (now (numbers .entry)))) (storedAt (historyIn (now (numbers .entry)))) (listOf (now (items .entry)) (choice .selected .len)) (s .plan) × PlanReady (now (chart .entry)) (s .plan) ⌝ }
+    ensures { λ s. ⌜ (s .source ≡ choice .source) × (s .len ≡ choice .selected .len) × Planned (chartOf (now (chart .entry))) (rowsOf (configurationIn (now (numbers .entry)))) (storedAt (historyIn (now (numbers .entry)))) (listOf (now (items .entry)) (choice .selected .len)) (s .plan) × PlanReady (now (chart .entry)) (s .plan) ⌝ }
 {
     let selected = choice.selected;
     let source = choice.source;
@@ -214,6 +231,7 @@ fn plan_step(
     let chosen = &items[..n];
     Step {
         source: source,
+        len: n,
         plan: microstep::plan_round(chart, domains, atomic, conf, stored, chosen, out),
     }
 }
@@ -229,7 +247,7 @@ pub fn take(
     items: &mut [u16],
     trace: &mut [u32],
 ) -> Turn
-    requires { ⌜ Lookup (now chart) (now names) (now index) kinds × HoldsAt (now chart) (now numbers) (now internal) (now external) × (length (now items) ≡ 256) ⌝ }
+    requires { ⌜ Lookup (now chart) (now names) (now index) kinds × HoldsAt (now chart) (now numbers) (now internal) (now external) × (length (now items) ≡ 768) ⌝ }
     ensures { λ r. ⌜ Turned (roundIn Running (chartOf (now (chart .entry))) (nameAt (now (names .entry))) (stateAt (now (chart .entry)) (now (numbers .entry)) (now (internal .entry)) (now (external .entry)))) (stateAt (now (chart .entry)) (now (numbers .entry)) (now (internal .entry)) (now (external .entry))) r (now (numbers .exit)) (now (internal .exit)) (now (external .exit)) (now (trace .entry)) (now (trace .exit)) ⌝ }
 {
     let choice = events::choose(
@@ -247,8 +265,6 @@ pub fn take(
         return unchanged(Outcome::Idle);
     }
     let step = plan_step(chart, index, kinds, numbers, choice, items);
-    let selected = choice.selected;
-    let n = selected.len;
     carry_out(
         chart,
         names,
@@ -257,7 +273,7 @@ pub fn take(
         internal,
         external,
         step,
-        &items[..n],
+        items,
         trace,
     )
 }

@@ -6,7 +6,7 @@ use Rattle.rounds.proofs.judging.count_first.Statement.{statement}
 use Rattle.rounds.proofs.judging.count_first.Tie as tie
 
 returns : tie.Need-returns
-returns c = (wrote-counted _ _ _ _ _ refl refl (c .before .before .before .first-effects .ensures), wrote-joined _ _ _ _ (c .before .before .before .first-effects .ensures) (c .before .before .before .before .before .before .before .before .pre .2))
+returns c = (wrote-counted _ _ _ _ _ refl refl (c .before .before .before .first-effects .ensures), wrote-joined _ _ _ _ (c .before .before .before .first-effects .ensures) (c .before .before .before .before .before .before .before .before .pre .1))
 
 slice-aggregate-first-effects : tie.Need-slice-aggregate-first-effects
 slice-aggregate-first-effects c = search needs

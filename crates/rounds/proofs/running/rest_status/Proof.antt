@@ -24,10 +24,10 @@ select-eventless-requires : tie.Need-select-eventless-requires
 select-eventless-requires c κs = c .before .before .before .before .before .before .before .before .before .before .before .before .before .pre
 
 same-length : tie.Need-same-length
-same-length c = c .before .before .before .before .select-eventless .ensures .fits .room ∙ sym (c .before .before .before .before .before .before .before .before .before .before .before .before .before .before .before .before .before .before .pre .places)
+same-length c = c .before .before .before .before .select-eventless .ensures .chosen .fits .room ∙ sym (c .before .before .before .before .before .before .before .before .before .before .before .before .before .before .before .before .before .before .pre .places)
 
 returns-2 : tie.Need-returns-2
-returns-2 c = rest-eventless _ _ _ _ _ _ (c .before .before .before .before .select-eventless .ensures) _ _ _ (sym (c .before .before .before .before .before .before .before .before .before .before .before .mode-from .ensures) ∙ c .before .before .before .before .before .before .before .before .before .enum-told3 .given .1) (c .before .before .before .before .before .before .if1 .left) (c .if2 .taken)
+returns-2 c = rest-eventless _ _ _ _ _ _ (c .before .before .before .before .select-eventless .ensures .chosen) _ _ _ (sym (c .before .before .before .before .before .before .before .before .before .before .before .mode-from .ensures) ∙ c .before .before .before .before .before .before .before .before .before .enum-told3 .given .1) (c .before .before .before .before .before .before .if1 .left) (c .if2 .taken)
 
 returns-3 : tie.Need-returns-3
 returns-3 c = rest-ended _ _ _ _ (sym (c .before .before .mode-from .ensures) ∙ c .enum-told .given .1)
@@ -36,10 +36,10 @@ returns-4 : tie.Need-returns-4
 returns-4 c = rest-closing _ _ _ _ (sym (c .before .before .mode-from .ensures) ∙ c .enum-told2 .given .1)
 
 same-length-2 : tie.Need-same-length-2
-same-length-2 c = c .before .before .before .before .select-eventless .ensures .fits .room ∙ sym (c .before .before .before .before .before .before .before .before .before .before .before .before .before .before .before .before .before .before .pre .places)
+same-length-2 c = c .before .before .before .before .select-eventless .ensures .chosen .fits .room ∙ sym (c .before .before .before .before .before .before .before .before .before .before .before .before .before .before .before .before .before .before .pre .places)
 
 returns-5 : tie.Need-returns-5
-returns-5 c = rest-idle _ _ _ _ _ _ (c .before .before .before .before .select-eventless .ensures) _ _ _ (sym (c .before .before .before .before .before .before .before .before .before .before .before .mode-from .ensures) ∙ c .before .before .before .before .before .before .before .before .before .enum-told3 .given .1) (c .before .before .before .before .before .before .if1 .left) (c .if2 .left)
+returns-5 c = rest-idle _ _ _ _ _ _ (c .before .before .before .before .select-eventless .ensures .chosen) _ _ _ (sym (c .before .before .before .before .before .before .before .before .before .before .before .mode-from .ensures) ∙ c .before .before .before .before .before .before .before .before .before .enum-told3 .given .1) (c .before .before .before .before .before .before .if1 .left) (c .if2 .left)
 
 shared-slice-read-mode-from : tie.Need-shared-slice-read-mode-from
 shared-slice-read-mode-from c = let e = c .before .before .before .before .before .before .pre .size in omega arith

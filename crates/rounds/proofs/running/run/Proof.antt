@@ -12,7 +12,7 @@ use Rattle.rounds.proofs.running.run.Tie as tie
 
 abbrev Inv-loop : tie.InvT-loop
 Inv-loop chart names numbers₀ internal₀ external₀ rounds trace₀ kinds index items₀ done₀ count₀ numbers internal external trace items done count =
-    (length items ≡ 256) × RunsOn chart names numbers₀ internal₀ external₀ rounds trace₀ numbers internal external trace done count
+    (length items ≡ 768) × RunsOn chart names numbers₀ internal₀ external₀ rounds trace₀ numbers internal external trace done count
 
 abbrev μ-loop : tie.MeasureT-loop
 μ-loop chart names numbers₀ internal₀ external₀ rounds trace₀ kinds index items₀ done₀ count₀ numbers internal external trace items done count = rounds - done

@@ -26,7 +26,7 @@ plan-round-requires c κs = rw (c .before .before .before .set-at .ensures) (c .
 
 returns : tie.Need-returns
 unfolding listOf
-returns c = let p = rw (c .before .before .before .before .set-at .ensures) at (c .plan-round .ensures) in (refl, p .0, p .1)
+returns c = let p = rw (c .before .before .before .before .set-at .ensures) at (c .plan-round .ensures) in (refl, refl, p .0, p .1)
 
 sub-domains : tie.Need-sub-domains
 sub-domains c = search needs

@@ -24,7 +24,7 @@ plan-step-requires c κs = plan-asks _ _ _ _ _ _ _ (c .before .before .before .b
 
 carry-out-requires : tie.Need-carry-out-requires
 unfolding listOf
-carry-out-requires c κs = step-ready _ _ _ _ _ _ _ (c .before .before .before .before .before .before .before .before .before .before .before .before .before .before .before .before .before .before .before .before .before .before .before .before .before .pre .0) (c .before .before .before .before .before .before .before .before .before .before .before .before .before .before .before .before .before .before .before .before .before .before .before .before .before .pre .1) _ _ (c .before .before .before .before .before .before .before .before .before .before .before .before .choose .ensures) (not-nothing _ (c .before .before .before .before .before .before .before .before .before .match .keys2)) _ (c .before .before .before .before .before .before .plan-step .ensures)
+carry-out-requires c κs = step-ready _ _ _ _ _ _ _ (c .before .before .before .before .before .before .before .before .before .before .before .before .before .before .before .before .before .before .before .before .before .before .before .before .pre .0) (c .before .before .before .before .before .before .before .before .before .before .before .before .before .before .before .before .before .before .before .before .before .before .before .before .pre .1) _ _ (c .before .before .before .before .before .before .before .before .before .before .before .choose .ensures) (not-nothing _ (c .before .before .before .before .before .before .before .before .match .keys2)) _ (c .before .before .before .before .before .plan-step .ensures)
 
 returns-2 : tie.Need-returns-2
 returns-2 c = c .before .before .before .before .before .before .before .before .carry-out .ensures
@@ -41,13 +41,6 @@ same-length-3 c = refl
 same-length-4 : tie.Need-same-length-4
 same-length-4 c = c .before .before .before .before .before .choose .ensures .selected .fits .room ∙ sym (c .before .before .before .before .before .before .before .before .before .before .before .before .before .before .before .before .before .before .pre .2)
 
-slice-reshare-prefix-carry-out : tie.Need-slice-reshare-prefix-carry-out
-slice-reshare-prefix-carry-out c = let r = c .before .before .before .before .before .before .before .before .before .before .choose .ensures .selected .fits .room in let m = c .before .before .before .before .before .before .before .before .before .before .choose .ensures .selected .fits .most in omega arith
-
-slice-aggregate-carry-out : tie.Need-slice-aggregate-carry-out
-unfolding listOf
-slice-aggregate-carry-out c = sym (list-length _ _ (let r = c .before .before .before .before .before .before .before .before .before .before .before .choose .ensures .selected .fits .room in let m = c .before .before .before .before .before .before .before .before .before .before .before .choose .ensures .selected .fits .most in omega arith))
-
 same-length-5 : tie.Need-same-length-5
 same-length-5 c = c .before .before .before .before .before .before .before .before .carry-out .kept .1 .1 .1 .0
 
@@ -58,7 +51,7 @@ same-length-7 : tie.Need-same-length-7
 same-length-7 c = c .before .before .before .before .before .before .before .before .carry-out .kept .1 .1 .1 .1 .1 .0
 
 same-length-8 : tie.Need-same-length-8
-same-length-8 c = c .before .before .before .before .before .before .before .before .before .before .before .before .before .before .before .before .before .before .before .before .before .choose .ensures .selected .fits .room ∙ sym (c .before .before .before .before .before .before .before .before .before .before .before .before .before .before .before .before .before .before .before .before .before .before .before .before .before .before .before .before .before .before .before .before .before .before .pre .2)
+same-length-8 c = c .before .before .before .before .before .before .before .before .before .before .before .before .before .before .before .before .before .before .before .before .choose .ensures .selected .fits .room ∙ sym (c .before .before .before .before .before .before .before .before .before .before .before .before .before .before .before .before .before .before .before .before .before .before .before .before .before .before .before .before .before .before .before .before .before .pre .2)
 
 same-length-9 : tie.Need-same-length-9
 same-length-9 c = c .before .before .before .before .before .before .before .before .carry-out .kept .1 .1 .1 .1 .1 .1 .1 .1 .0
@@ -76,8 +69,6 @@ take-spec =
     same-length-4
     returns
     plan-step-requires
-    slice-reshare-prefix-carry-out
-    slice-aggregate-carry-out
     carry-out-requires
     same-length-5
     same-length-6
