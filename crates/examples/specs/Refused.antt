@@ -498,12 +498,15 @@ example-012 : alike (played numbers-012 names-012 []) ((1 ∷ []) ∷ []) ≡ tr
 unfolding everything joined historyShown queueShown shown playedIf played alike
 example-012 = refl
 
--- nine actions on entry
+-- thirty-three actions on entry
 abbrev numbers-013 : List ℕ
-numbers-013 = 2 ∷ 1 ∷ 1 ∷ 2 ∷ 11 ∷ 3 ∷ 0 ∷ 65535 ∷ 65535 ∷ 0 ∷ 0 ∷ 0 ∷ 0 ∷ 0 ∷ 0 ∷ 0 ∷ 0 ∷ 1 ∷ 0 ∷ 0 ∷ 0 ∷ 9 ∷ 0 ∷ 0 ∷
-    0 ∷ 0 ∷ 0 ∷ 0 ∷ 1 ∷ 0 ∷ 2 ∷ 65535 ∷ 0 ∷ 0 ∷ 1 ∷ 9 ∷ 2 ∷ 1 ∷ 1 ∷ 2 ∷ 1 ∷ 1 ∷ 0 ∷ 0 ∷ 1 ∷ 1 ∷ 0 ∷ 0 ∷ 1 ∷ 1 ∷ 0 ∷ 0 ∷
-    1 ∷ 1 ∷ 0 ∷ 0 ∷ 1 ∷ 1 ∷ 0 ∷ 0 ∷ 1 ∷ 1 ∷ 0 ∷ 0 ∷ 1 ∷ 1 ∷ 0 ∷ 0 ∷ 1 ∷ 1 ∷ 0 ∷ 0 ∷ 1 ∷ 1 ∷ 0 ∷ 0 ∷ 0 ∷ 1 ∷ 0 ∷ 0 ∷ 1 ∷
-    1 ∷ 0 ∷ 0 ∷ []
+numbers-013 = 2 ∷ 1 ∷ 1 ∷ 2 ∷ 35 ∷ 3 ∷ 0 ∷ 65535 ∷ 65535 ∷ 0 ∷ 0 ∷ 0 ∷ 0 ∷ 0 ∷ 0 ∷ 0 ∷ 0 ∷ 1 ∷ 0 ∷ 0 ∷ 0 ∷ 33 ∷ 0 ∷ 0 ∷
+    0 ∷ 0 ∷ 0 ∷ 0 ∷ 1 ∷ 0 ∷ 2 ∷ 65535 ∷ 0 ∷ 0 ∷ 1 ∷ 33 ∷ 2 ∷ 1 ∷ 1 ∷ 2 ∷ 1 ∷ 1 ∷ 0 ∷ 0 ∷ 1 ∷ 1 ∷ 0 ∷ 0 ∷ 1 ∷ 1 ∷ 0 ∷
+    0 ∷ 1 ∷ 1 ∷ 0 ∷ 0 ∷ 1 ∷ 1 ∷ 0 ∷ 0 ∷ 1 ∷ 1 ∷ 0 ∷ 0 ∷ 1 ∷ 1 ∷ 0 ∷ 0 ∷ 1 ∷ 1 ∷ 0 ∷ 0 ∷ 1 ∷ 1 ∷ 0 ∷ 0 ∷ 1 ∷ 1 ∷ 0 ∷ 0 ∷
+    1 ∷ 1 ∷ 0 ∷ 0 ∷ 1 ∷ 1 ∷ 0 ∷ 0 ∷ 1 ∷ 1 ∷ 0 ∷ 0 ∷ 1 ∷ 1 ∷ 0 ∷ 0 ∷ 1 ∷ 1 ∷ 0 ∷ 0 ∷ 1 ∷ 1 ∷ 0 ∷ 0 ∷ 1 ∷ 1 ∷ 0 ∷ 0 ∷ 1 ∷
+    1 ∷ 0 ∷ 0 ∷ 1 ∷ 1 ∷ 0 ∷ 0 ∷ 1 ∷ 1 ∷ 0 ∷ 0 ∷ 1 ∷ 1 ∷ 0 ∷ 0 ∷ 1 ∷ 1 ∷ 0 ∷ 0 ∷ 1 ∷ 1 ∷ 0 ∷ 0 ∷ 1 ∷ 1 ∷ 0 ∷ 0 ∷ 1 ∷ 1 ∷
+    0 ∷ 0 ∷ 1 ∷ 1 ∷ 0 ∷ 0 ∷ 1 ∷ 1 ∷ 0 ∷ 0 ∷ 1 ∷ 1 ∷ 0 ∷ 0 ∷ 1 ∷ 1 ∷ 0 ∷ 0 ∷ 1 ∷ 1 ∷ 0 ∷ 0 ∷ 1 ∷ 1 ∷ 0 ∷ 0 ∷ 1 ∷ 1 ∷ 0 ∷
+    0 ∷ 1 ∷ 1 ∷ 0 ∷ 0 ∷ 0 ∷ 1 ∷ 0 ∷ 0 ∷ 1 ∷ 1 ∷ 0 ∷ 0 ∷ []
 
 abbrev names-013 : List ℕ
 names-013 = joined (slotOf (115 ∷ []) ∷ slotOf (101 ∷ []) ∷ slotOf (42 ∷ []) ∷ [])
@@ -512,12 +515,15 @@ example-013 : alike (played numbers-013 names-013 []) ((1 ∷ []) ∷ []) ≡ tr
 unfolding everything joined historyShown queueShown shown playedIf played alike
 example-013 = refl
 
--- nine actions on exit
+-- thirty-three actions on exit
 abbrev numbers-014 : List ℕ
-numbers-014 = 2 ∷ 1 ∷ 1 ∷ 2 ∷ 11 ∷ 3 ∷ 0 ∷ 65535 ∷ 65535 ∷ 0 ∷ 0 ∷ 0 ∷ 0 ∷ 0 ∷ 0 ∷ 0 ∷ 0 ∷ 1 ∷ 0 ∷ 0 ∷ 0 ∷ 0 ∷ 0 ∷ 9 ∷
-    0 ∷ 0 ∷ 0 ∷ 0 ∷ 1 ∷ 0 ∷ 2 ∷ 65535 ∷ 0 ∷ 0 ∷ 1 ∷ 9 ∷ 2 ∷ 1 ∷ 1 ∷ 2 ∷ 1 ∷ 1 ∷ 0 ∷ 0 ∷ 1 ∷ 1 ∷ 0 ∷ 0 ∷ 1 ∷ 1 ∷ 0 ∷ 0 ∷
-    1 ∷ 1 ∷ 0 ∷ 0 ∷ 1 ∷ 1 ∷ 0 ∷ 0 ∷ 1 ∷ 1 ∷ 0 ∷ 0 ∷ 1 ∷ 1 ∷ 0 ∷ 0 ∷ 1 ∷ 1 ∷ 0 ∷ 0 ∷ 1 ∷ 1 ∷ 0 ∷ 0 ∷ 0 ∷ 1 ∷ 0 ∷ 0 ∷ 1 ∷
-    1 ∷ 0 ∷ 0 ∷ []
+numbers-014 = 2 ∷ 1 ∷ 1 ∷ 2 ∷ 35 ∷ 3 ∷ 0 ∷ 65535 ∷ 65535 ∷ 0 ∷ 0 ∷ 0 ∷ 0 ∷ 0 ∷ 0 ∷ 0 ∷ 0 ∷ 1 ∷ 0 ∷ 0 ∷ 0 ∷ 0 ∷ 0 ∷ 33 ∷
+    0 ∷ 0 ∷ 0 ∷ 0 ∷ 1 ∷ 0 ∷ 2 ∷ 65535 ∷ 0 ∷ 0 ∷ 1 ∷ 33 ∷ 2 ∷ 1 ∷ 1 ∷ 2 ∷ 1 ∷ 1 ∷ 0 ∷ 0 ∷ 1 ∷ 1 ∷ 0 ∷ 0 ∷ 1 ∷ 1 ∷ 0 ∷
+    0 ∷ 1 ∷ 1 ∷ 0 ∷ 0 ∷ 1 ∷ 1 ∷ 0 ∷ 0 ∷ 1 ∷ 1 ∷ 0 ∷ 0 ∷ 1 ∷ 1 ∷ 0 ∷ 0 ∷ 1 ∷ 1 ∷ 0 ∷ 0 ∷ 1 ∷ 1 ∷ 0 ∷ 0 ∷ 1 ∷ 1 ∷ 0 ∷ 0 ∷
+    1 ∷ 1 ∷ 0 ∷ 0 ∷ 1 ∷ 1 ∷ 0 ∷ 0 ∷ 1 ∷ 1 ∷ 0 ∷ 0 ∷ 1 ∷ 1 ∷ 0 ∷ 0 ∷ 1 ∷ 1 ∷ 0 ∷ 0 ∷ 1 ∷ 1 ∷ 0 ∷ 0 ∷ 1 ∷ 1 ∷ 0 ∷ 0 ∷ 1 ∷
+    1 ∷ 0 ∷ 0 ∷ 1 ∷ 1 ∷ 0 ∷ 0 ∷ 1 ∷ 1 ∷ 0 ∷ 0 ∷ 1 ∷ 1 ∷ 0 ∷ 0 ∷ 1 ∷ 1 ∷ 0 ∷ 0 ∷ 1 ∷ 1 ∷ 0 ∷ 0 ∷ 1 ∷ 1 ∷ 0 ∷ 0 ∷ 1 ∷ 1 ∷
+    0 ∷ 0 ∷ 1 ∷ 1 ∷ 0 ∷ 0 ∷ 1 ∷ 1 ∷ 0 ∷ 0 ∷ 1 ∷ 1 ∷ 0 ∷ 0 ∷ 1 ∷ 1 ∷ 0 ∷ 0 ∷ 1 ∷ 1 ∷ 0 ∷ 0 ∷ 1 ∷ 1 ∷ 0 ∷ 0 ∷ 1 ∷ 1 ∷ 0 ∷
+    0 ∷ 1 ∷ 1 ∷ 0 ∷ 0 ∷ 0 ∷ 1 ∷ 0 ∷ 0 ∷ 1 ∷ 1 ∷ 0 ∷ 0 ∷ []
 
 abbrev names-014 : List ℕ
 names-014 = joined (slotOf (115 ∷ []) ∷ slotOf (101 ∷ []) ∷ slotOf (42 ∷ []) ∷ [])
@@ -526,12 +532,15 @@ example-014 : alike (played numbers-014 names-014 []) ((1 ∷ []) ∷ []) ≡ tr
 unfolding everything joined historyShown queueShown shown playedIf played alike
 example-014 = refl
 
--- nine actions of a list
+-- thirty-three actions of a list
 abbrev numbers-015 : List ℕ
-numbers-015 = 2 ∷ 1 ∷ 1 ∷ 2 ∷ 11 ∷ 3 ∷ 0 ∷ 65535 ∷ 65535 ∷ 0 ∷ 0 ∷ 0 ∷ 0 ∷ 0 ∷ 0 ∷ 0 ∷ 0 ∷ 1 ∷ 0 ∷ 0 ∷ 0 ∷ 0 ∷ 0 ∷ 0 ∷
-    0 ∷ 0 ∷ 0 ∷ 9 ∷ 1 ∷ 0 ∷ 2 ∷ 65535 ∷ 0 ∷ 0 ∷ 1 ∷ 9 ∷ 2 ∷ 1 ∷ 1 ∷ 2 ∷ 1 ∷ 1 ∷ 0 ∷ 0 ∷ 1 ∷ 1 ∷ 0 ∷ 0 ∷ 1 ∷ 1 ∷ 0 ∷ 0 ∷
-    1 ∷ 1 ∷ 0 ∷ 0 ∷ 1 ∷ 1 ∷ 0 ∷ 0 ∷ 1 ∷ 1 ∷ 0 ∷ 0 ∷ 1 ∷ 1 ∷ 0 ∷ 0 ∷ 1 ∷ 1 ∷ 0 ∷ 0 ∷ 1 ∷ 1 ∷ 0 ∷ 0 ∷ 0 ∷ 1 ∷ 0 ∷ 0 ∷ 1 ∷
-    1 ∷ 0 ∷ 0 ∷ []
+numbers-015 = 2 ∷ 1 ∷ 1 ∷ 2 ∷ 35 ∷ 3 ∷ 0 ∷ 65535 ∷ 65535 ∷ 0 ∷ 0 ∷ 0 ∷ 0 ∷ 0 ∷ 0 ∷ 0 ∷ 0 ∷ 1 ∷ 0 ∷ 0 ∷ 0 ∷ 0 ∷ 0 ∷ 0 ∷
+    0 ∷ 0 ∷ 0 ∷ 33 ∷ 1 ∷ 0 ∷ 2 ∷ 65535 ∷ 0 ∷ 0 ∷ 1 ∷ 33 ∷ 2 ∷ 1 ∷ 1 ∷ 2 ∷ 1 ∷ 1 ∷ 0 ∷ 0 ∷ 1 ∷ 1 ∷ 0 ∷ 0 ∷ 1 ∷ 1 ∷ 0 ∷
+    0 ∷ 1 ∷ 1 ∷ 0 ∷ 0 ∷ 1 ∷ 1 ∷ 0 ∷ 0 ∷ 1 ∷ 1 ∷ 0 ∷ 0 ∷ 1 ∷ 1 ∷ 0 ∷ 0 ∷ 1 ∷ 1 ∷ 0 ∷ 0 ∷ 1 ∷ 1 ∷ 0 ∷ 0 ∷ 1 ∷ 1 ∷ 0 ∷ 0 ∷
+    1 ∷ 1 ∷ 0 ∷ 0 ∷ 1 ∷ 1 ∷ 0 ∷ 0 ∷ 1 ∷ 1 ∷ 0 ∷ 0 ∷ 1 ∷ 1 ∷ 0 ∷ 0 ∷ 1 ∷ 1 ∷ 0 ∷ 0 ∷ 1 ∷ 1 ∷ 0 ∷ 0 ∷ 1 ∷ 1 ∷ 0 ∷ 0 ∷ 1 ∷
+    1 ∷ 0 ∷ 0 ∷ 1 ∷ 1 ∷ 0 ∷ 0 ∷ 1 ∷ 1 ∷ 0 ∷ 0 ∷ 1 ∷ 1 ∷ 0 ∷ 0 ∷ 1 ∷ 1 ∷ 0 ∷ 0 ∷ 1 ∷ 1 ∷ 0 ∷ 0 ∷ 1 ∷ 1 ∷ 0 ∷ 0 ∷ 1 ∷ 1 ∷
+    0 ∷ 0 ∷ 1 ∷ 1 ∷ 0 ∷ 0 ∷ 1 ∷ 1 ∷ 0 ∷ 0 ∷ 1 ∷ 1 ∷ 0 ∷ 0 ∷ 1 ∷ 1 ∷ 0 ∷ 0 ∷ 1 ∷ 1 ∷ 0 ∷ 0 ∷ 1 ∷ 1 ∷ 0 ∷ 0 ∷ 1 ∷ 1 ∷ 0 ∷
+    0 ∷ 1 ∷ 1 ∷ 0 ∷ 0 ∷ 0 ∷ 1 ∷ 0 ∷ 0 ∷ 1 ∷ 1 ∷ 0 ∷ 0 ∷ []
 
 abbrev names-015 : List ℕ
 names-015 = joined (slotOf (115 ∷ []) ∷ slotOf (101 ∷ []) ∷ slotOf (42 ∷ []) ∷ [])
@@ -540,11 +549,15 @@ example-015 : alike (played numbers-015 names-015 []) ((1 ∷ []) ∷ []) ≡ tr
 unfolding everything joined historyShown queueShown shown playedIf played alike
 example-015 = refl
 
--- nine actions of a transition
+-- thirty-three actions of a transition
 abbrev numbers-016 : List ℕ
-numbers-016 = 2 ∷ 1 ∷ 1 ∷ 2 ∷ 9 ∷ 3 ∷ 0 ∷ 65535 ∷ 65535 ∷ 0 ∷ 0 ∷ 0 ∷ 0 ∷ 0 ∷ 0 ∷ 0 ∷ 0 ∷ 1 ∷ 0 ∷ 0 ∷ 0 ∷ 0 ∷ 0 ∷ 0 ∷
-    0 ∷ 0 ∷ 0 ∷ 0 ∷ 1 ∷ 0 ∷ 2 ∷ 65535 ∷ 0 ∷ 0 ∷ 1 ∷ 0 ∷ 9 ∷ 1 ∷ 1 ∷ 2 ∷ 1 ∷ 1 ∷ 0 ∷ 0 ∷ 1 ∷ 1 ∷ 0 ∷ 0 ∷ 1 ∷ 1 ∷ 0 ∷ 0 ∷
-    1 ∷ 1 ∷ 0 ∷ 0 ∷ 1 ∷ 1 ∷ 0 ∷ 0 ∷ 1 ∷ 1 ∷ 0 ∷ 0 ∷ 1 ∷ 1 ∷ 0 ∷ 0 ∷ 1 ∷ 1 ∷ 0 ∷ 0 ∷ 1 ∷ 1 ∷ 0 ∷ 0 ∷ []
+numbers-016 = 2 ∷ 1 ∷ 1 ∷ 2 ∷ 33 ∷ 3 ∷ 0 ∷ 65535 ∷ 65535 ∷ 0 ∷ 0 ∷ 0 ∷ 0 ∷ 0 ∷ 0 ∷ 0 ∷ 0 ∷ 1 ∷ 0 ∷ 0 ∷ 0 ∷ 0 ∷ 0 ∷ 0 ∷
+    0 ∷ 0 ∷ 0 ∷ 0 ∷ 1 ∷ 0 ∷ 2 ∷ 65535 ∷ 0 ∷ 0 ∷ 1 ∷ 0 ∷ 33 ∷ 1 ∷ 1 ∷ 2 ∷ 1 ∷ 1 ∷ 0 ∷ 0 ∷ 1 ∷ 1 ∷ 0 ∷ 0 ∷ 1 ∷ 1 ∷ 0 ∷
+    0 ∷ 1 ∷ 1 ∷ 0 ∷ 0 ∷ 1 ∷ 1 ∷ 0 ∷ 0 ∷ 1 ∷ 1 ∷ 0 ∷ 0 ∷ 1 ∷ 1 ∷ 0 ∷ 0 ∷ 1 ∷ 1 ∷ 0 ∷ 0 ∷ 1 ∷ 1 ∷ 0 ∷ 0 ∷ 1 ∷ 1 ∷ 0 ∷ 0 ∷
+    1 ∷ 1 ∷ 0 ∷ 0 ∷ 1 ∷ 1 ∷ 0 ∷ 0 ∷ 1 ∷ 1 ∷ 0 ∷ 0 ∷ 1 ∷ 1 ∷ 0 ∷ 0 ∷ 1 ∷ 1 ∷ 0 ∷ 0 ∷ 1 ∷ 1 ∷ 0 ∷ 0 ∷ 1 ∷ 1 ∷ 0 ∷ 0 ∷ 1 ∷
+    1 ∷ 0 ∷ 0 ∷ 1 ∷ 1 ∷ 0 ∷ 0 ∷ 1 ∷ 1 ∷ 0 ∷ 0 ∷ 1 ∷ 1 ∷ 0 ∷ 0 ∷ 1 ∷ 1 ∷ 0 ∷ 0 ∷ 1 ∷ 1 ∷ 0 ∷ 0 ∷ 1 ∷ 1 ∷ 0 ∷ 0 ∷ 1 ∷ 1 ∷
+    0 ∷ 0 ∷ 1 ∷ 1 ∷ 0 ∷ 0 ∷ 1 ∷ 1 ∷ 0 ∷ 0 ∷ 1 ∷ 1 ∷ 0 ∷ 0 ∷ 1 ∷ 1 ∷ 0 ∷ 0 ∷ 1 ∷ 1 ∷ 0 ∷ 0 ∷ 1 ∷ 1 ∷ 0 ∷ 0 ∷ 1 ∷ 1 ∷ 0 ∷
+    0 ∷ 1 ∷ 1 ∷ 0 ∷ 0 ∷ []
 
 abbrev names-016 : List ℕ
 names-016 = joined (slotOf (115 ∷ []) ∷ slotOf (101 ∷ []) ∷ slotOf (42 ∷ []) ∷ [])
@@ -856,10 +869,10 @@ example-041 : alike (played numbers-041 names-041 []) ((1 ∷ []) ∷ []) ≡ tr
 unfolding everything joined historyShown queueShown shown playedIf played alike
 example-041 = refl
 
--- action 2
+-- action 6
 abbrev numbers-042 : List ℕ
 numbers-042 = 2 ∷ 1 ∷ 1 ∷ 2 ∷ 2 ∷ 3 ∷ 0 ∷ 65535 ∷ 65535 ∷ 0 ∷ 0 ∷ 0 ∷ 0 ∷ 0 ∷ 0 ∷ 0 ∷ 0 ∷ 1 ∷ 0 ∷ 0 ∷ 0 ∷ 0 ∷ 0 ∷ 0 ∷
-    0 ∷ 0 ∷ 0 ∷ 0 ∷ 1 ∷ 0 ∷ 2 ∷ 65535 ∷ 0 ∷ 0 ∷ 1 ∷ 0 ∷ 2 ∷ 1 ∷ 1 ∷ 2 ∷ 0 ∷ 1 ∷ 0 ∷ 0 ∷ 2 ∷ 1 ∷ 0 ∷ 0 ∷ []
+    0 ∷ 0 ∷ 0 ∷ 0 ∷ 1 ∷ 0 ∷ 2 ∷ 65535 ∷ 0 ∷ 0 ∷ 1 ∷ 0 ∷ 2 ∷ 1 ∷ 1 ∷ 2 ∷ 0 ∷ 1 ∷ 0 ∷ 0 ∷ 6 ∷ 1 ∷ 0 ∷ 0 ∷ []
 
 abbrev names-042 : List ℕ
 names-042 = joined (slotOf (115 ∷ []) ∷ slotOf (101 ∷ []) ∷ slotOf (42 ∷ []) ∷ [])
@@ -1612,90 +1625,88 @@ example-098 : alike (played numbers-098 names-098 []) ((3 ∷ []) ∷ []) ≡ tr
 unfolding everything joined historyShown queueShown shown playedIf played alike
 example-098 = refl
 
--- initial list holds a history
+-- initial list holds its owner
 abbrev numbers-099 : List ℕ
-numbers-099 = 6 ∷ 1 ∷ 4 ∷ 1 ∷ 0 ∷ 6 ∷ 0 ∷ 65535 ∷ 65535 ∷ 0 ∷ 0 ∷ 0 ∷ 0 ∷ 0 ∷ 0 ∷ 0 ∷ 0 ∷ 1 ∷ 0 ∷ 0 ∷ 0 ∷ 0 ∷ 0 ∷ 0 ∷
-    0 ∷ 1 ∷ 0 ∷ 0 ∷ 1 ∷ 1 ∷ 1 ∷ 0 ∷ 0 ∷ 0 ∷ 0 ∷ 0 ∷ 0 ∷ 0 ∷ 0 ∷ 1 ∷ 1 ∷ 2 ∷ 0 ∷ 0 ∷ 0 ∷ 0 ∷ 0 ∷ 0 ∷ 0 ∷ 0 ∷ 4 ∷ 1 ∷ 3 ∷
-    0 ∷ 0 ∷ 0 ∷ 0 ∷ 1 ∷ 1 ∷ 0 ∷ 0 ∷ 5 ∷ 1 ∷ 4 ∷ 0 ∷ 0 ∷ 0 ∷ 0 ∷ 2 ∷ 1 ∷ 0 ∷ 0 ∷ 2 ∷ 0 ∷ 1 ∷ 65535 ∷ 0 ∷ 3 ∷ 1 ∷ 0 ∷ 0 ∷
-    4 ∷ 2 ∷ 3 ∷ 4 ∷ 5 ∷ []
+numbers-099 = 2 ∷ 1 ∷ 2 ∷ 2 ∷ 2 ∷ 3 ∷ 0 ∷ 65535 ∷ 65535 ∷ 0 ∷ 0 ∷ 0 ∷ 0 ∷ 0 ∷ 1 ∷ 0 ∷ 0 ∷ 1 ∷ 0 ∷ 0 ∷ 0 ∷ 0 ∷ 0 ∷ 0 ∷
+    0 ∷ 0 ∷ 0 ∷ 0 ∷ 1 ∷ 0 ∷ 2 ∷ 65535 ∷ 0 ∷ 1 ∷ 1 ∷ 0 ∷ 2 ∷ 0 ∷ 1 ∷ 1 ∷ 2 ∷ 0 ∷ 1 ∷ 0 ∷ 0 ∷ 1 ∷ 1 ∷ 0 ∷ 0 ∷ []
 
 abbrev names-099 : List ℕ
-names-099 = joined (slotOf (115 ∷ []) ∷ slotOf (97 ∷ []) ∷ slotOf (98 ∷ []) ∷ slotOf (104 ∷ []) ∷ slotOf (100 ∷ []) ∷
-    slotOf (101 ∷ []) ∷ [])
+names-099 = joined (slotOf (115 ∷ []) ∷ slotOf (101 ∷ []) ∷ slotOf (42 ∷ []) ∷ [])
 
 example-099 : alike (played numbers-099 names-099 []) ((4 ∷ []) ∷ []) ≡ true
 unfolding everything joined historyShown queueShown shown playedIf played alike
 example-099 = refl
 
--- initial list holds its owner
+-- initial list holds a row outside
 abbrev numbers-100 : List ℕ
-numbers-100 = 2 ∷ 1 ∷ 2 ∷ 2 ∷ 2 ∷ 3 ∷ 0 ∷ 65535 ∷ 65535 ∷ 0 ∷ 0 ∷ 0 ∷ 0 ∷ 0 ∷ 1 ∷ 0 ∷ 0 ∷ 1 ∷ 0 ∷ 0 ∷ 0 ∷ 0 ∷ 0 ∷ 0 ∷
-    0 ∷ 0 ∷ 0 ∷ 0 ∷ 1 ∷ 0 ∷ 2 ∷ 65535 ∷ 0 ∷ 1 ∷ 1 ∷ 0 ∷ 2 ∷ 0 ∷ 1 ∷ 1 ∷ 2 ∷ 0 ∷ 1 ∷ 0 ∷ 0 ∷ 1 ∷ 1 ∷ 0 ∷ 0 ∷ []
+numbers-100 = 6 ∷ 2 ∷ 4 ∷ 2 ∷ 0 ∷ 6 ∷ 0 ∷ 65535 ∷ 65535 ∷ 0 ∷ 0 ∷ 0 ∷ 0 ∷ 0 ∷ 0 ∷ 0 ∷ 0 ∷ 1 ∷ 0 ∷ 0 ∷ 0 ∷ 0 ∷ 0 ∷ 0 ∷
+    0 ∷ 0 ∷ 0 ∷ 0 ∷ 1 ∷ 1 ∷ 1 ∷ 0 ∷ 0 ∷ 0 ∷ 0 ∷ 0 ∷ 1 ∷ 0 ∷ 0 ∷ 1 ∷ 2 ∷ 2 ∷ 0 ∷ 0 ∷ 0 ∷ 0 ∷ 0 ∷ 0 ∷ 0 ∷ 0 ∷ 4 ∷ 1 ∷ 3 ∷
+    0 ∷ 0 ∷ 0 ∷ 0 ∷ 1 ∷ 1 ∷ 0 ∷ 0 ∷ 1 ∷ 0 ∷ 4 ∷ 0 ∷ 0 ∷ 0 ∷ 0 ∷ 0 ∷ 0 ∷ 0 ∷ 0 ∷ 3 ∷ 0 ∷ 1 ∷ 65535 ∷ 0 ∷ 2 ∷ 1 ∷ 0 ∷ 0 ∷
+    5 ∷ 1 ∷ 1 ∷ 65535 ∷ 0 ∷ 3 ∷ 1 ∷ 0 ∷ 0 ∷ 5 ∷ 2 ∷ 4 ∷ 1 ∷ 5 ∷ 5 ∷ []
 
 abbrev names-100 : List ℕ
-names-100 = joined (slotOf (115 ∷ []) ∷ slotOf (101 ∷ []) ∷ slotOf (42 ∷ []) ∷ [])
+names-100 = joined (slotOf (115 ∷ []) ∷ slotOf (97 ∷ []) ∷ slotOf (120 ∷ []) ∷ slotOf (104 ∷ []) ∷ slotOf (122 ∷ []) ∷
+    slotOf (101 ∷ []) ∷ [])
 
 example-100 : alike (played numbers-100 names-100 []) ((4 ∷ []) ∷ []) ≡ true
 unfolding everything joined historyShown queueShown shown playedIf played alike
 example-100 = refl
 
--- initial list holds a row outside
+-- initial list holds the root
 abbrev numbers-101 : List ℕ
-numbers-101 = 6 ∷ 2 ∷ 4 ∷ 2 ∷ 0 ∷ 6 ∷ 0 ∷ 65535 ∷ 65535 ∷ 0 ∷ 0 ∷ 0 ∷ 0 ∷ 0 ∷ 0 ∷ 0 ∷ 0 ∷ 1 ∷ 0 ∷ 0 ∷ 0 ∷ 0 ∷ 0 ∷ 0 ∷
-    0 ∷ 0 ∷ 0 ∷ 0 ∷ 1 ∷ 1 ∷ 1 ∷ 0 ∷ 0 ∷ 0 ∷ 0 ∷ 0 ∷ 1 ∷ 0 ∷ 0 ∷ 1 ∷ 2 ∷ 2 ∷ 0 ∷ 0 ∷ 0 ∷ 0 ∷ 0 ∷ 0 ∷ 0 ∷ 0 ∷ 4 ∷ 1 ∷ 3 ∷
-    0 ∷ 0 ∷ 0 ∷ 0 ∷ 1 ∷ 1 ∷ 0 ∷ 0 ∷ 1 ∷ 0 ∷ 4 ∷ 0 ∷ 0 ∷ 0 ∷ 0 ∷ 0 ∷ 0 ∷ 0 ∷ 0 ∷ 3 ∷ 0 ∷ 1 ∷ 65535 ∷ 0 ∷ 2 ∷ 1 ∷ 0 ∷ 0 ∷
-    5 ∷ 1 ∷ 1 ∷ 65535 ∷ 0 ∷ 3 ∷ 1 ∷ 0 ∷ 0 ∷ 5 ∷ 2 ∷ 4 ∷ 1 ∷ 5 ∷ 5 ∷ []
+numbers-101 = 2 ∷ 1 ∷ 2 ∷ 2 ∷ 2 ∷ 3 ∷ 0 ∷ 65535 ∷ 65535 ∷ 0 ∷ 0 ∷ 0 ∷ 0 ∷ 0 ∷ 1 ∷ 0 ∷ 0 ∷ 1 ∷ 0 ∷ 0 ∷ 0 ∷ 0 ∷ 0 ∷ 0 ∷
+    0 ∷ 0 ∷ 0 ∷ 0 ∷ 1 ∷ 0 ∷ 2 ∷ 65535 ∷ 0 ∷ 1 ∷ 1 ∷ 0 ∷ 2 ∷ 0 ∷ 1 ∷ 1 ∷ 2 ∷ 0 ∷ 1 ∷ 0 ∷ 0 ∷ 1 ∷ 1 ∷ 0 ∷ 0 ∷ []
 
 abbrev names-101 : List ℕ
-names-101 = joined (slotOf (115 ∷ []) ∷ slotOf (97 ∷ []) ∷ slotOf (120 ∷ []) ∷ slotOf (104 ∷ []) ∷ slotOf (122 ∷ []) ∷
-    slotOf (101 ∷ []) ∷ [])
+names-101 = joined (slotOf (115 ∷ []) ∷ slotOf (101 ∷ []) ∷ slotOf (42 ∷ []) ∷ [])
 
 example-101 : alike (played numbers-101 names-101 []) ((4 ∷ []) ∷ []) ≡ true
 unfolding everything joined historyShown queueShown shown playedIf played alike
 example-101 = refl
 
--- initial list holds the root
+-- initial list holds two children
 abbrev numbers-102 : List ℕ
-numbers-102 = 2 ∷ 1 ∷ 2 ∷ 2 ∷ 2 ∷ 3 ∷ 0 ∷ 65535 ∷ 65535 ∷ 0 ∷ 0 ∷ 0 ∷ 0 ∷ 0 ∷ 1 ∷ 0 ∷ 0 ∷ 1 ∷ 0 ∷ 0 ∷ 0 ∷ 0 ∷ 0 ∷ 0 ∷
-    0 ∷ 0 ∷ 0 ∷ 0 ∷ 1 ∷ 0 ∷ 2 ∷ 65535 ∷ 0 ∷ 1 ∷ 1 ∷ 0 ∷ 2 ∷ 0 ∷ 1 ∷ 1 ∷ 2 ∷ 0 ∷ 1 ∷ 0 ∷ 0 ∷ 1 ∷ 1 ∷ 0 ∷ 0 ∷ []
+numbers-102 = 3 ∷ 1 ∷ 3 ∷ 1 ∷ 0 ∷ 3 ∷ 0 ∷ 65535 ∷ 65535 ∷ 0 ∷ 0 ∷ 0 ∷ 0 ∷ 0 ∷ 2 ∷ 0 ∷ 0 ∷ 1 ∷ 0 ∷ 0 ∷ 0 ∷ 0 ∷ 0 ∷ 0 ∷
+    0 ∷ 0 ∷ 0 ∷ 0 ∷ 3 ∷ 0 ∷ 1 ∷ 0 ∷ 0 ∷ 0 ∷ 0 ∷ 0 ∷ 0 ∷ 0 ∷ 0 ∷ 1 ∷ 0 ∷ 1 ∷ 65535 ∷ 0 ∷ 2 ∷ 1 ∷ 0 ∷ 0 ∷ 1 ∷ 2 ∷ 2 ∷ 2 ∷
+    []
 
 abbrev names-102 : List ℕ
-names-102 = joined (slotOf (115 ∷ []) ∷ slotOf (101 ∷ []) ∷ slotOf (42 ∷ []) ∷ [])
+names-102 = joined (slotOf (115 ∷ []) ∷ slotOf (102 ∷ []) ∷ slotOf (101 ∷ []) ∷ [])
 
 example-102 : alike (played numbers-102 names-102 []) ((4 ∷ []) ∷ []) ≡ true
 unfolding everything joined historyShown queueShown shown playedIf played alike
 example-102 = refl
 
--- initial list holds two children
+-- initial list holds a row twice
 abbrev numbers-103 : List ℕ
-numbers-103 = 3 ∷ 1 ∷ 3 ∷ 1 ∷ 0 ∷ 3 ∷ 0 ∷ 65535 ∷ 65535 ∷ 0 ∷ 0 ∷ 0 ∷ 0 ∷ 0 ∷ 2 ∷ 0 ∷ 0 ∷ 1 ∷ 0 ∷ 0 ∷ 0 ∷ 0 ∷ 0 ∷ 0 ∷
-    0 ∷ 0 ∷ 0 ∷ 0 ∷ 3 ∷ 0 ∷ 1 ∷ 0 ∷ 0 ∷ 0 ∷ 0 ∷ 0 ∷ 0 ∷ 0 ∷ 0 ∷ 1 ∷ 0 ∷ 1 ∷ 65535 ∷ 0 ∷ 2 ∷ 1 ∷ 0 ∷ 0 ∷ 1 ∷ 2 ∷ 2 ∷ 2 ∷
-    []
+numbers-103 = 2 ∷ 1 ∷ 3 ∷ 2 ∷ 2 ∷ 3 ∷ 0 ∷ 65535 ∷ 65535 ∷ 0 ∷ 0 ∷ 0 ∷ 0 ∷ 0 ∷ 2 ∷ 0 ∷ 0 ∷ 1 ∷ 0 ∷ 0 ∷ 0 ∷ 0 ∷ 0 ∷ 0 ∷
+    0 ∷ 0 ∷ 0 ∷ 0 ∷ 1 ∷ 0 ∷ 2 ∷ 65535 ∷ 0 ∷ 2 ∷ 1 ∷ 0 ∷ 2 ∷ 1 ∷ 1 ∷ 1 ∷ 1 ∷ 2 ∷ 0 ∷ 1 ∷ 0 ∷ 0 ∷ 1 ∷ 1 ∷ 0 ∷ 0 ∷ []
 
 abbrev names-103 : List ℕ
-names-103 = joined (slotOf (115 ∷ []) ∷ slotOf (102 ∷ []) ∷ slotOf (101 ∷ []) ∷ [])
+names-103 = joined (slotOf (115 ∷ []) ∷ slotOf (101 ∷ []) ∷ slotOf (42 ∷ []) ∷ [])
 
 example-103 : alike (played numbers-103 names-103 []) ((4 ∷ []) ∷ []) ≡ true
 unfolding everything joined historyShown queueShown shown playedIf played alike
 example-103 = refl
 
--- initial list holds a row twice
+-- initial list holds a row and its ancestor
 abbrev numbers-104 : List ℕ
-numbers-104 = 2 ∷ 1 ∷ 3 ∷ 2 ∷ 2 ∷ 3 ∷ 0 ∷ 65535 ∷ 65535 ∷ 0 ∷ 0 ∷ 0 ∷ 0 ∷ 0 ∷ 2 ∷ 0 ∷ 0 ∷ 1 ∷ 0 ∷ 0 ∷ 0 ∷ 0 ∷ 0 ∷ 0 ∷
-    0 ∷ 0 ∷ 0 ∷ 0 ∷ 1 ∷ 0 ∷ 2 ∷ 65535 ∷ 0 ∷ 2 ∷ 1 ∷ 0 ∷ 2 ∷ 1 ∷ 1 ∷ 1 ∷ 1 ∷ 2 ∷ 0 ∷ 1 ∷ 0 ∷ 0 ∷ 1 ∷ 1 ∷ 0 ∷ 0 ∷ []
+numbers-104 = 4 ∷ 2 ∷ 4 ∷ 2 ∷ 0 ∷ 4 ∷ 0 ∷ 65535 ∷ 65535 ∷ 0 ∷ 0 ∷ 0 ∷ 0 ∷ 0 ∷ 2 ∷ 0 ∷ 0 ∷ 1 ∷ 0 ∷ 0 ∷ 0 ∷ 0 ∷ 0 ∷ 0 ∷
+    0 ∷ 0 ∷ 0 ∷ 0 ∷ 1 ∷ 1 ∷ 1 ∷ 0 ∷ 0 ∷ 0 ∷ 0 ∷ 0 ∷ 0 ∷ 0 ∷ 0 ∷ 1 ∷ 1 ∷ 2 ∷ 0 ∷ 0 ∷ 0 ∷ 0 ∷ 0 ∷ 0 ∷ 0 ∷ 0 ∷ 1 ∷ 0 ∷ 1 ∷
+    65535 ∷ 0 ∷ 2 ∷ 1 ∷ 0 ∷ 0 ∷ 2 ∷ 1 ∷ 1 ∷ 65535 ∷ 0 ∷ 3 ∷ 1 ∷ 0 ∷ 0 ∷ 2 ∷ 1 ∷ 3 ∷ 3 ∷ 3 ∷ 3 ∷ []
 
 abbrev names-104 : List ℕ
-names-104 = joined (slotOf (115 ∷ []) ∷ slotOf (101 ∷ []) ∷ slotOf (42 ∷ []) ∷ [])
+names-104 = joined (slotOf (115 ∷ []) ∷ slotOf (97 ∷ []) ∷ slotOf (98 ∷ []) ∷ slotOf (101 ∷ []) ∷ [])
 
 example-104 : alike (played numbers-104 names-104 []) ((4 ∷ []) ∷ []) ≡ true
 unfolding everything joined historyShown queueShown shown playedIf played alike
 example-104 = refl
 
--- initial list holds a row and its ancestor
+-- block without an initial list
 abbrev numbers-105 : List ℕ
-numbers-105 = 4 ∷ 2 ∷ 4 ∷ 2 ∷ 0 ∷ 4 ∷ 0 ∷ 65535 ∷ 65535 ∷ 0 ∷ 0 ∷ 0 ∷ 0 ∷ 0 ∷ 2 ∷ 0 ∷ 0 ∷ 1 ∷ 0 ∷ 0 ∷ 0 ∷ 0 ∷ 0 ∷ 0 ∷
-    0 ∷ 0 ∷ 0 ∷ 0 ∷ 1 ∷ 1 ∷ 1 ∷ 0 ∷ 0 ∷ 0 ∷ 0 ∷ 0 ∷ 0 ∷ 0 ∷ 0 ∷ 1 ∷ 1 ∷ 2 ∷ 0 ∷ 0 ∷ 0 ∷ 0 ∷ 0 ∷ 0 ∷ 0 ∷ 0 ∷ 1 ∷ 0 ∷ 1 ∷
-    65535 ∷ 0 ∷ 2 ∷ 1 ∷ 0 ∷ 0 ∷ 2 ∷ 1 ∷ 1 ∷ 65535 ∷ 0 ∷ 3 ∷ 1 ∷ 0 ∷ 0 ∷ 2 ∷ 1 ∷ 3 ∷ 3 ∷ 3 ∷ 3 ∷ []
+numbers-105 = 4 ∷ 2 ∷ 2 ∷ 2 ∷ 1 ∷ 4 ∷ 0 ∷ 65535 ∷ 65535 ∷ 0 ∷ 0 ∷ 0 ∷ 0 ∷ 0 ∷ 0 ∷ 0 ∷ 0 ∷ 1 ∷ 0 ∷ 0 ∷ 0 ∷ 0 ∷ 0 ∷ 0 ∷
+    0 ∷ 0 ∷ 0 ∷ 1 ∷ 1 ∷ 1 ∷ 1 ∷ 0 ∷ 0 ∷ 0 ∷ 0 ∷ 0 ∷ 0 ∷ 0 ∷ 0 ∷ 1 ∷ 1 ∷ 2 ∷ 0 ∷ 0 ∷ 0 ∷ 0 ∷ 0 ∷ 0 ∷ 0 ∷ 0 ∷ 1 ∷ 0 ∷ 1 ∷
+    65535 ∷ 0 ∷ 0 ∷ 1 ∷ 0 ∷ 0 ∷ 2 ∷ 1 ∷ 1 ∷ 65535 ∷ 0 ∷ 1 ∷ 1 ∷ 0 ∷ 0 ∷ 3 ∷ 3 ∷ 3 ∷ 3 ∷ 1 ∷ 7 ∷ 0 ∷ 0 ∷ []
 
 abbrev names-105 : List ℕ
 names-105 = joined (slotOf (115 ∷ []) ∷ slotOf (97 ∷ []) ∷ slotOf (98 ∷ []) ∷ slotOf (101 ∷ []) ∷ [])
@@ -1704,25 +1715,27 @@ example-105 : alike (played numbers-105 names-105 []) ((4 ∷ []) ∷ []) ≡ tr
 unfolding everything joined historyShown queueShown shown playedIf played alike
 example-105 = refl
 
--- block without an initial list
+-- default list empty
 abbrev numbers-106 : List ℕ
-numbers-106 = 4 ∷ 2 ∷ 2 ∷ 2 ∷ 1 ∷ 4 ∷ 0 ∷ 65535 ∷ 65535 ∷ 0 ∷ 0 ∷ 0 ∷ 0 ∷ 0 ∷ 0 ∷ 0 ∷ 0 ∷ 1 ∷ 0 ∷ 0 ∷ 0 ∷ 0 ∷ 0 ∷ 0 ∷
-    0 ∷ 0 ∷ 0 ∷ 1 ∷ 1 ∷ 1 ∷ 1 ∷ 0 ∷ 0 ∷ 0 ∷ 0 ∷ 0 ∷ 0 ∷ 0 ∷ 0 ∷ 1 ∷ 1 ∷ 2 ∷ 0 ∷ 0 ∷ 0 ∷ 0 ∷ 0 ∷ 0 ∷ 0 ∷ 0 ∷ 1 ∷ 0 ∷ 1 ∷
-    65535 ∷ 0 ∷ 0 ∷ 1 ∷ 0 ∷ 0 ∷ 2 ∷ 1 ∷ 1 ∷ 65535 ∷ 0 ∷ 1 ∷ 1 ∷ 0 ∷ 0 ∷ 3 ∷ 3 ∷ 3 ∷ 3 ∷ 1 ∷ 7 ∷ 0 ∷ 0 ∷ []
+numbers-106 = 6 ∷ 1 ∷ 2 ∷ 1 ∷ 0 ∷ 6 ∷ 0 ∷ 65535 ∷ 65535 ∷ 0 ∷ 0 ∷ 0 ∷ 0 ∷ 0 ∷ 0 ∷ 0 ∷ 0 ∷ 1 ∷ 0 ∷ 0 ∷ 0 ∷ 0 ∷ 0 ∷ 0 ∷
+    0 ∷ 0 ∷ 0 ∷ 0 ∷ 1 ∷ 1 ∷ 1 ∷ 0 ∷ 0 ∷ 0 ∷ 0 ∷ 0 ∷ 0 ∷ 0 ∷ 0 ∷ 1 ∷ 1 ∷ 2 ∷ 0 ∷ 0 ∷ 0 ∷ 0 ∷ 0 ∷ 0 ∷ 0 ∷ 0 ∷ 4 ∷ 1 ∷ 3 ∷
+    0 ∷ 0 ∷ 0 ∷ 0 ∷ 0 ∷ 1 ∷ 0 ∷ 0 ∷ 5 ∷ 1 ∷ 4 ∷ 0 ∷ 0 ∷ 0 ∷ 0 ∷ 0 ∷ 0 ∷ 0 ∷ 0 ∷ 2 ∷ 0 ∷ 1 ∷ 65535 ∷ 0 ∷ 1 ∷ 1 ∷ 0 ∷ 0 ∷
+    2 ∷ 4 ∷ 5 ∷ []
 
 abbrev names-106 : List ℕ
-names-106 = joined (slotOf (115 ∷ []) ∷ slotOf (97 ∷ []) ∷ slotOf (98 ∷ []) ∷ slotOf (101 ∷ []) ∷ [])
+names-106 = joined (slotOf (115 ∷ []) ∷ slotOf (97 ∷ []) ∷ slotOf (98 ∷ []) ∷ slotOf (104 ∷ []) ∷ slotOf (100 ∷ []) ∷
+    slotOf (101 ∷ []) ∷ [])
 
 example-106 : alike (played numbers-106 names-106 []) ((4 ∷ []) ∷ []) ≡ true
 unfolding everything joined historyShown queueShown shown playedIf played alike
 example-106 = refl
 
--- default list empty
+-- default list holds a history
 abbrev numbers-107 : List ℕ
-numbers-107 = 6 ∷ 1 ∷ 2 ∷ 1 ∷ 0 ∷ 6 ∷ 0 ∷ 65535 ∷ 65535 ∷ 0 ∷ 0 ∷ 0 ∷ 0 ∷ 0 ∷ 0 ∷ 0 ∷ 0 ∷ 1 ∷ 0 ∷ 0 ∷ 0 ∷ 0 ∷ 0 ∷ 0 ∷
+numbers-107 = 6 ∷ 1 ∷ 3 ∷ 1 ∷ 0 ∷ 6 ∷ 0 ∷ 65535 ∷ 65535 ∷ 0 ∷ 0 ∷ 0 ∷ 0 ∷ 0 ∷ 0 ∷ 0 ∷ 0 ∷ 1 ∷ 0 ∷ 0 ∷ 0 ∷ 0 ∷ 0 ∷ 0 ∷
     0 ∷ 0 ∷ 0 ∷ 0 ∷ 1 ∷ 1 ∷ 1 ∷ 0 ∷ 0 ∷ 0 ∷ 0 ∷ 0 ∷ 0 ∷ 0 ∷ 0 ∷ 1 ∷ 1 ∷ 2 ∷ 0 ∷ 0 ∷ 0 ∷ 0 ∷ 0 ∷ 0 ∷ 0 ∷ 0 ∷ 4 ∷ 1 ∷ 3 ∷
-    0 ∷ 0 ∷ 0 ∷ 0 ∷ 0 ∷ 1 ∷ 0 ∷ 0 ∷ 5 ∷ 1 ∷ 4 ∷ 0 ∷ 0 ∷ 0 ∷ 0 ∷ 0 ∷ 0 ∷ 0 ∷ 0 ∷ 2 ∷ 0 ∷ 1 ∷ 65535 ∷ 0 ∷ 1 ∷ 1 ∷ 0 ∷ 0 ∷
-    2 ∷ 4 ∷ 5 ∷ []
+    0 ∷ 0 ∷ 0 ∷ 0 ∷ 0 ∷ 1 ∷ 0 ∷ 0 ∷ 5 ∷ 1 ∷ 4 ∷ 0 ∷ 0 ∷ 0 ∷ 0 ∷ 1 ∷ 1 ∷ 0 ∷ 0 ∷ 2 ∷ 0 ∷ 1 ∷ 65535 ∷ 0 ∷ 2 ∷ 1 ∷ 0 ∷ 0 ∷
+    2 ∷ 5 ∷ 4 ∷ 5 ∷ []
 
 abbrev names-107 : List ℕ
 names-107 = joined (slotOf (115 ∷ []) ∷ slotOf (97 ∷ []) ∷ slotOf (98 ∷ []) ∷ slotOf (104 ∷ []) ∷ slotOf (100 ∷ []) ∷
@@ -1732,12 +1745,12 @@ example-107 : alike (played numbers-107 names-107 []) ((4 ∷ []) ∷ []) ≡ tr
 unfolding everything joined historyShown queueShown shown playedIf played alike
 example-107 = refl
 
--- default list holds a history
+-- default list holds the parent
 abbrev numbers-108 : List ℕ
 numbers-108 = 6 ∷ 1 ∷ 3 ∷ 1 ∷ 0 ∷ 6 ∷ 0 ∷ 65535 ∷ 65535 ∷ 0 ∷ 0 ∷ 0 ∷ 0 ∷ 0 ∷ 0 ∷ 0 ∷ 0 ∷ 1 ∷ 0 ∷ 0 ∷ 0 ∷ 0 ∷ 0 ∷ 0 ∷
     0 ∷ 0 ∷ 0 ∷ 0 ∷ 1 ∷ 1 ∷ 1 ∷ 0 ∷ 0 ∷ 0 ∷ 0 ∷ 0 ∷ 0 ∷ 0 ∷ 0 ∷ 1 ∷ 1 ∷ 2 ∷ 0 ∷ 0 ∷ 0 ∷ 0 ∷ 0 ∷ 0 ∷ 0 ∷ 0 ∷ 4 ∷ 1 ∷ 3 ∷
     0 ∷ 0 ∷ 0 ∷ 0 ∷ 0 ∷ 1 ∷ 0 ∷ 0 ∷ 5 ∷ 1 ∷ 4 ∷ 0 ∷ 0 ∷ 0 ∷ 0 ∷ 1 ∷ 1 ∷ 0 ∷ 0 ∷ 2 ∷ 0 ∷ 1 ∷ 65535 ∷ 0 ∷ 2 ∷ 1 ∷ 0 ∷ 0 ∷
-    2 ∷ 5 ∷ 4 ∷ 5 ∷ []
+    2 ∷ 1 ∷ 4 ∷ 5 ∷ []
 
 abbrev names-108 : List ℕ
 names-108 = joined (slotOf (115 ∷ []) ∷ slotOf (97 ∷ []) ∷ slotOf (98 ∷ []) ∷ slotOf (104 ∷ []) ∷ slotOf (100 ∷ []) ∷
@@ -1747,27 +1760,27 @@ example-108 : alike (played numbers-108 names-108 []) ((4 ∷ []) ∷ []) ≡ tr
 unfolding everything joined historyShown queueShown shown playedIf played alike
 example-108 = refl
 
--- default list holds the parent
+-- default list holds a row outside
 abbrev numbers-109 : List ℕ
-numbers-109 = 6 ∷ 1 ∷ 3 ∷ 1 ∷ 0 ∷ 6 ∷ 0 ∷ 65535 ∷ 65535 ∷ 0 ∷ 0 ∷ 0 ∷ 0 ∷ 0 ∷ 0 ∷ 0 ∷ 0 ∷ 1 ∷ 0 ∷ 0 ∷ 0 ∷ 0 ∷ 0 ∷ 0 ∷
-    0 ∷ 0 ∷ 0 ∷ 0 ∷ 1 ∷ 1 ∷ 1 ∷ 0 ∷ 0 ∷ 0 ∷ 0 ∷ 0 ∷ 0 ∷ 0 ∷ 0 ∷ 1 ∷ 1 ∷ 2 ∷ 0 ∷ 0 ∷ 0 ∷ 0 ∷ 0 ∷ 0 ∷ 0 ∷ 0 ∷ 4 ∷ 1 ∷ 3 ∷
-    0 ∷ 0 ∷ 0 ∷ 0 ∷ 0 ∷ 1 ∷ 0 ∷ 0 ∷ 5 ∷ 1 ∷ 4 ∷ 0 ∷ 0 ∷ 0 ∷ 0 ∷ 1 ∷ 1 ∷ 0 ∷ 0 ∷ 2 ∷ 0 ∷ 1 ∷ 65535 ∷ 0 ∷ 2 ∷ 1 ∷ 0 ∷ 0 ∷
-    2 ∷ 1 ∷ 4 ∷ 5 ∷ []
+numbers-109 = 6 ∷ 2 ∷ 3 ∷ 2 ∷ 0 ∷ 6 ∷ 0 ∷ 65535 ∷ 65535 ∷ 0 ∷ 0 ∷ 0 ∷ 0 ∷ 0 ∷ 0 ∷ 0 ∷ 0 ∷ 1 ∷ 0 ∷ 0 ∷ 0 ∷ 0 ∷ 0 ∷ 0 ∷
+    0 ∷ 0 ∷ 0 ∷ 0 ∷ 1 ∷ 1 ∷ 1 ∷ 0 ∷ 0 ∷ 0 ∷ 0 ∷ 0 ∷ 0 ∷ 0 ∷ 0 ∷ 1 ∷ 2 ∷ 2 ∷ 0 ∷ 0 ∷ 0 ∷ 0 ∷ 0 ∷ 0 ∷ 0 ∷ 0 ∷ 4 ∷ 1 ∷ 3 ∷
+    0 ∷ 0 ∷ 0 ∷ 0 ∷ 0 ∷ 1 ∷ 0 ∷ 0 ∷ 1 ∷ 0 ∷ 4 ∷ 0 ∷ 0 ∷ 0 ∷ 0 ∷ 0 ∷ 0 ∷ 0 ∷ 0 ∷ 3 ∷ 0 ∷ 1 ∷ 65535 ∷ 0 ∷ 1 ∷ 1 ∷ 0 ∷ 0 ∷
+    5 ∷ 1 ∷ 1 ∷ 65535 ∷ 0 ∷ 2 ∷ 1 ∷ 0 ∷ 0 ∷ 5 ∷ 4 ∷ 1 ∷ 5 ∷ 5 ∷ []
 
 abbrev names-109 : List ℕ
-names-109 = joined (slotOf (115 ∷ []) ∷ slotOf (97 ∷ []) ∷ slotOf (98 ∷ []) ∷ slotOf (104 ∷ []) ∷ slotOf (100 ∷ []) ∷
+names-109 = joined (slotOf (115 ∷ []) ∷ slotOf (97 ∷ []) ∷ slotOf (120 ∷ []) ∷ slotOf (104 ∷ []) ∷ slotOf (122 ∷ []) ∷
     slotOf (101 ∷ []) ∷ [])
 
 example-109 : alike (played numbers-109 names-109 []) ((4 ∷ []) ∷ []) ≡ true
 unfolding everything joined historyShown queueShown shown playedIf played alike
 example-109 = refl
 
--- default list holds a row outside
+-- shallow default list holds a grandchild
 abbrev numbers-110 : List ℕ
 numbers-110 = 6 ∷ 2 ∷ 3 ∷ 2 ∷ 0 ∷ 6 ∷ 0 ∷ 65535 ∷ 65535 ∷ 0 ∷ 0 ∷ 0 ∷ 0 ∷ 0 ∷ 0 ∷ 0 ∷ 0 ∷ 1 ∷ 0 ∷ 0 ∷ 0 ∷ 0 ∷ 0 ∷ 0 ∷
     0 ∷ 0 ∷ 0 ∷ 0 ∷ 1 ∷ 1 ∷ 1 ∷ 0 ∷ 0 ∷ 0 ∷ 0 ∷ 0 ∷ 0 ∷ 0 ∷ 0 ∷ 1 ∷ 2 ∷ 2 ∷ 0 ∷ 0 ∷ 0 ∷ 0 ∷ 0 ∷ 0 ∷ 0 ∷ 0 ∷ 4 ∷ 1 ∷ 3 ∷
     0 ∷ 0 ∷ 0 ∷ 0 ∷ 0 ∷ 1 ∷ 0 ∷ 0 ∷ 1 ∷ 0 ∷ 4 ∷ 0 ∷ 0 ∷ 0 ∷ 0 ∷ 0 ∷ 0 ∷ 0 ∷ 0 ∷ 3 ∷ 0 ∷ 1 ∷ 65535 ∷ 0 ∷ 1 ∷ 1 ∷ 0 ∷ 0 ∷
-    5 ∷ 1 ∷ 1 ∷ 65535 ∷ 0 ∷ 2 ∷ 1 ∷ 0 ∷ 0 ∷ 5 ∷ 4 ∷ 1 ∷ 5 ∷ 5 ∷ []
+    5 ∷ 1 ∷ 1 ∷ 65535 ∷ 0 ∷ 2 ∷ 1 ∷ 0 ∷ 0 ∷ 3 ∷ 4 ∷ 1 ∷ 5 ∷ 5 ∷ []
 
 abbrev names-110 : List ℕ
 names-110 = joined (slotOf (115 ∷ []) ∷ slotOf (97 ∷ []) ∷ slotOf (120 ∷ []) ∷ slotOf (104 ∷ []) ∷ slotOf (122 ∷ []) ∷
@@ -1777,27 +1790,27 @@ example-110 : alike (played numbers-110 names-110 []) ((4 ∷ []) ∷ []) ≡ tr
 unfolding everything joined historyShown queueShown shown playedIf played alike
 example-110 = refl
 
--- shallow default list holds a grandchild
+-- default list holds two children of a state
 abbrev numbers-111 : List ℕ
-numbers-111 = 6 ∷ 2 ∷ 3 ∷ 2 ∷ 0 ∷ 6 ∷ 0 ∷ 65535 ∷ 65535 ∷ 0 ∷ 0 ∷ 0 ∷ 0 ∷ 0 ∷ 0 ∷ 0 ∷ 0 ∷ 1 ∷ 0 ∷ 0 ∷ 0 ∷ 0 ∷ 0 ∷ 0 ∷
-    0 ∷ 0 ∷ 0 ∷ 0 ∷ 1 ∷ 1 ∷ 1 ∷ 0 ∷ 0 ∷ 0 ∷ 0 ∷ 0 ∷ 0 ∷ 0 ∷ 0 ∷ 1 ∷ 2 ∷ 2 ∷ 0 ∷ 0 ∷ 0 ∷ 0 ∷ 0 ∷ 0 ∷ 0 ∷ 0 ∷ 4 ∷ 1 ∷ 3 ∷
-    0 ∷ 0 ∷ 0 ∷ 0 ∷ 0 ∷ 1 ∷ 0 ∷ 0 ∷ 1 ∷ 0 ∷ 4 ∷ 0 ∷ 0 ∷ 0 ∷ 0 ∷ 0 ∷ 0 ∷ 0 ∷ 0 ∷ 3 ∷ 0 ∷ 1 ∷ 65535 ∷ 0 ∷ 1 ∷ 1 ∷ 0 ∷ 0 ∷
-    5 ∷ 1 ∷ 1 ∷ 65535 ∷ 0 ∷ 2 ∷ 1 ∷ 0 ∷ 0 ∷ 3 ∷ 4 ∷ 1 ∷ 5 ∷ 5 ∷ []
+numbers-111 = 6 ∷ 1 ∷ 4 ∷ 1 ∷ 0 ∷ 6 ∷ 0 ∷ 65535 ∷ 65535 ∷ 0 ∷ 0 ∷ 0 ∷ 0 ∷ 0 ∷ 0 ∷ 0 ∷ 0 ∷ 1 ∷ 0 ∷ 0 ∷ 0 ∷ 0 ∷ 0 ∷ 0 ∷
+    0 ∷ 0 ∷ 0 ∷ 0 ∷ 1 ∷ 1 ∷ 1 ∷ 0 ∷ 0 ∷ 0 ∷ 0 ∷ 0 ∷ 0 ∷ 0 ∷ 0 ∷ 1 ∷ 1 ∷ 2 ∷ 0 ∷ 0 ∷ 0 ∷ 0 ∷ 0 ∷ 0 ∷ 0 ∷ 0 ∷ 4 ∷ 1 ∷ 3 ∷
+    0 ∷ 0 ∷ 0 ∷ 0 ∷ 0 ∷ 1 ∷ 0 ∷ 0 ∷ 5 ∷ 1 ∷ 4 ∷ 0 ∷ 0 ∷ 0 ∷ 0 ∷ 1 ∷ 2 ∷ 0 ∷ 0 ∷ 2 ∷ 0 ∷ 1 ∷ 65535 ∷ 0 ∷ 3 ∷ 1 ∷ 0 ∷ 0 ∷
+    2 ∷ 2 ∷ 3 ∷ 4 ∷ 5 ∷ []
 
 abbrev names-111 : List ℕ
-names-111 = joined (slotOf (115 ∷ []) ∷ slotOf (97 ∷ []) ∷ slotOf (120 ∷ []) ∷ slotOf (104 ∷ []) ∷ slotOf (122 ∷ []) ∷
+names-111 = joined (slotOf (115 ∷ []) ∷ slotOf (97 ∷ []) ∷ slotOf (98 ∷ []) ∷ slotOf (104 ∷ []) ∷ slotOf (100 ∷ []) ∷
     slotOf (101 ∷ []) ∷ [])
 
 example-111 : alike (played numbers-111 names-111 []) ((4 ∷ []) ∷ []) ≡ true
 unfolding everything joined historyShown queueShown shown playedIf played alike
 example-111 = refl
 
--- default list holds two children of a state
+-- default list holds a row twice
 abbrev numbers-112 : List ℕ
 numbers-112 = 6 ∷ 1 ∷ 4 ∷ 1 ∷ 0 ∷ 6 ∷ 0 ∷ 65535 ∷ 65535 ∷ 0 ∷ 0 ∷ 0 ∷ 0 ∷ 0 ∷ 0 ∷ 0 ∷ 0 ∷ 1 ∷ 0 ∷ 0 ∷ 0 ∷ 0 ∷ 0 ∷ 0 ∷
     0 ∷ 0 ∷ 0 ∷ 0 ∷ 1 ∷ 1 ∷ 1 ∷ 0 ∷ 0 ∷ 0 ∷ 0 ∷ 0 ∷ 0 ∷ 0 ∷ 0 ∷ 1 ∷ 1 ∷ 2 ∷ 0 ∷ 0 ∷ 0 ∷ 0 ∷ 0 ∷ 0 ∷ 0 ∷ 0 ∷ 4 ∷ 1 ∷ 3 ∷
     0 ∷ 0 ∷ 0 ∷ 0 ∷ 0 ∷ 1 ∷ 0 ∷ 0 ∷ 5 ∷ 1 ∷ 4 ∷ 0 ∷ 0 ∷ 0 ∷ 0 ∷ 1 ∷ 2 ∷ 0 ∷ 0 ∷ 2 ∷ 0 ∷ 1 ∷ 65535 ∷ 0 ∷ 3 ∷ 1 ∷ 0 ∷ 0 ∷
-    2 ∷ 2 ∷ 3 ∷ 4 ∷ 5 ∷ []
+    2 ∷ 2 ∷ 2 ∷ 4 ∷ 5 ∷ []
 
 abbrev names-112 : List ℕ
 names-112 = joined (slotOf (115 ∷ []) ∷ slotOf (97 ∷ []) ∷ slotOf (98 ∷ []) ∷ slotOf (104 ∷ []) ∷ slotOf (100 ∷ []) ∷
@@ -1807,25 +1820,23 @@ example-112 : alike (played numbers-112 names-112 []) ((4 ∷ []) ∷ []) ≡ tr
 unfolding everything joined historyShown queueShown shown playedIf played alike
 example-112 = refl
 
--- default list holds a row twice
+-- atomic state with a list
 abbrev numbers-113 : List ℕ
-numbers-113 = 6 ∷ 1 ∷ 4 ∷ 1 ∷ 0 ∷ 6 ∷ 0 ∷ 65535 ∷ 65535 ∷ 0 ∷ 0 ∷ 0 ∷ 0 ∷ 0 ∷ 0 ∷ 0 ∷ 0 ∷ 1 ∷ 0 ∷ 0 ∷ 0 ∷ 0 ∷ 0 ∷ 0 ∷
-    0 ∷ 0 ∷ 0 ∷ 0 ∷ 1 ∷ 1 ∷ 1 ∷ 0 ∷ 0 ∷ 0 ∷ 0 ∷ 0 ∷ 0 ∷ 0 ∷ 0 ∷ 1 ∷ 1 ∷ 2 ∷ 0 ∷ 0 ∷ 0 ∷ 0 ∷ 0 ∷ 0 ∷ 0 ∷ 0 ∷ 4 ∷ 1 ∷ 3 ∷
-    0 ∷ 0 ∷ 0 ∷ 0 ∷ 0 ∷ 1 ∷ 0 ∷ 0 ∷ 5 ∷ 1 ∷ 4 ∷ 0 ∷ 0 ∷ 0 ∷ 0 ∷ 1 ∷ 2 ∷ 0 ∷ 0 ∷ 2 ∷ 0 ∷ 1 ∷ 65535 ∷ 0 ∷ 3 ∷ 1 ∷ 0 ∷ 0 ∷
-    2 ∷ 2 ∷ 2 ∷ 4 ∷ 5 ∷ []
+numbers-113 = 2 ∷ 1 ∷ 2 ∷ 2 ∷ 2 ∷ 3 ∷ 0 ∷ 65535 ∷ 65535 ∷ 0 ∷ 0 ∷ 0 ∷ 0 ∷ 0 ∷ 0 ∷ 0 ∷ 0 ∷ 1 ∷ 0 ∷ 0 ∷ 0 ∷ 0 ∷ 0 ∷ 0 ∷
+    0 ∷ 1 ∷ 0 ∷ 0 ∷ 1 ∷ 0 ∷ 2 ∷ 65535 ∷ 0 ∷ 1 ∷ 1 ∷ 0 ∷ 2 ∷ 1 ∷ 1 ∷ 1 ∷ 2 ∷ 0 ∷ 1 ∷ 0 ∷ 0 ∷ 1 ∷ 1 ∷ 0 ∷ 0 ∷ []
 
 abbrev names-113 : List ℕ
-names-113 = joined (slotOf (115 ∷ []) ∷ slotOf (97 ∷ []) ∷ slotOf (98 ∷ []) ∷ slotOf (104 ∷ []) ∷ slotOf (100 ∷ []) ∷
-    slotOf (101 ∷ []) ∷ [])
+names-113 = joined (slotOf (115 ∷ []) ∷ slotOf (101 ∷ []) ∷ slotOf (42 ∷ []) ∷ [])
 
 example-113 : alike (played numbers-113 names-113 []) ((4 ∷ []) ∷ []) ≡ true
 unfolding everything joined historyShown queueShown shown playedIf played alike
 example-113 = refl
 
--- atomic state with a list
+-- atomic state with a list's block
 abbrev numbers-114 : List ℕ
-numbers-114 = 2 ∷ 1 ∷ 2 ∷ 2 ∷ 2 ∷ 3 ∷ 0 ∷ 65535 ∷ 65535 ∷ 0 ∷ 0 ∷ 0 ∷ 0 ∷ 0 ∷ 0 ∷ 0 ∷ 0 ∷ 1 ∷ 0 ∷ 0 ∷ 0 ∷ 0 ∷ 0 ∷ 0 ∷
-    0 ∷ 1 ∷ 0 ∷ 0 ∷ 1 ∷ 0 ∷ 2 ∷ 65535 ∷ 0 ∷ 1 ∷ 1 ∷ 0 ∷ 2 ∷ 1 ∷ 1 ∷ 1 ∷ 2 ∷ 0 ∷ 1 ∷ 0 ∷ 0 ∷ 1 ∷ 1 ∷ 0 ∷ 0 ∷ []
+numbers-114 = 2 ∷ 1 ∷ 1 ∷ 2 ∷ 3 ∷ 3 ∷ 0 ∷ 65535 ∷ 65535 ∷ 0 ∷ 0 ∷ 0 ∷ 0 ∷ 0 ∷ 0 ∷ 0 ∷ 0 ∷ 1 ∷ 0 ∷ 0 ∷ 0 ∷ 0 ∷ 0 ∷ 0 ∷
+    0 ∷ 0 ∷ 0 ∷ 1 ∷ 1 ∷ 0 ∷ 2 ∷ 65535 ∷ 0 ∷ 0 ∷ 1 ∷ 1 ∷ 2 ∷ 1 ∷ 1 ∷ 2 ∷ 1 ∷ 7 ∷ 0 ∷ 0 ∷ 0 ∷ 1 ∷ 0 ∷ 0 ∷ 1 ∷ 1 ∷ 0 ∷ 0 ∷
+    []
 
 abbrev names-114 : List ℕ
 names-114 = joined (slotOf (115 ∷ []) ∷ slotOf (101 ∷ []) ∷ slotOf (42 ∷ []) ∷ [])
@@ -1834,24 +1845,24 @@ example-114 : alike (played numbers-114 names-114 []) ((4 ∷ []) ∷ []) ≡ tr
 unfolding everything joined historyShown queueShown shown playedIf played alike
 example-114 = refl
 
--- atomic state with a list's block
+-- parallel with a list
 abbrev numbers-115 : List ℕ
-numbers-115 = 2 ∷ 1 ∷ 1 ∷ 2 ∷ 3 ∷ 3 ∷ 0 ∷ 65535 ∷ 65535 ∷ 0 ∷ 0 ∷ 0 ∷ 0 ∷ 0 ∷ 0 ∷ 0 ∷ 0 ∷ 1 ∷ 0 ∷ 0 ∷ 0 ∷ 0 ∷ 0 ∷ 0 ∷
-    0 ∷ 0 ∷ 0 ∷ 1 ∷ 1 ∷ 0 ∷ 2 ∷ 65535 ∷ 0 ∷ 0 ∷ 1 ∷ 1 ∷ 2 ∷ 1 ∷ 1 ∷ 2 ∷ 1 ∷ 7 ∷ 0 ∷ 0 ∷ 0 ∷ 1 ∷ 0 ∷ 0 ∷ 1 ∷ 1 ∷ 0 ∷ 0 ∷
-    []
+numbers-115 = 4 ∷ 1 ∷ 3 ∷ 1 ∷ 0 ∷ 4 ∷ 0 ∷ 65535 ∷ 65535 ∷ 0 ∷ 0 ∷ 0 ∷ 0 ∷ 0 ∷ 0 ∷ 0 ∷ 0 ∷ 2 ∷ 0 ∷ 0 ∷ 0 ∷ 0 ∷ 0 ∷ 0 ∷
+    0 ∷ 2 ∷ 0 ∷ 0 ∷ 1 ∷ 1 ∷ 1 ∷ 0 ∷ 0 ∷ 0 ∷ 0 ∷ 0 ∷ 0 ∷ 0 ∷ 0 ∷ 1 ∷ 1 ∷ 2 ∷ 0 ∷ 0 ∷ 0 ∷ 0 ∷ 0 ∷ 0 ∷ 0 ∷ 0 ∷ 2 ∷ 0 ∷ 1 ∷
+    65535 ∷ 0 ∷ 2 ∷ 1 ∷ 0 ∷ 0 ∷ 2 ∷ 3 ∷ 3 ∷ 3 ∷ []
 
 abbrev names-115 : List ℕ
-names-115 = joined (slotOf (115 ∷ []) ∷ slotOf (101 ∷ []) ∷ slotOf (42 ∷ []) ∷ [])
+names-115 = joined (slotOf (112 ∷ []) ∷ slotOf (97 ∷ []) ∷ slotOf (98 ∷ []) ∷ slotOf (101 ∷ []) ∷ [])
 
 example-115 : alike (played numbers-115 names-115 []) ((4 ∷ []) ∷ []) ≡ true
 unfolding everything joined historyShown queueShown shown playedIf played alike
 example-115 = refl
 
--- parallel with a list
+-- parallel with a list's block
 abbrev numbers-116 : List ℕ
-numbers-116 = 4 ∷ 1 ∷ 3 ∷ 1 ∷ 0 ∷ 4 ∷ 0 ∷ 65535 ∷ 65535 ∷ 0 ∷ 0 ∷ 0 ∷ 0 ∷ 0 ∷ 0 ∷ 0 ∷ 0 ∷ 2 ∷ 0 ∷ 0 ∷ 0 ∷ 0 ∷ 0 ∷ 0 ∷
-    0 ∷ 2 ∷ 0 ∷ 0 ∷ 1 ∷ 1 ∷ 1 ∷ 0 ∷ 0 ∷ 0 ∷ 0 ∷ 0 ∷ 0 ∷ 0 ∷ 0 ∷ 1 ∷ 1 ∷ 2 ∷ 0 ∷ 0 ∷ 0 ∷ 0 ∷ 0 ∷ 0 ∷ 0 ∷ 0 ∷ 2 ∷ 0 ∷ 1 ∷
-    65535 ∷ 0 ∷ 2 ∷ 1 ∷ 0 ∷ 0 ∷ 2 ∷ 3 ∷ 3 ∷ 3 ∷ []
+numbers-116 = 4 ∷ 1 ∷ 1 ∷ 1 ∷ 1 ∷ 4 ∷ 0 ∷ 65535 ∷ 65535 ∷ 0 ∷ 0 ∷ 0 ∷ 0 ∷ 0 ∷ 0 ∷ 0 ∷ 0 ∷ 2 ∷ 0 ∷ 0 ∷ 0 ∷ 0 ∷ 0 ∷ 0 ∷
+    0 ∷ 0 ∷ 0 ∷ 1 ∷ 1 ∷ 1 ∷ 1 ∷ 0 ∷ 0 ∷ 0 ∷ 0 ∷ 0 ∷ 0 ∷ 0 ∷ 0 ∷ 1 ∷ 1 ∷ 2 ∷ 0 ∷ 0 ∷ 0 ∷ 0 ∷ 0 ∷ 0 ∷ 0 ∷ 0 ∷ 2 ∷ 0 ∷ 1 ∷
+    65535 ∷ 0 ∷ 0 ∷ 1 ∷ 0 ∷ 0 ∷ 3 ∷ 3 ∷ 1 ∷ 7 ∷ 0 ∷ 0 ∷ []
 
 abbrev names-116 : List ℕ
 names-116 = joined (slotOf (112 ∷ []) ∷ slotOf (97 ∷ []) ∷ slotOf (98 ∷ []) ∷ slotOf (101 ∷ []) ∷ [])
@@ -1860,23 +1871,23 @@ example-116 : alike (played numbers-116 names-116 []) ((4 ∷ []) ∷ []) ≡ tr
 unfolding everything joined historyShown queueShown shown playedIf played alike
 example-116 = refl
 
--- parallel with a list's block
+-- final with a list
 abbrev numbers-117 : List ℕ
-numbers-117 = 4 ∷ 1 ∷ 1 ∷ 1 ∷ 1 ∷ 4 ∷ 0 ∷ 65535 ∷ 65535 ∷ 0 ∷ 0 ∷ 0 ∷ 0 ∷ 0 ∷ 0 ∷ 0 ∷ 0 ∷ 2 ∷ 0 ∷ 0 ∷ 0 ∷ 0 ∷ 0 ∷ 0 ∷
-    0 ∷ 0 ∷ 0 ∷ 1 ∷ 1 ∷ 1 ∷ 1 ∷ 0 ∷ 0 ∷ 0 ∷ 0 ∷ 0 ∷ 0 ∷ 0 ∷ 0 ∷ 1 ∷ 1 ∷ 2 ∷ 0 ∷ 0 ∷ 0 ∷ 0 ∷ 0 ∷ 0 ∷ 0 ∷ 0 ∷ 2 ∷ 0 ∷ 1 ∷
-    65535 ∷ 0 ∷ 0 ∷ 1 ∷ 0 ∷ 0 ∷ 3 ∷ 3 ∷ 1 ∷ 7 ∷ 0 ∷ 0 ∷ []
+numbers-117 = 3 ∷ 1 ∷ 2 ∷ 1 ∷ 0 ∷ 3 ∷ 0 ∷ 65535 ∷ 65535 ∷ 0 ∷ 0 ∷ 0 ∷ 0 ∷ 0 ∷ 0 ∷ 0 ∷ 0 ∷ 1 ∷ 0 ∷ 0 ∷ 0 ∷ 0 ∷ 0 ∷ 0 ∷
+    0 ∷ 0 ∷ 0 ∷ 0 ∷ 3 ∷ 0 ∷ 1 ∷ 0 ∷ 0 ∷ 0 ∷ 0 ∷ 0 ∷ 1 ∷ 0 ∷ 0 ∷ 1 ∷ 0 ∷ 1 ∷ 65535 ∷ 0 ∷ 1 ∷ 1 ∷ 0 ∷ 0 ∷ 1 ∷ 2 ∷ 2 ∷ []
 
 abbrev names-117 : List ℕ
-names-117 = joined (slotOf (112 ∷ []) ∷ slotOf (97 ∷ []) ∷ slotOf (98 ∷ []) ∷ slotOf (101 ∷ []) ∷ [])
+names-117 = joined (slotOf (115 ∷ []) ∷ slotOf (102 ∷ []) ∷ slotOf (101 ∷ []) ∷ [])
 
 example-117 : alike (played numbers-117 names-117 []) ((4 ∷ []) ∷ []) ≡ true
 unfolding everything joined historyShown queueShown shown playedIf played alike
 example-117 = refl
 
--- final with a list
+-- final with a list's block
 abbrev numbers-118 : List ℕ
-numbers-118 = 3 ∷ 1 ∷ 2 ∷ 1 ∷ 0 ∷ 3 ∷ 0 ∷ 65535 ∷ 65535 ∷ 0 ∷ 0 ∷ 0 ∷ 0 ∷ 0 ∷ 0 ∷ 0 ∷ 0 ∷ 1 ∷ 0 ∷ 0 ∷ 0 ∷ 0 ∷ 0 ∷ 0 ∷
-    0 ∷ 0 ∷ 0 ∷ 0 ∷ 3 ∷ 0 ∷ 1 ∷ 0 ∷ 0 ∷ 0 ∷ 0 ∷ 0 ∷ 1 ∷ 0 ∷ 0 ∷ 1 ∷ 0 ∷ 1 ∷ 65535 ∷ 0 ∷ 1 ∷ 1 ∷ 0 ∷ 0 ∷ 1 ∷ 2 ∷ 2 ∷ []
+numbers-118 = 3 ∷ 1 ∷ 1 ∷ 1 ∷ 1 ∷ 3 ∷ 0 ∷ 65535 ∷ 65535 ∷ 0 ∷ 0 ∷ 0 ∷ 0 ∷ 0 ∷ 0 ∷ 0 ∷ 0 ∷ 1 ∷ 0 ∷ 0 ∷ 0 ∷ 0 ∷ 0 ∷ 0 ∷
+    0 ∷ 0 ∷ 0 ∷ 0 ∷ 3 ∷ 0 ∷ 1 ∷ 0 ∷ 0 ∷ 0 ∷ 0 ∷ 0 ∷ 0 ∷ 0 ∷ 1 ∷ 1 ∷ 0 ∷ 1 ∷ 65535 ∷ 0 ∷ 0 ∷ 1 ∷ 0 ∷ 0 ∷ 2 ∷ 2 ∷ 1 ∷ 7 ∷
+    0 ∷ 0 ∷ []
 
 abbrev names-118 : List ℕ
 names-118 = joined (slotOf (115 ∷ []) ∷ slotOf (102 ∷ []) ∷ slotOf (101 ∷ []) ∷ [])
@@ -1885,22 +1896,22 @@ example-118 : alike (played numbers-118 names-118 []) ((4 ∷ []) ∷ []) ≡ tr
 unfolding everything joined historyShown queueShown shown playedIf played alike
 example-118 = refl
 
--- final with a list's block
+-- root with an entry block
 abbrev numbers-119 : List ℕ
-numbers-119 = 3 ∷ 1 ∷ 1 ∷ 1 ∷ 1 ∷ 3 ∷ 0 ∷ 65535 ∷ 65535 ∷ 0 ∷ 0 ∷ 0 ∷ 0 ∷ 0 ∷ 0 ∷ 0 ∷ 0 ∷ 1 ∷ 0 ∷ 0 ∷ 0 ∷ 0 ∷ 0 ∷ 0 ∷
-    0 ∷ 0 ∷ 0 ∷ 0 ∷ 3 ∷ 0 ∷ 1 ∷ 0 ∷ 0 ∷ 0 ∷ 0 ∷ 0 ∷ 0 ∷ 0 ∷ 1 ∷ 1 ∷ 0 ∷ 1 ∷ 65535 ∷ 0 ∷ 0 ∷ 1 ∷ 0 ∷ 0 ∷ 2 ∷ 2 ∷ 1 ∷ 7 ∷
-    0 ∷ 0 ∷ []
+numbers-119 = 2 ∷ 1 ∷ 1 ∷ 2 ∷ 3 ∷ 3 ∷ 0 ∷ 65535 ∷ 65535 ∷ 0 ∷ 1 ∷ 0 ∷ 0 ∷ 0 ∷ 0 ∷ 0 ∷ 0 ∷ 1 ∷ 0 ∷ 0 ∷ 0 ∷ 0 ∷ 0 ∷ 0 ∷
+    0 ∷ 0 ∷ 0 ∷ 0 ∷ 1 ∷ 0 ∷ 2 ∷ 65535 ∷ 0 ∷ 0 ∷ 1 ∷ 1 ∷ 2 ∷ 1 ∷ 1 ∷ 2 ∷ 1 ∷ 7 ∷ 0 ∷ 0 ∷ 0 ∷ 1 ∷ 0 ∷ 0 ∷ 1 ∷ 1 ∷ 0 ∷ 0 ∷
+    []
 
 abbrev names-119 : List ℕ
-names-119 = joined (slotOf (115 ∷ []) ∷ slotOf (102 ∷ []) ∷ slotOf (101 ∷ []) ∷ [])
+names-119 = joined (slotOf (115 ∷ []) ∷ slotOf (101 ∷ []) ∷ slotOf (42 ∷ []) ∷ [])
 
 example-119 : alike (played numbers-119 names-119 []) ((4 ∷ []) ∷ []) ≡ true
 unfolding everything joined historyShown queueShown shown playedIf played alike
 example-119 = refl
 
--- root with an entry block
+-- root with an exit block
 abbrev numbers-120 : List ℕ
-numbers-120 = 2 ∷ 1 ∷ 1 ∷ 2 ∷ 3 ∷ 3 ∷ 0 ∷ 65535 ∷ 65535 ∷ 0 ∷ 1 ∷ 0 ∷ 0 ∷ 0 ∷ 0 ∷ 0 ∷ 0 ∷ 1 ∷ 0 ∷ 0 ∷ 0 ∷ 0 ∷ 0 ∷ 0 ∷
+numbers-120 = 2 ∷ 1 ∷ 1 ∷ 2 ∷ 3 ∷ 3 ∷ 0 ∷ 65535 ∷ 65535 ∷ 0 ∷ 0 ∷ 0 ∷ 1 ∷ 0 ∷ 0 ∷ 0 ∷ 0 ∷ 1 ∷ 0 ∷ 0 ∷ 0 ∷ 0 ∷ 0 ∷ 0 ∷
     0 ∷ 0 ∷ 0 ∷ 0 ∷ 1 ∷ 0 ∷ 2 ∷ 65535 ∷ 0 ∷ 0 ∷ 1 ∷ 1 ∷ 2 ∷ 1 ∷ 1 ∷ 2 ∷ 1 ∷ 7 ∷ 0 ∷ 0 ∷ 0 ∷ 1 ∷ 0 ∷ 0 ∷ 1 ∷ 1 ∷ 0 ∷ 0 ∷
     []
 
@@ -1911,11 +1922,11 @@ example-120 : alike (played numbers-120 names-120 []) ((4 ∷ []) ∷ []) ≡ tr
 unfolding everything joined historyShown queueShown shown playedIf played alike
 example-120 = refl
 
--- root with an exit block
+-- root with an initial block
 abbrev numbers-121 : List ℕ
-numbers-121 = 2 ∷ 1 ∷ 1 ∷ 2 ∷ 3 ∷ 3 ∷ 0 ∷ 65535 ∷ 65535 ∷ 0 ∷ 0 ∷ 0 ∷ 1 ∷ 0 ∷ 0 ∷ 0 ∷ 0 ∷ 1 ∷ 0 ∷ 0 ∷ 0 ∷ 0 ∷ 0 ∷ 0 ∷
-    0 ∷ 0 ∷ 0 ∷ 0 ∷ 1 ∷ 0 ∷ 2 ∷ 65535 ∷ 0 ∷ 0 ∷ 1 ∷ 1 ∷ 2 ∷ 1 ∷ 1 ∷ 2 ∷ 1 ∷ 7 ∷ 0 ∷ 0 ∷ 0 ∷ 1 ∷ 0 ∷ 0 ∷ 1 ∷ 1 ∷ 0 ∷ 0 ∷
-    []
+numbers-121 = 2 ∷ 1 ∷ 2 ∷ 2 ∷ 3 ∷ 3 ∷ 0 ∷ 65535 ∷ 65535 ∷ 0 ∷ 0 ∷ 0 ∷ 0 ∷ 0 ∷ 1 ∷ 0 ∷ 1 ∷ 1 ∷ 0 ∷ 0 ∷ 0 ∷ 0 ∷ 0 ∷ 0 ∷
+    0 ∷ 0 ∷ 0 ∷ 0 ∷ 1 ∷ 0 ∷ 2 ∷ 65535 ∷ 0 ∷ 1 ∷ 1 ∷ 1 ∷ 2 ∷ 1 ∷ 1 ∷ 1 ∷ 2 ∷ 1 ∷ 7 ∷ 0 ∷ 0 ∷ 0 ∷ 1 ∷ 0 ∷ 0 ∷ 1 ∷ 1 ∷ 0 ∷
+    0 ∷ []
 
 abbrev names-121 : List ℕ
 names-121 = joined (slotOf (115 ∷ []) ∷ slotOf (101 ∷ []) ∷ slotOf (42 ∷ []) ∷ [])
@@ -1924,24 +1935,26 @@ example-121 : alike (played numbers-121 names-121 []) ((4 ∷ []) ∷ []) ≡ tr
 unfolding everything joined historyShown queueShown shown playedIf played alike
 example-121 = refl
 
--- root with an initial block
+-- history with an entry block
 abbrev numbers-122 : List ℕ
-numbers-122 = 2 ∷ 1 ∷ 2 ∷ 2 ∷ 3 ∷ 3 ∷ 0 ∷ 65535 ∷ 65535 ∷ 0 ∷ 0 ∷ 0 ∷ 0 ∷ 0 ∷ 1 ∷ 0 ∷ 1 ∷ 1 ∷ 0 ∷ 0 ∷ 0 ∷ 0 ∷ 0 ∷ 0 ∷
-    0 ∷ 0 ∷ 0 ∷ 0 ∷ 1 ∷ 0 ∷ 2 ∷ 65535 ∷ 0 ∷ 1 ∷ 1 ∷ 1 ∷ 2 ∷ 1 ∷ 1 ∷ 1 ∷ 2 ∷ 1 ∷ 7 ∷ 0 ∷ 0 ∷ 0 ∷ 1 ∷ 0 ∷ 0 ∷ 1 ∷ 1 ∷ 0 ∷
-    0 ∷ []
+numbers-122 = 6 ∷ 1 ∷ 3 ∷ 1 ∷ 1 ∷ 6 ∷ 0 ∷ 65535 ∷ 65535 ∷ 0 ∷ 0 ∷ 0 ∷ 0 ∷ 0 ∷ 0 ∷ 0 ∷ 0 ∷ 1 ∷ 0 ∷ 0 ∷ 0 ∷ 0 ∷ 0 ∷ 0 ∷
+    0 ∷ 0 ∷ 0 ∷ 0 ∷ 1 ∷ 1 ∷ 1 ∷ 0 ∷ 0 ∷ 0 ∷ 0 ∷ 0 ∷ 0 ∷ 0 ∷ 0 ∷ 1 ∷ 1 ∷ 2 ∷ 0 ∷ 0 ∷ 0 ∷ 0 ∷ 0 ∷ 0 ∷ 0 ∷ 0 ∷ 4 ∷ 1 ∷ 3 ∷
+    0 ∷ 0 ∷ 0 ∷ 0 ∷ 0 ∷ 1 ∷ 0 ∷ 0 ∷ 5 ∷ 1 ∷ 4 ∷ 0 ∷ 1 ∷ 0 ∷ 0 ∷ 1 ∷ 1 ∷ 0 ∷ 0 ∷ 2 ∷ 0 ∷ 1 ∷ 65535 ∷ 0 ∷ 2 ∷ 1 ∷ 0 ∷ 0 ∷
+    2 ∷ 3 ∷ 4 ∷ 5 ∷ 1 ∷ 7 ∷ 0 ∷ 0 ∷ []
 
 abbrev names-122 : List ℕ
-names-122 = joined (slotOf (115 ∷ []) ∷ slotOf (101 ∷ []) ∷ slotOf (42 ∷ []) ∷ [])
+names-122 = joined (slotOf (115 ∷ []) ∷ slotOf (97 ∷ []) ∷ slotOf (98 ∷ []) ∷ slotOf (104 ∷ []) ∷ slotOf (100 ∷ []) ∷
+    slotOf (101 ∷ []) ∷ [])
 
 example-122 : alike (played numbers-122 names-122 []) ((4 ∷ []) ∷ []) ≡ true
 unfolding everything joined historyShown queueShown shown playedIf played alike
 example-122 = refl
 
--- history with an entry block
+-- history with an exit block
 abbrev numbers-123 : List ℕ
 numbers-123 = 6 ∷ 1 ∷ 3 ∷ 1 ∷ 1 ∷ 6 ∷ 0 ∷ 65535 ∷ 65535 ∷ 0 ∷ 0 ∷ 0 ∷ 0 ∷ 0 ∷ 0 ∷ 0 ∷ 0 ∷ 1 ∷ 0 ∷ 0 ∷ 0 ∷ 0 ∷ 0 ∷ 0 ∷
     0 ∷ 0 ∷ 0 ∷ 0 ∷ 1 ∷ 1 ∷ 1 ∷ 0 ∷ 0 ∷ 0 ∷ 0 ∷ 0 ∷ 0 ∷ 0 ∷ 0 ∷ 1 ∷ 1 ∷ 2 ∷ 0 ∷ 0 ∷ 0 ∷ 0 ∷ 0 ∷ 0 ∷ 0 ∷ 0 ∷ 4 ∷ 1 ∷ 3 ∷
-    0 ∷ 0 ∷ 0 ∷ 0 ∷ 0 ∷ 1 ∷ 0 ∷ 0 ∷ 5 ∷ 1 ∷ 4 ∷ 0 ∷ 1 ∷ 0 ∷ 0 ∷ 1 ∷ 1 ∷ 0 ∷ 0 ∷ 2 ∷ 0 ∷ 1 ∷ 65535 ∷ 0 ∷ 2 ∷ 1 ∷ 0 ∷ 0 ∷
+    0 ∷ 0 ∷ 0 ∷ 0 ∷ 0 ∷ 1 ∷ 0 ∷ 0 ∷ 5 ∷ 1 ∷ 4 ∷ 0 ∷ 0 ∷ 0 ∷ 1 ∷ 1 ∷ 1 ∷ 0 ∷ 0 ∷ 2 ∷ 0 ∷ 1 ∷ 65535 ∷ 0 ∷ 2 ∷ 1 ∷ 0 ∷ 0 ∷
     2 ∷ 3 ∷ 4 ∷ 5 ∷ 1 ∷ 7 ∷ 0 ∷ 0 ∷ []
 
 abbrev names-123 : List ℕ
@@ -1952,25 +1965,22 @@ example-123 : alike (played numbers-123 names-123 []) ((4 ∷ []) ∷ []) ≡ tr
 unfolding everything joined historyShown queueShown shown playedIf played alike
 example-123 = refl
 
--- history with an exit block
+-- target is the root
 abbrev numbers-124 : List ℕ
-numbers-124 = 6 ∷ 1 ∷ 3 ∷ 1 ∷ 1 ∷ 6 ∷ 0 ∷ 65535 ∷ 65535 ∷ 0 ∷ 0 ∷ 0 ∷ 0 ∷ 0 ∷ 0 ∷ 0 ∷ 0 ∷ 1 ∷ 0 ∷ 0 ∷ 0 ∷ 0 ∷ 0 ∷ 0 ∷
-    0 ∷ 0 ∷ 0 ∷ 0 ∷ 1 ∷ 1 ∷ 1 ∷ 0 ∷ 0 ∷ 0 ∷ 0 ∷ 0 ∷ 0 ∷ 0 ∷ 0 ∷ 1 ∷ 1 ∷ 2 ∷ 0 ∷ 0 ∷ 0 ∷ 0 ∷ 0 ∷ 0 ∷ 0 ∷ 0 ∷ 4 ∷ 1 ∷ 3 ∷
-    0 ∷ 0 ∷ 0 ∷ 0 ∷ 0 ∷ 1 ∷ 0 ∷ 0 ∷ 5 ∷ 1 ∷ 4 ∷ 0 ∷ 0 ∷ 0 ∷ 1 ∷ 1 ∷ 1 ∷ 0 ∷ 0 ∷ 2 ∷ 0 ∷ 1 ∷ 65535 ∷ 0 ∷ 2 ∷ 1 ∷ 0 ∷ 0 ∷
-    2 ∷ 3 ∷ 4 ∷ 5 ∷ 1 ∷ 7 ∷ 0 ∷ 0 ∷ []
+numbers-124 = 2 ∷ 1 ∷ 1 ∷ 2 ∷ 2 ∷ 3 ∷ 0 ∷ 65535 ∷ 65535 ∷ 0 ∷ 0 ∷ 0 ∷ 0 ∷ 0 ∷ 0 ∷ 0 ∷ 0 ∷ 1 ∷ 0 ∷ 0 ∷ 0 ∷ 0 ∷ 0 ∷ 0 ∷
+    0 ∷ 0 ∷ 0 ∷ 0 ∷ 1 ∷ 0 ∷ 2 ∷ 65535 ∷ 0 ∷ 0 ∷ 1 ∷ 0 ∷ 2 ∷ 0 ∷ 1 ∷ 2 ∷ 0 ∷ 1 ∷ 0 ∷ 0 ∷ 1 ∷ 1 ∷ 0 ∷ 0 ∷ []
 
 abbrev names-124 : List ℕ
-names-124 = joined (slotOf (115 ∷ []) ∷ slotOf (97 ∷ []) ∷ slotOf (98 ∷ []) ∷ slotOf (104 ∷ []) ∷ slotOf (100 ∷ []) ∷
-    slotOf (101 ∷ []) ∷ [])
+names-124 = joined (slotOf (115 ∷ []) ∷ slotOf (101 ∷ []) ∷ slotOf (42 ∷ []) ∷ [])
 
 example-124 : alike (played numbers-124 names-124 []) ((4 ∷ []) ∷ []) ≡ true
 unfolding everything joined historyShown queueShown shown playedIf played alike
 example-124 = refl
 
--- target is the root
+-- target twice
 abbrev numbers-125 : List ℕ
-numbers-125 = 2 ∷ 1 ∷ 1 ∷ 2 ∷ 2 ∷ 3 ∷ 0 ∷ 65535 ∷ 65535 ∷ 0 ∷ 0 ∷ 0 ∷ 0 ∷ 0 ∷ 0 ∷ 0 ∷ 0 ∷ 1 ∷ 0 ∷ 0 ∷ 0 ∷ 0 ∷ 0 ∷ 0 ∷
-    0 ∷ 0 ∷ 0 ∷ 0 ∷ 1 ∷ 0 ∷ 2 ∷ 65535 ∷ 0 ∷ 0 ∷ 1 ∷ 0 ∷ 2 ∷ 0 ∷ 1 ∷ 2 ∷ 0 ∷ 1 ∷ 0 ∷ 0 ∷ 1 ∷ 1 ∷ 0 ∷ 0 ∷ []
+numbers-125 = 2 ∷ 1 ∷ 2 ∷ 2 ∷ 2 ∷ 3 ∷ 0 ∷ 65535 ∷ 65535 ∷ 0 ∷ 0 ∷ 0 ∷ 0 ∷ 0 ∷ 0 ∷ 0 ∷ 0 ∷ 1 ∷ 0 ∷ 0 ∷ 0 ∷ 0 ∷ 0 ∷ 0 ∷
+    0 ∷ 0 ∷ 0 ∷ 0 ∷ 1 ∷ 0 ∷ 2 ∷ 65535 ∷ 0 ∷ 0 ∷ 2 ∷ 0 ∷ 2 ∷ 1 ∷ 1 ∷ 1 ∷ 2 ∷ 0 ∷ 1 ∷ 0 ∷ 0 ∷ 1 ∷ 1 ∷ 0 ∷ 0 ∷ []
 
 abbrev names-125 : List ℕ
 names-125 = joined (slotOf (115 ∷ []) ∷ slotOf (101 ∷ []) ∷ slotOf (42 ∷ []) ∷ [])
@@ -1979,49 +1989,52 @@ example-125 : alike (played numbers-125 names-125 []) ((4 ∷ []) ∷ []) ≡ tr
 unfolding everything joined historyShown queueShown shown playedIf played alike
 example-125 = refl
 
--- target twice
+-- targets a row and its ancestor
 abbrev numbers-126 : List ℕ
-numbers-126 = 2 ∷ 1 ∷ 2 ∷ 2 ∷ 2 ∷ 3 ∷ 0 ∷ 65535 ∷ 65535 ∷ 0 ∷ 0 ∷ 0 ∷ 0 ∷ 0 ∷ 0 ∷ 0 ∷ 0 ∷ 1 ∷ 0 ∷ 0 ∷ 0 ∷ 0 ∷ 0 ∷ 0 ∷
-    0 ∷ 0 ∷ 0 ∷ 0 ∷ 1 ∷ 0 ∷ 2 ∷ 65535 ∷ 0 ∷ 0 ∷ 2 ∷ 0 ∷ 2 ∷ 1 ∷ 1 ∷ 1 ∷ 2 ∷ 0 ∷ 1 ∷ 0 ∷ 0 ∷ 1 ∷ 1 ∷ 0 ∷ 0 ∷ []
+numbers-126 = 4 ∷ 2 ∷ 3 ∷ 2 ∷ 0 ∷ 4 ∷ 0 ∷ 65535 ∷ 65535 ∷ 0 ∷ 0 ∷ 0 ∷ 0 ∷ 0 ∷ 0 ∷ 0 ∷ 0 ∷ 1 ∷ 0 ∷ 0 ∷ 0 ∷ 0 ∷ 0 ∷ 0 ∷
+    0 ∷ 0 ∷ 0 ∷ 0 ∷ 1 ∷ 1 ∷ 1 ∷ 0 ∷ 0 ∷ 0 ∷ 0 ∷ 0 ∷ 0 ∷ 0 ∷ 0 ∷ 1 ∷ 1 ∷ 2 ∷ 0 ∷ 0 ∷ 0 ∷ 0 ∷ 0 ∷ 0 ∷ 0 ∷ 0 ∷ 1 ∷ 0 ∷ 1 ∷
+    65535 ∷ 0 ∷ 0 ∷ 2 ∷ 0 ∷ 0 ∷ 2 ∷ 1 ∷ 1 ∷ 65535 ∷ 0 ∷ 2 ∷ 1 ∷ 0 ∷ 0 ∷ 1 ∷ 3 ∷ 3 ∷ 3 ∷ 3 ∷ []
 
 abbrev names-126 : List ℕ
-names-126 = joined (slotOf (115 ∷ []) ∷ slotOf (101 ∷ []) ∷ slotOf (42 ∷ []) ∷ [])
+names-126 = joined (slotOf (115 ∷ []) ∷ slotOf (97 ∷ []) ∷ slotOf (98 ∷ []) ∷ slotOf (101 ∷ []) ∷ [])
 
 example-126 : alike (played numbers-126 names-126 []) ((4 ∷ []) ∷ []) ≡ true
 unfolding everything joined historyShown queueShown shown playedIf played alike
 example-126 = refl
 
--- targets a row and its ancestor
+-- targets under one state
 abbrev numbers-127 : List ℕ
-numbers-127 = 4 ∷ 2 ∷ 3 ∷ 2 ∷ 0 ∷ 4 ∷ 0 ∷ 65535 ∷ 65535 ∷ 0 ∷ 0 ∷ 0 ∷ 0 ∷ 0 ∷ 0 ∷ 0 ∷ 0 ∷ 1 ∷ 0 ∷ 0 ∷ 0 ∷ 0 ∷ 0 ∷ 0 ∷
-    0 ∷ 0 ∷ 0 ∷ 0 ∷ 1 ∷ 1 ∷ 1 ∷ 0 ∷ 0 ∷ 0 ∷ 0 ∷ 0 ∷ 0 ∷ 0 ∷ 0 ∷ 1 ∷ 1 ∷ 2 ∷ 0 ∷ 0 ∷ 0 ∷ 0 ∷ 0 ∷ 0 ∷ 0 ∷ 0 ∷ 1 ∷ 0 ∷ 1 ∷
-    65535 ∷ 0 ∷ 0 ∷ 2 ∷ 0 ∷ 0 ∷ 2 ∷ 1 ∷ 1 ∷ 65535 ∷ 0 ∷ 2 ∷ 1 ∷ 0 ∷ 0 ∷ 1 ∷ 3 ∷ 3 ∷ 3 ∷ 3 ∷ []
+numbers-127 = 3 ∷ 1 ∷ 2 ∷ 1 ∷ 0 ∷ 3 ∷ 0 ∷ 65535 ∷ 65535 ∷ 0 ∷ 0 ∷ 0 ∷ 0 ∷ 0 ∷ 0 ∷ 0 ∷ 0 ∷ 1 ∷ 0 ∷ 0 ∷ 0 ∷ 0 ∷ 0 ∷ 0 ∷
+    0 ∷ 0 ∷ 0 ∷ 0 ∷ 3 ∷ 0 ∷ 1 ∷ 0 ∷ 0 ∷ 0 ∷ 0 ∷ 0 ∷ 0 ∷ 0 ∷ 0 ∷ 1 ∷ 0 ∷ 1 ∷ 65535 ∷ 0 ∷ 0 ∷ 2 ∷ 0 ∷ 0 ∷ 1 ∷ 2 ∷ 2 ∷ []
 
 abbrev names-127 : List ℕ
-names-127 = joined (slotOf (115 ∷ []) ∷ slotOf (97 ∷ []) ∷ slotOf (98 ∷ []) ∷ slotOf (101 ∷ []) ∷ [])
+names-127 = joined (slotOf (115 ∷ []) ∷ slotOf (102 ∷ []) ∷ slotOf (101 ∷ []) ∷ [])
 
 example-127 : alike (played numbers-127 names-127 []) ((4 ∷ []) ∷ []) ≡ true
 unfolding everything joined historyShown queueShown shown playedIf played alike
 example-127 = refl
 
--- targets under one state
+-- targets two histories of one row
 abbrev numbers-128 : List ℕ
-numbers-128 = 3 ∷ 1 ∷ 2 ∷ 1 ∷ 0 ∷ 3 ∷ 0 ∷ 65535 ∷ 65535 ∷ 0 ∷ 0 ∷ 0 ∷ 0 ∷ 0 ∷ 0 ∷ 0 ∷ 0 ∷ 1 ∷ 0 ∷ 0 ∷ 0 ∷ 0 ∷ 0 ∷ 0 ∷
-    0 ∷ 0 ∷ 0 ∷ 0 ∷ 3 ∷ 0 ∷ 1 ∷ 0 ∷ 0 ∷ 0 ∷ 0 ∷ 0 ∷ 0 ∷ 0 ∷ 0 ∷ 1 ∷ 0 ∷ 1 ∷ 65535 ∷ 0 ∷ 0 ∷ 2 ∷ 0 ∷ 0 ∷ 1 ∷ 2 ∷ 2 ∷ []
+numbers-128 = 6 ∷ 1 ∷ 4 ∷ 1 ∷ 0 ∷ 6 ∷ 0 ∷ 65535 ∷ 65535 ∷ 0 ∷ 0 ∷ 0 ∷ 0 ∷ 0 ∷ 0 ∷ 0 ∷ 0 ∷ 1 ∷ 0 ∷ 0 ∷ 0 ∷ 0 ∷ 0 ∷ 0 ∷
+    0 ∷ 0 ∷ 0 ∷ 0 ∷ 1 ∷ 1 ∷ 1 ∷ 0 ∷ 0 ∷ 0 ∷ 0 ∷ 0 ∷ 0 ∷ 0 ∷ 0 ∷ 1 ∷ 1 ∷ 2 ∷ 0 ∷ 0 ∷ 0 ∷ 0 ∷ 0 ∷ 0 ∷ 0 ∷ 0 ∷ 4 ∷ 1 ∷ 3 ∷
+    0 ∷ 0 ∷ 0 ∷ 0 ∷ 0 ∷ 1 ∷ 0 ∷ 0 ∷ 5 ∷ 1 ∷ 4 ∷ 0 ∷ 0 ∷ 0 ∷ 0 ∷ 1 ∷ 1 ∷ 0 ∷ 0 ∷ 2 ∷ 0 ∷ 1 ∷ 65535 ∷ 0 ∷ 2 ∷ 2 ∷ 0 ∷ 0 ∷
+    2 ∷ 3 ∷ 4 ∷ 5 ∷ 5 ∷ []
 
 abbrev names-128 : List ℕ
-names-128 = joined (slotOf (115 ∷ []) ∷ slotOf (102 ∷ []) ∷ slotOf (101 ∷ []) ∷ [])
+names-128 = joined (slotOf (115 ∷ []) ∷ slotOf (97 ∷ []) ∷ slotOf (98 ∷ []) ∷ slotOf (104 ∷ []) ∷ slotOf (100 ∷ []) ∷
+    slotOf (101 ∷ []) ∷ [])
 
 example-128 : alike (played numbers-128 names-128 []) ((4 ∷ []) ∷ []) ≡ true
 unfolding everything joined historyShown queueShown shown playedIf played alike
 example-128 = refl
 
--- targets two histories of one row
+-- targets a history and its parent
 abbrev numbers-129 : List ℕ
 numbers-129 = 6 ∷ 1 ∷ 4 ∷ 1 ∷ 0 ∷ 6 ∷ 0 ∷ 65535 ∷ 65535 ∷ 0 ∷ 0 ∷ 0 ∷ 0 ∷ 0 ∷ 0 ∷ 0 ∷ 0 ∷ 1 ∷ 0 ∷ 0 ∷ 0 ∷ 0 ∷ 0 ∷ 0 ∷
     0 ∷ 0 ∷ 0 ∷ 0 ∷ 1 ∷ 1 ∷ 1 ∷ 0 ∷ 0 ∷ 0 ∷ 0 ∷ 0 ∷ 0 ∷ 0 ∷ 0 ∷ 1 ∷ 1 ∷ 2 ∷ 0 ∷ 0 ∷ 0 ∷ 0 ∷ 0 ∷ 0 ∷ 0 ∷ 0 ∷ 4 ∷ 1 ∷ 3 ∷
     0 ∷ 0 ∷ 0 ∷ 0 ∷ 0 ∷ 1 ∷ 0 ∷ 0 ∷ 5 ∷ 1 ∷ 4 ∷ 0 ∷ 0 ∷ 0 ∷ 0 ∷ 1 ∷ 1 ∷ 0 ∷ 0 ∷ 2 ∷ 0 ∷ 1 ∷ 65535 ∷ 0 ∷ 2 ∷ 2 ∷ 0 ∷ 0 ∷
-    2 ∷ 3 ∷ 4 ∷ 5 ∷ 5 ∷ []
+    2 ∷ 3 ∷ 5 ∷ 1 ∷ 5 ∷ []
 
 abbrev names-129 : List ℕ
 names-129 = joined (slotOf (115 ∷ []) ∷ slotOf (97 ∷ []) ∷ slotOf (98 ∷ []) ∷ slotOf (104 ∷ []) ∷ slotOf (100 ∷ []) ∷
@@ -2031,12 +2044,12 @@ example-129 : alike (played numbers-129 names-129 []) ((4 ∷ []) ∷ []) ≡ tr
 unfolding everything joined historyShown queueShown shown playedIf played alike
 example-129 = refl
 
--- targets a history and its parent
+-- targets a history and a row beside it
 abbrev numbers-130 : List ℕ
 numbers-130 = 6 ∷ 1 ∷ 4 ∷ 1 ∷ 0 ∷ 6 ∷ 0 ∷ 65535 ∷ 65535 ∷ 0 ∷ 0 ∷ 0 ∷ 0 ∷ 0 ∷ 0 ∷ 0 ∷ 0 ∷ 1 ∷ 0 ∷ 0 ∷ 0 ∷ 0 ∷ 0 ∷ 0 ∷
     0 ∷ 0 ∷ 0 ∷ 0 ∷ 1 ∷ 1 ∷ 1 ∷ 0 ∷ 0 ∷ 0 ∷ 0 ∷ 0 ∷ 0 ∷ 0 ∷ 0 ∷ 1 ∷ 1 ∷ 2 ∷ 0 ∷ 0 ∷ 0 ∷ 0 ∷ 0 ∷ 0 ∷ 0 ∷ 0 ∷ 4 ∷ 1 ∷ 3 ∷
     0 ∷ 0 ∷ 0 ∷ 0 ∷ 0 ∷ 1 ∷ 0 ∷ 0 ∷ 5 ∷ 1 ∷ 4 ∷ 0 ∷ 0 ∷ 0 ∷ 0 ∷ 1 ∷ 1 ∷ 0 ∷ 0 ∷ 2 ∷ 0 ∷ 1 ∷ 65535 ∷ 0 ∷ 2 ∷ 2 ∷ 0 ∷ 0 ∷
-    2 ∷ 3 ∷ 5 ∷ 1 ∷ 5 ∷ []
+    2 ∷ 3 ∷ 2 ∷ 5 ∷ 5 ∷ []
 
 abbrev names-130 : List ℕ
 names-130 = joined (slotOf (115 ∷ []) ∷ slotOf (97 ∷ []) ∷ slotOf (98 ∷ []) ∷ slotOf (104 ∷ []) ∷ slotOf (100 ∷ []) ∷
@@ -2046,79 +2059,77 @@ example-130 : alike (played numbers-130 names-130 []) ((4 ∷ []) ∷ []) ≡ tr
 unfolding everything joined historyShown queueShown shown playedIf played alike
 example-130 = refl
 
--- targets a history and a row beside it
-abbrev numbers-131 : List ℕ
-numbers-131 = 6 ∷ 1 ∷ 4 ∷ 1 ∷ 0 ∷ 6 ∷ 0 ∷ 65535 ∷ 65535 ∷ 0 ∷ 0 ∷ 0 ∷ 0 ∷ 0 ∷ 0 ∷ 0 ∷ 0 ∷ 1 ∷ 0 ∷ 0 ∷ 0 ∷ 0 ∷ 0 ∷ 0 ∷
-    0 ∷ 0 ∷ 0 ∷ 0 ∷ 1 ∷ 1 ∷ 1 ∷ 0 ∷ 0 ∷ 0 ∷ 0 ∷ 0 ∷ 0 ∷ 0 ∷ 0 ∷ 1 ∷ 1 ∷ 2 ∷ 0 ∷ 0 ∷ 0 ∷ 0 ∷ 0 ∷ 0 ∷ 0 ∷ 0 ∷ 4 ∷ 1 ∷ 3 ∷
-    0 ∷ 0 ∷ 0 ∷ 0 ∷ 0 ∷ 1 ∷ 0 ∷ 0 ∷ 5 ∷ 1 ∷ 4 ∷ 0 ∷ 0 ∷ 0 ∷ 0 ∷ 1 ∷ 1 ∷ 0 ∷ 0 ∷ 2 ∷ 0 ∷ 1 ∷ 65535 ∷ 0 ∷ 2 ∷ 2 ∷ 0 ∷ 0 ∷
-    2 ∷ 3 ∷ 2 ∷ 5 ∷ 5 ∷ []
-
-abbrev names-131 : List ℕ
-names-131 = joined (slotOf (115 ∷ []) ∷ slotOf (97 ∷ []) ∷ slotOf (98 ∷ []) ∷ slotOf (104 ∷ []) ∷ slotOf (100 ∷ []) ∷
-    slotOf (101 ∷ []) ∷ [])
-
-example-131 : alike (played numbers-131 names-131 []) ((4 ∷ []) ∷ []) ≡ true
-unfolding everything joined historyShown queueShown shown playedIf played alike
-example-131 = refl
-
 -- sources out of order
-abbrev numbers-132 : List ℕ
-numbers-132 = 4 ∷ 2 ∷ 2 ∷ 2 ∷ 0 ∷ 4 ∷ 0 ∷ 65535 ∷ 65535 ∷ 0 ∷ 0 ∷ 0 ∷ 0 ∷ 0 ∷ 0 ∷ 0 ∷ 0 ∷ 1 ∷ 0 ∷ 0 ∷ 0 ∷ 0 ∷ 0 ∷ 0 ∷
+abbrev numbers-131 : List ℕ
+numbers-131 = 4 ∷ 2 ∷ 2 ∷ 2 ∷ 0 ∷ 4 ∷ 0 ∷ 65535 ∷ 65535 ∷ 0 ∷ 0 ∷ 0 ∷ 0 ∷ 0 ∷ 0 ∷ 0 ∷ 0 ∷ 1 ∷ 0 ∷ 0 ∷ 0 ∷ 0 ∷ 0 ∷ 0 ∷
     0 ∷ 0 ∷ 0 ∷ 0 ∷ 1 ∷ 1 ∷ 1 ∷ 0 ∷ 0 ∷ 0 ∷ 0 ∷ 0 ∷ 0 ∷ 0 ∷ 0 ∷ 1 ∷ 1 ∷ 2 ∷ 0 ∷ 0 ∷ 0 ∷ 0 ∷ 0 ∷ 0 ∷ 0 ∷ 0 ∷ 2 ∷ 0 ∷ 1 ∷
     65535 ∷ 0 ∷ 0 ∷ 1 ∷ 0 ∷ 0 ∷ 1 ∷ 1 ∷ 1 ∷ 65535 ∷ 0 ∷ 1 ∷ 1 ∷ 0 ∷ 0 ∷ 3 ∷ 3 ∷ 3 ∷ 3 ∷ []
 
+abbrev names-131 : List ℕ
+names-131 = joined (slotOf (115 ∷ []) ∷ slotOf (97 ∷ []) ∷ slotOf (98 ∷ []) ∷ slotOf (101 ∷ []) ∷ [])
+
+example-131 : alike (played numbers-131 names-131 []) ((5 ∷ []) ∷ []) ≡ true
+unfolding everything joined historyShown queueShown shown playedIf played alike
+example-131 = refl
+
+-- source is the root
+abbrev numbers-132 : List ℕ
+numbers-132 = 2 ∷ 1 ∷ 1 ∷ 2 ∷ 2 ∷ 3 ∷ 0 ∷ 65535 ∷ 65535 ∷ 0 ∷ 0 ∷ 0 ∷ 0 ∷ 0 ∷ 0 ∷ 0 ∷ 0 ∷ 1 ∷ 0 ∷ 0 ∷ 0 ∷ 0 ∷ 0 ∷ 0 ∷
+    0 ∷ 0 ∷ 0 ∷ 0 ∷ 0 ∷ 0 ∷ 2 ∷ 65535 ∷ 0 ∷ 0 ∷ 1 ∷ 0 ∷ 2 ∷ 1 ∷ 1 ∷ 2 ∷ 0 ∷ 1 ∷ 0 ∷ 0 ∷ 1 ∷ 1 ∷ 0 ∷ 0 ∷ []
+
 abbrev names-132 : List ℕ
-names-132 = joined (slotOf (115 ∷ []) ∷ slotOf (97 ∷ []) ∷ slotOf (98 ∷ []) ∷ slotOf (101 ∷ []) ∷ [])
+names-132 = joined (slotOf (115 ∷ []) ∷ slotOf (101 ∷ []) ∷ slotOf (42 ∷ []) ∷ [])
 
 example-132 : alike (played numbers-132 names-132 []) ((5 ∷ []) ∷ []) ≡ true
 unfolding everything joined historyShown queueShown shown playedIf played alike
 example-132 = refl
 
--- source is the root
+-- source is a final
 abbrev numbers-133 : List ℕ
-numbers-133 = 2 ∷ 1 ∷ 1 ∷ 2 ∷ 2 ∷ 3 ∷ 0 ∷ 65535 ∷ 65535 ∷ 0 ∷ 0 ∷ 0 ∷ 0 ∷ 0 ∷ 0 ∷ 0 ∷ 0 ∷ 1 ∷ 0 ∷ 0 ∷ 0 ∷ 0 ∷ 0 ∷ 0 ∷
-    0 ∷ 0 ∷ 0 ∷ 0 ∷ 0 ∷ 0 ∷ 2 ∷ 65535 ∷ 0 ∷ 0 ∷ 1 ∷ 0 ∷ 2 ∷ 1 ∷ 1 ∷ 2 ∷ 0 ∷ 1 ∷ 0 ∷ 0 ∷ 1 ∷ 1 ∷ 0 ∷ 0 ∷ []
+numbers-133 = 3 ∷ 2 ∷ 2 ∷ 1 ∷ 0 ∷ 3 ∷ 0 ∷ 65535 ∷ 65535 ∷ 0 ∷ 0 ∷ 0 ∷ 0 ∷ 0 ∷ 0 ∷ 0 ∷ 0 ∷ 1 ∷ 0 ∷ 0 ∷ 0 ∷ 0 ∷ 0 ∷ 0 ∷
+    0 ∷ 0 ∷ 0 ∷ 0 ∷ 3 ∷ 0 ∷ 1 ∷ 0 ∷ 0 ∷ 0 ∷ 0 ∷ 0 ∷ 0 ∷ 0 ∷ 0 ∷ 1 ∷ 0 ∷ 1 ∷ 65535 ∷ 0 ∷ 0 ∷ 1 ∷ 0 ∷ 0 ∷ 2 ∷ 0 ∷ 0 ∷
+    65535 ∷ 0 ∷ 1 ∷ 1 ∷ 0 ∷ 0 ∷ 2 ∷ 1 ∷ 2 ∷ []
 
 abbrev names-133 : List ℕ
-names-133 = joined (slotOf (115 ∷ []) ∷ slotOf (101 ∷ []) ∷ slotOf (42 ∷ []) ∷ [])
+names-133 = joined (slotOf (115 ∷ []) ∷ slotOf (102 ∷ []) ∷ slotOf (101 ∷ []) ∷ [])
 
 example-133 : alike (played numbers-133 names-133 []) ((5 ∷ []) ∷ []) ≡ true
 unfolding everything joined historyShown queueShown shown playedIf played alike
 example-133 = refl
 
--- source is a final
+-- source is a history
 abbrev numbers-134 : List ℕ
-numbers-134 = 3 ∷ 2 ∷ 2 ∷ 1 ∷ 0 ∷ 3 ∷ 0 ∷ 65535 ∷ 65535 ∷ 0 ∷ 0 ∷ 0 ∷ 0 ∷ 0 ∷ 0 ∷ 0 ∷ 0 ∷ 1 ∷ 0 ∷ 0 ∷ 0 ∷ 0 ∷ 0 ∷ 0 ∷
-    0 ∷ 0 ∷ 0 ∷ 0 ∷ 3 ∷ 0 ∷ 1 ∷ 0 ∷ 0 ∷ 0 ∷ 0 ∷ 0 ∷ 0 ∷ 0 ∷ 0 ∷ 1 ∷ 0 ∷ 1 ∷ 65535 ∷ 0 ∷ 0 ∷ 1 ∷ 0 ∷ 0 ∷ 2 ∷ 0 ∷ 0 ∷
-    65535 ∷ 0 ∷ 1 ∷ 1 ∷ 0 ∷ 0 ∷ 2 ∷ 1 ∷ 2 ∷ []
+numbers-134 = 6 ∷ 2 ∷ 4 ∷ 1 ∷ 0 ∷ 6 ∷ 0 ∷ 65535 ∷ 65535 ∷ 0 ∷ 0 ∷ 0 ∷ 0 ∷ 0 ∷ 0 ∷ 0 ∷ 0 ∷ 1 ∷ 0 ∷ 0 ∷ 0 ∷ 0 ∷ 0 ∷ 0 ∷
+    0 ∷ 0 ∷ 0 ∷ 0 ∷ 1 ∷ 1 ∷ 1 ∷ 0 ∷ 0 ∷ 0 ∷ 0 ∷ 0 ∷ 0 ∷ 0 ∷ 0 ∷ 1 ∷ 1 ∷ 2 ∷ 0 ∷ 0 ∷ 0 ∷ 0 ∷ 0 ∷ 0 ∷ 0 ∷ 0 ∷ 4 ∷ 1 ∷ 3 ∷
+    0 ∷ 0 ∷ 0 ∷ 0 ∷ 0 ∷ 1 ∷ 0 ∷ 0 ∷ 5 ∷ 1 ∷ 4 ∷ 0 ∷ 0 ∷ 0 ∷ 0 ∷ 1 ∷ 1 ∷ 0 ∷ 0 ∷ 2 ∷ 0 ∷ 1 ∷ 65535 ∷ 0 ∷ 2 ∷ 1 ∷ 0 ∷ 0 ∷
+    5 ∷ 0 ∷ 0 ∷ 65535 ∷ 0 ∷ 3 ∷ 1 ∷ 0 ∷ 0 ∷ 2 ∷ 3 ∷ 4 ∷ 1 ∷ 5 ∷ []
 
 abbrev names-134 : List ℕ
-names-134 = joined (slotOf (115 ∷ []) ∷ slotOf (102 ∷ []) ∷ slotOf (101 ∷ []) ∷ [])
+names-134 = joined (slotOf (115 ∷ []) ∷ slotOf (97 ∷ []) ∷ slotOf (98 ∷ []) ∷ slotOf (104 ∷ []) ∷ slotOf (100 ∷ []) ∷
+    slotOf (101 ∷ []) ∷ [])
 
 example-134 : alike (played numbers-134 names-134 []) ((5 ∷ []) ∷ []) ≡ true
 unfolding everything joined historyShown queueShown shown playedIf played alike
 example-134 = refl
 
--- source is a history
+-- transition with nothing
 abbrev numbers-135 : List ℕ
-numbers-135 = 6 ∷ 2 ∷ 4 ∷ 1 ∷ 0 ∷ 6 ∷ 0 ∷ 65535 ∷ 65535 ∷ 0 ∷ 0 ∷ 0 ∷ 0 ∷ 0 ∷ 0 ∷ 0 ∷ 0 ∷ 1 ∷ 0 ∷ 0 ∷ 0 ∷ 0 ∷ 0 ∷ 0 ∷
-    0 ∷ 0 ∷ 0 ∷ 0 ∷ 1 ∷ 1 ∷ 1 ∷ 0 ∷ 0 ∷ 0 ∷ 0 ∷ 0 ∷ 0 ∷ 0 ∷ 0 ∷ 1 ∷ 1 ∷ 2 ∷ 0 ∷ 0 ∷ 0 ∷ 0 ∷ 0 ∷ 0 ∷ 0 ∷ 0 ∷ 4 ∷ 1 ∷ 3 ∷
-    0 ∷ 0 ∷ 0 ∷ 0 ∷ 0 ∷ 1 ∷ 0 ∷ 0 ∷ 5 ∷ 1 ∷ 4 ∷ 0 ∷ 0 ∷ 0 ∷ 0 ∷ 1 ∷ 1 ∷ 0 ∷ 0 ∷ 2 ∷ 0 ∷ 1 ∷ 65535 ∷ 0 ∷ 2 ∷ 1 ∷ 0 ∷ 0 ∷
-    5 ∷ 0 ∷ 0 ∷ 65535 ∷ 0 ∷ 3 ∷ 1 ∷ 0 ∷ 0 ∷ 2 ∷ 3 ∷ 4 ∷ 1 ∷ 5 ∷ []
+numbers-135 = 2 ∷ 2 ∷ 1 ∷ 2 ∷ 2 ∷ 3 ∷ 0 ∷ 65535 ∷ 65535 ∷ 0 ∷ 0 ∷ 0 ∷ 0 ∷ 0 ∷ 0 ∷ 0 ∷ 0 ∷ 1 ∷ 0 ∷ 0 ∷ 0 ∷ 0 ∷ 0 ∷ 0 ∷
+    0 ∷ 0 ∷ 0 ∷ 0 ∷ 1 ∷ 0 ∷ 2 ∷ 65535 ∷ 0 ∷ 0 ∷ 1 ∷ 0 ∷ 2 ∷ 1 ∷ 0 ∷ 0 ∷ 65535 ∷ 0 ∷ 0 ∷ 0 ∷ 0 ∷ 0 ∷ 1 ∷ 1 ∷ 2 ∷ 0 ∷ 1 ∷
+    0 ∷ 0 ∷ 1 ∷ 1 ∷ 0 ∷ 0 ∷ []
 
 abbrev names-135 : List ℕ
-names-135 = joined (slotOf (115 ∷ []) ∷ slotOf (97 ∷ []) ∷ slotOf (98 ∷ []) ∷ slotOf (104 ∷ []) ∷ slotOf (100 ∷ []) ∷
-    slotOf (101 ∷ []) ∷ [])
+names-135 = joined (slotOf (115 ∷ []) ∷ slotOf (101 ∷ []) ∷ slotOf (42 ∷ []) ∷ [])
 
 example-135 : alike (played numbers-135 names-135 []) ((5 ∷ []) ∷ []) ≡ true
 unfolding everything joined historyShown queueShown shown playedIf played alike
 example-135 = refl
 
--- transition with nothing
+-- transition with a block alone
 abbrev numbers-136 : List ℕ
-numbers-136 = 2 ∷ 2 ∷ 1 ∷ 2 ∷ 2 ∷ 3 ∷ 0 ∷ 65535 ∷ 65535 ∷ 0 ∷ 0 ∷ 0 ∷ 0 ∷ 0 ∷ 0 ∷ 0 ∷ 0 ∷ 1 ∷ 0 ∷ 0 ∷ 0 ∷ 0 ∷ 0 ∷ 0 ∷
-    0 ∷ 0 ∷ 0 ∷ 0 ∷ 1 ∷ 0 ∷ 2 ∷ 65535 ∷ 0 ∷ 0 ∷ 1 ∷ 0 ∷ 2 ∷ 1 ∷ 0 ∷ 0 ∷ 65535 ∷ 0 ∷ 0 ∷ 0 ∷ 0 ∷ 0 ∷ 1 ∷ 1 ∷ 2 ∷ 0 ∷ 1 ∷
-    0 ∷ 0 ∷ 1 ∷ 1 ∷ 0 ∷ 0 ∷ []
+numbers-136 = 2 ∷ 2 ∷ 1 ∷ 2 ∷ 3 ∷ 3 ∷ 0 ∷ 65535 ∷ 65535 ∷ 0 ∷ 0 ∷ 0 ∷ 0 ∷ 0 ∷ 0 ∷ 0 ∷ 0 ∷ 1 ∷ 0 ∷ 0 ∷ 0 ∷ 0 ∷ 0 ∷ 0 ∷
+    0 ∷ 0 ∷ 0 ∷ 0 ∷ 1 ∷ 0 ∷ 2 ∷ 65535 ∷ 0 ∷ 0 ∷ 1 ∷ 0 ∷ 2 ∷ 1 ∷ 0 ∷ 0 ∷ 65535 ∷ 0 ∷ 0 ∷ 0 ∷ 2 ∷ 1 ∷ 1 ∷ 1 ∷ 2 ∷ 0 ∷ 1 ∷
+    0 ∷ 0 ∷ 1 ∷ 1 ∷ 0 ∷ 0 ∷ 1 ∷ 7 ∷ 0 ∷ 0 ∷ []
 
 abbrev names-136 : List ℕ
 names-136 = joined (slotOf (115 ∷ []) ∷ slotOf (101 ∷ []) ∷ slotOf (42 ∷ []) ∷ [])
@@ -2127,11 +2138,10 @@ example-136 : alike (played numbers-136 names-136 []) ((5 ∷ []) ∷ []) ≡ tr
 unfolding everything joined historyShown queueShown shown playedIf played alike
 example-136 = refl
 
--- transition with a block alone
+-- In names the root
 abbrev numbers-137 : List ℕ
-numbers-137 = 2 ∷ 2 ∷ 1 ∷ 2 ∷ 3 ∷ 3 ∷ 0 ∷ 65535 ∷ 65535 ∷ 0 ∷ 0 ∷ 0 ∷ 0 ∷ 0 ∷ 0 ∷ 0 ∷ 0 ∷ 1 ∷ 0 ∷ 0 ∷ 0 ∷ 0 ∷ 0 ∷ 0 ∷
-    0 ∷ 0 ∷ 0 ∷ 0 ∷ 1 ∷ 0 ∷ 2 ∷ 65535 ∷ 0 ∷ 0 ∷ 1 ∷ 0 ∷ 2 ∷ 1 ∷ 0 ∷ 0 ∷ 65535 ∷ 0 ∷ 0 ∷ 0 ∷ 2 ∷ 1 ∷ 1 ∷ 1 ∷ 2 ∷ 0 ∷ 1 ∷
-    0 ∷ 0 ∷ 1 ∷ 1 ∷ 0 ∷ 0 ∷ 1 ∷ 7 ∷ 0 ∷ 0 ∷ []
+numbers-137 = 2 ∷ 1 ∷ 1 ∷ 2 ∷ 2 ∷ 3 ∷ 0 ∷ 65535 ∷ 65535 ∷ 0 ∷ 0 ∷ 0 ∷ 0 ∷ 0 ∷ 0 ∷ 0 ∷ 0 ∷ 1 ∷ 0 ∷ 0 ∷ 0 ∷ 0 ∷ 0 ∷ 0 ∷
+    0 ∷ 0 ∷ 0 ∷ 0 ∷ 1 ∷ 0 ∷ 2 ∷ 0 ∷ 0 ∷ 0 ∷ 1 ∷ 0 ∷ 2 ∷ 1 ∷ 1 ∷ 2 ∷ 0 ∷ 1 ∷ 0 ∷ 0 ∷ 1 ∷ 1 ∷ 0 ∷ 0 ∷ []
 
 abbrev names-137 : List ℕ
 names-137 = joined (slotOf (115 ∷ []) ∷ slotOf (101 ∷ []) ∷ slotOf (42 ∷ []) ∷ [])
@@ -2140,34 +2150,35 @@ example-137 : alike (played numbers-137 names-137 []) ((5 ∷ []) ∷ []) ≡ tr
 unfolding everything joined historyShown queueShown shown playedIf played alike
 example-137 = refl
 
--- In names the root
+-- In names a history
 abbrev numbers-138 : List ℕ
-numbers-138 = 2 ∷ 1 ∷ 1 ∷ 2 ∷ 2 ∷ 3 ∷ 0 ∷ 65535 ∷ 65535 ∷ 0 ∷ 0 ∷ 0 ∷ 0 ∷ 0 ∷ 0 ∷ 0 ∷ 0 ∷ 1 ∷ 0 ∷ 0 ∷ 0 ∷ 0 ∷ 0 ∷ 0 ∷
-    0 ∷ 0 ∷ 0 ∷ 0 ∷ 1 ∷ 0 ∷ 2 ∷ 0 ∷ 0 ∷ 0 ∷ 1 ∷ 0 ∷ 2 ∷ 1 ∷ 1 ∷ 2 ∷ 0 ∷ 1 ∷ 0 ∷ 0 ∷ 1 ∷ 1 ∷ 0 ∷ 0 ∷ []
+numbers-138 = 6 ∷ 1 ∷ 3 ∷ 1 ∷ 0 ∷ 6 ∷ 0 ∷ 65535 ∷ 65535 ∷ 0 ∷ 0 ∷ 0 ∷ 0 ∷ 0 ∷ 0 ∷ 0 ∷ 0 ∷ 1 ∷ 0 ∷ 0 ∷ 0 ∷ 0 ∷ 0 ∷ 0 ∷
+    0 ∷ 0 ∷ 0 ∷ 0 ∷ 1 ∷ 1 ∷ 1 ∷ 0 ∷ 0 ∷ 0 ∷ 0 ∷ 0 ∷ 0 ∷ 0 ∷ 0 ∷ 1 ∷ 1 ∷ 2 ∷ 0 ∷ 0 ∷ 0 ∷ 0 ∷ 0 ∷ 0 ∷ 0 ∷ 0 ∷ 4 ∷ 1 ∷ 3 ∷
+    0 ∷ 0 ∷ 0 ∷ 0 ∷ 0 ∷ 1 ∷ 0 ∷ 0 ∷ 5 ∷ 1 ∷ 4 ∷ 0 ∷ 0 ∷ 0 ∷ 0 ∷ 1 ∷ 1 ∷ 0 ∷ 0 ∷ 2 ∷ 0 ∷ 1 ∷ 5 ∷ 0 ∷ 2 ∷ 1 ∷ 0 ∷ 0 ∷ 2 ∷
+    3 ∷ 4 ∷ 5 ∷ []
 
 abbrev names-138 : List ℕ
-names-138 = joined (slotOf (115 ∷ []) ∷ slotOf (101 ∷ []) ∷ slotOf (42 ∷ []) ∷ [])
+names-138 = joined (slotOf (115 ∷ []) ∷ slotOf (97 ∷ []) ∷ slotOf (98 ∷ []) ∷ slotOf (104 ∷ []) ∷ slotOf (100 ∷ []) ∷
+    slotOf (101 ∷ []) ∷ [])
 
 example-138 : alike (played numbers-138 names-138 []) ((5 ∷ []) ∷ []) ≡ true
 unfolding everything joined historyShown queueShown shown playedIf played alike
 example-138 = refl
 
--- In names a history
+-- eventless without targets, in itself
 abbrev numbers-139 : List ℕ
-numbers-139 = 6 ∷ 1 ∷ 3 ∷ 1 ∷ 0 ∷ 6 ∷ 0 ∷ 65535 ∷ 65535 ∷ 0 ∷ 0 ∷ 0 ∷ 0 ∷ 0 ∷ 0 ∷ 0 ∷ 0 ∷ 1 ∷ 0 ∷ 0 ∷ 0 ∷ 0 ∷ 0 ∷ 0 ∷
-    0 ∷ 0 ∷ 0 ∷ 0 ∷ 1 ∷ 1 ∷ 1 ∷ 0 ∷ 0 ∷ 0 ∷ 0 ∷ 0 ∷ 0 ∷ 0 ∷ 0 ∷ 1 ∷ 1 ∷ 2 ∷ 0 ∷ 0 ∷ 0 ∷ 0 ∷ 0 ∷ 0 ∷ 0 ∷ 0 ∷ 4 ∷ 1 ∷ 3 ∷
-    0 ∷ 0 ∷ 0 ∷ 0 ∷ 0 ∷ 1 ∷ 0 ∷ 0 ∷ 5 ∷ 1 ∷ 4 ∷ 0 ∷ 0 ∷ 0 ∷ 0 ∷ 1 ∷ 1 ∷ 0 ∷ 0 ∷ 2 ∷ 0 ∷ 1 ∷ 5 ∷ 0 ∷ 2 ∷ 1 ∷ 0 ∷ 0 ∷ 2 ∷
-    3 ∷ 4 ∷ 5 ∷ []
+numbers-139 = 2 ∷ 2 ∷ 1 ∷ 2 ∷ 2 ∷ 3 ∷ 0 ∷ 65535 ∷ 65535 ∷ 0 ∷ 0 ∷ 0 ∷ 0 ∷ 0 ∷ 0 ∷ 0 ∷ 0 ∷ 1 ∷ 0 ∷ 0 ∷ 0 ∷ 0 ∷ 0 ∷ 0 ∷
+    0 ∷ 0 ∷ 0 ∷ 0 ∷ 1 ∷ 0 ∷ 2 ∷ 65535 ∷ 0 ∷ 0 ∷ 1 ∷ 0 ∷ 2 ∷ 1 ∷ 0 ∷ 0 ∷ 1 ∷ 0 ∷ 0 ∷ 0 ∷ 0 ∷ 0 ∷ 1 ∷ 1 ∷ 2 ∷ 0 ∷ 1 ∷ 0 ∷
+    0 ∷ 1 ∷ 1 ∷ 0 ∷ 0 ∷ []
 
 abbrev names-139 : List ℕ
-names-139 = joined (slotOf (115 ∷ []) ∷ slotOf (97 ∷ []) ∷ slotOf (98 ∷ []) ∷ slotOf (104 ∷ []) ∷ slotOf (100 ∷ []) ∷
-    slotOf (101 ∷ []) ∷ [])
+names-139 = joined (slotOf (115 ∷ []) ∷ slotOf (101 ∷ []) ∷ slotOf (42 ∷ []) ∷ [])
 
 example-139 : alike (played numbers-139 names-139 []) ((5 ∷ []) ∷ []) ≡ true
 unfolding everything joined historyShown queueShown shown playedIf played alike
 example-139 = refl
 
--- eventless without targets, in itself
+-- eventless without targets, in another row
 abbrev numbers-140 : List ℕ
 numbers-140 = 2 ∷ 2 ∷ 1 ∷ 2 ∷ 2 ∷ 3 ∷ 0 ∷ 65535 ∷ 65535 ∷ 0 ∷ 0 ∷ 0 ∷ 0 ∷ 0 ∷ 0 ∷ 0 ∷ 0 ∷ 1 ∷ 0 ∷ 0 ∷ 0 ∷ 0 ∷ 0 ∷ 0 ∷
     0 ∷ 0 ∷ 0 ∷ 0 ∷ 1 ∷ 0 ∷ 2 ∷ 65535 ∷ 0 ∷ 0 ∷ 1 ∷ 0 ∷ 2 ∷ 1 ∷ 0 ∷ 0 ∷ 1 ∷ 0 ∷ 0 ∷ 0 ∷ 0 ∷ 0 ∷ 1 ∷ 1 ∷ 2 ∷ 0 ∷ 1 ∷ 0 ∷
@@ -2180,11 +2191,11 @@ example-140 : alike (played numbers-140 names-140 []) ((5 ∷ []) ∷ []) ≡ tr
 unfolding everything joined historyShown queueShown shown playedIf played alike
 example-140 = refl
 
--- eventless without targets, in another row
+-- eventless without targets, with condition and block
 abbrev numbers-141 : List ℕ
-numbers-141 = 2 ∷ 2 ∷ 1 ∷ 2 ∷ 2 ∷ 3 ∷ 0 ∷ 65535 ∷ 65535 ∷ 0 ∷ 0 ∷ 0 ∷ 0 ∷ 0 ∷ 0 ∷ 0 ∷ 0 ∷ 1 ∷ 0 ∷ 0 ∷ 0 ∷ 0 ∷ 0 ∷ 0 ∷
-    0 ∷ 0 ∷ 0 ∷ 0 ∷ 1 ∷ 0 ∷ 2 ∷ 65535 ∷ 0 ∷ 0 ∷ 1 ∷ 0 ∷ 2 ∷ 1 ∷ 0 ∷ 0 ∷ 1 ∷ 0 ∷ 0 ∷ 0 ∷ 0 ∷ 0 ∷ 1 ∷ 1 ∷ 2 ∷ 0 ∷ 1 ∷ 0 ∷
-    0 ∷ 1 ∷ 1 ∷ 0 ∷ 0 ∷ []
+numbers-141 = 2 ∷ 2 ∷ 1 ∷ 2 ∷ 3 ∷ 3 ∷ 0 ∷ 65535 ∷ 65535 ∷ 0 ∷ 0 ∷ 0 ∷ 0 ∷ 0 ∷ 0 ∷ 0 ∷ 0 ∷ 1 ∷ 0 ∷ 0 ∷ 0 ∷ 0 ∷ 0 ∷ 0 ∷
+    0 ∷ 0 ∷ 0 ∷ 0 ∷ 1 ∷ 0 ∷ 2 ∷ 65535 ∷ 0 ∷ 0 ∷ 1 ∷ 0 ∷ 2 ∷ 1 ∷ 0 ∷ 0 ∷ 1 ∷ 0 ∷ 0 ∷ 0 ∷ 2 ∷ 1 ∷ 1 ∷ 1 ∷ 2 ∷ 0 ∷ 1 ∷ 0 ∷
+    0 ∷ 1 ∷ 1 ∷ 0 ∷ 0 ∷ 1 ∷ 7 ∷ 0 ∷ 0 ∷ []
 
 abbrev names-141 : List ℕ
 names-141 = joined (slotOf (115 ∷ []) ∷ slotOf (101 ∷ []) ∷ slotOf (42 ∷ []) ∷ [])
@@ -2193,11 +2204,11 @@ example-141 : alike (played numbers-141 names-141 []) ((5 ∷ []) ∷ []) ≡ tr
 unfolding everything joined historyShown queueShown shown playedIf played alike
 example-141 = refl
 
--- eventless without targets, with condition and block
+-- eventless without targets, internal
 abbrev numbers-142 : List ℕ
-numbers-142 = 2 ∷ 2 ∷ 1 ∷ 2 ∷ 3 ∷ 3 ∷ 0 ∷ 65535 ∷ 65535 ∷ 0 ∷ 0 ∷ 0 ∷ 0 ∷ 0 ∷ 0 ∷ 0 ∷ 0 ∷ 1 ∷ 0 ∷ 0 ∷ 0 ∷ 0 ∷ 0 ∷ 0 ∷
-    0 ∷ 0 ∷ 0 ∷ 0 ∷ 1 ∷ 0 ∷ 2 ∷ 65535 ∷ 0 ∷ 0 ∷ 1 ∷ 0 ∷ 2 ∷ 1 ∷ 0 ∷ 0 ∷ 1 ∷ 0 ∷ 0 ∷ 0 ∷ 2 ∷ 1 ∷ 1 ∷ 1 ∷ 2 ∷ 0 ∷ 1 ∷ 0 ∷
-    0 ∷ 1 ∷ 1 ∷ 0 ∷ 0 ∷ 1 ∷ 7 ∷ 0 ∷ 0 ∷ []
+numbers-142 = 2 ∷ 2 ∷ 1 ∷ 2 ∷ 2 ∷ 3 ∷ 0 ∷ 65535 ∷ 65535 ∷ 0 ∷ 0 ∷ 0 ∷ 0 ∷ 0 ∷ 0 ∷ 0 ∷ 0 ∷ 1 ∷ 0 ∷ 0 ∷ 0 ∷ 0 ∷ 0 ∷ 0 ∷
+    0 ∷ 0 ∷ 0 ∷ 0 ∷ 1 ∷ 0 ∷ 2 ∷ 65535 ∷ 0 ∷ 0 ∷ 1 ∷ 0 ∷ 2 ∷ 1 ∷ 0 ∷ 0 ∷ 1 ∷ 1 ∷ 0 ∷ 0 ∷ 0 ∷ 0 ∷ 1 ∷ 1 ∷ 2 ∷ 0 ∷ 1 ∷ 0 ∷
+    0 ∷ 1 ∷ 1 ∷ 0 ∷ 0 ∷ []
 
 abbrev names-142 : List ℕ
 names-142 = joined (slotOf (115 ∷ []) ∷ slotOf (101 ∷ []) ∷ slotOf (42 ∷ []) ∷ [])
@@ -2206,11 +2217,11 @@ example-142 : alike (played numbers-142 names-142 []) ((5 ∷ []) ∷ []) ≡ tr
 unfolding everything joined historyShown queueShown shown playedIf played alike
 example-142 = refl
 
--- eventless without targets, internal
+-- eventless to itself
 abbrev numbers-143 : List ℕ
-numbers-143 = 2 ∷ 2 ∷ 1 ∷ 2 ∷ 2 ∷ 3 ∷ 0 ∷ 65535 ∷ 65535 ∷ 0 ∷ 0 ∷ 0 ∷ 0 ∷ 0 ∷ 0 ∷ 0 ∷ 0 ∷ 1 ∷ 0 ∷ 0 ∷ 0 ∷ 0 ∷ 0 ∷ 0 ∷
-    0 ∷ 0 ∷ 0 ∷ 0 ∷ 1 ∷ 0 ∷ 2 ∷ 65535 ∷ 0 ∷ 0 ∷ 1 ∷ 0 ∷ 2 ∷ 1 ∷ 0 ∷ 0 ∷ 1 ∷ 1 ∷ 0 ∷ 0 ∷ 0 ∷ 0 ∷ 1 ∷ 1 ∷ 2 ∷ 0 ∷ 1 ∷ 0 ∷
-    0 ∷ 1 ∷ 1 ∷ 0 ∷ 0 ∷ []
+numbers-143 = 2 ∷ 2 ∷ 2 ∷ 2 ∷ 2 ∷ 3 ∷ 0 ∷ 65535 ∷ 65535 ∷ 0 ∷ 0 ∷ 0 ∷ 0 ∷ 0 ∷ 0 ∷ 0 ∷ 0 ∷ 1 ∷ 0 ∷ 0 ∷ 0 ∷ 0 ∷ 0 ∷ 0 ∷
+    0 ∷ 0 ∷ 0 ∷ 0 ∷ 1 ∷ 0 ∷ 2 ∷ 65535 ∷ 0 ∷ 0 ∷ 1 ∷ 0 ∷ 2 ∷ 1 ∷ 0 ∷ 0 ∷ 65535 ∷ 0 ∷ 1 ∷ 1 ∷ 0 ∷ 0 ∷ 1 ∷ 1 ∷ 1 ∷ 2 ∷ 0 ∷
+    1 ∷ 0 ∷ 0 ∷ 1 ∷ 1 ∷ 0 ∷ 0 ∷ []
 
 abbrev names-143 : List ℕ
 names-143 = joined (slotOf (115 ∷ []) ∷ slotOf (101 ∷ []) ∷ slotOf (42 ∷ []) ∷ [])
@@ -2219,63 +2230,63 @@ example-143 : alike (played numbers-143 names-143 []) ((5 ∷ []) ∷ []) ≡ tr
 unfolding everything joined historyShown queueShown shown playedIf played alike
 example-143 = refl
 
--- eventless to itself
+-- eventless to itself, a parallel
 abbrev numbers-144 : List ℕ
-numbers-144 = 2 ∷ 2 ∷ 2 ∷ 2 ∷ 2 ∷ 3 ∷ 0 ∷ 65535 ∷ 65535 ∷ 0 ∷ 0 ∷ 0 ∷ 0 ∷ 0 ∷ 0 ∷ 0 ∷ 0 ∷ 1 ∷ 0 ∷ 0 ∷ 0 ∷ 0 ∷ 0 ∷ 0 ∷
-    0 ∷ 0 ∷ 0 ∷ 0 ∷ 1 ∷ 0 ∷ 2 ∷ 65535 ∷ 0 ∷ 0 ∷ 1 ∷ 0 ∷ 2 ∷ 1 ∷ 0 ∷ 0 ∷ 65535 ∷ 0 ∷ 1 ∷ 1 ∷ 0 ∷ 0 ∷ 1 ∷ 1 ∷ 1 ∷ 2 ∷ 0 ∷
-    1 ∷ 0 ∷ 0 ∷ 1 ∷ 1 ∷ 0 ∷ 0 ∷ []
+numbers-144 = 4 ∷ 1 ∷ 1 ∷ 0 ∷ 0 ∷ 4 ∷ 0 ∷ 65535 ∷ 65535 ∷ 0 ∷ 0 ∷ 0 ∷ 0 ∷ 0 ∷ 0 ∷ 0 ∷ 0 ∷ 2 ∷ 0 ∷ 0 ∷ 0 ∷ 0 ∷ 0 ∷ 0 ∷
+    0 ∷ 0 ∷ 0 ∷ 0 ∷ 1 ∷ 1 ∷ 1 ∷ 0 ∷ 0 ∷ 0 ∷ 0 ∷ 0 ∷ 0 ∷ 0 ∷ 0 ∷ 1 ∷ 1 ∷ 2 ∷ 0 ∷ 0 ∷ 0 ∷ 0 ∷ 0 ∷ 0 ∷ 0 ∷ 0 ∷ 1 ∷ 0 ∷ 0 ∷
+    65535 ∷ 0 ∷ 0 ∷ 1 ∷ 0 ∷ 0 ∷ 1 ∷ []
 
 abbrev names-144 : List ℕ
-names-144 = joined (slotOf (115 ∷ []) ∷ slotOf (101 ∷ []) ∷ slotOf (42 ∷ []) ∷ [])
+names-144 = joined (slotOf (112 ∷ []) ∷ slotOf (97 ∷ []) ∷ slotOf (98 ∷ []) ∷ slotOf (101 ∷ []) ∷ [])
 
 example-144 : alike (played numbers-144 names-144 []) ((5 ∷ []) ∷ []) ≡ true
 unfolding everything joined historyShown queueShown shown playedIf played alike
 example-144 = refl
 
--- eventless to itself, a parallel
+-- eventless to itself, internal
 abbrev numbers-145 : List ℕ
-numbers-145 = 4 ∷ 1 ∷ 1 ∷ 0 ∷ 0 ∷ 4 ∷ 0 ∷ 65535 ∷ 65535 ∷ 0 ∷ 0 ∷ 0 ∷ 0 ∷ 0 ∷ 0 ∷ 0 ∷ 0 ∷ 2 ∷ 0 ∷ 0 ∷ 0 ∷ 0 ∷ 0 ∷ 0 ∷
-    0 ∷ 0 ∷ 0 ∷ 0 ∷ 1 ∷ 1 ∷ 1 ∷ 0 ∷ 0 ∷ 0 ∷ 0 ∷ 0 ∷ 0 ∷ 0 ∷ 0 ∷ 1 ∷ 1 ∷ 2 ∷ 0 ∷ 0 ∷ 0 ∷ 0 ∷ 0 ∷ 0 ∷ 0 ∷ 0 ∷ 1 ∷ 0 ∷ 0 ∷
-    65535 ∷ 0 ∷ 0 ∷ 1 ∷ 0 ∷ 0 ∷ 1 ∷ []
+numbers-145 = 2 ∷ 2 ∷ 2 ∷ 2 ∷ 2 ∷ 3 ∷ 0 ∷ 65535 ∷ 65535 ∷ 0 ∷ 0 ∷ 0 ∷ 0 ∷ 0 ∷ 0 ∷ 0 ∷ 0 ∷ 1 ∷ 0 ∷ 0 ∷ 0 ∷ 0 ∷ 0 ∷ 0 ∷
+    0 ∷ 0 ∷ 0 ∷ 0 ∷ 1 ∷ 0 ∷ 2 ∷ 65535 ∷ 0 ∷ 0 ∷ 1 ∷ 0 ∷ 2 ∷ 1 ∷ 0 ∷ 0 ∷ 65535 ∷ 1 ∷ 1 ∷ 1 ∷ 0 ∷ 0 ∷ 1 ∷ 1 ∷ 1 ∷ 2 ∷ 0 ∷
+    1 ∷ 0 ∷ 0 ∷ 1 ∷ 1 ∷ 0 ∷ 0 ∷ []
 
 abbrev names-145 : List ℕ
-names-145 = joined (slotOf (112 ∷ []) ∷ slotOf (97 ∷ []) ∷ slotOf (98 ∷ []) ∷ slotOf (101 ∷ []) ∷ [])
+names-145 = joined (slotOf (115 ∷ []) ∷ slotOf (101 ∷ []) ∷ slotOf (42 ∷ []) ∷ [])
 
 example-145 : alike (played numbers-145 names-145 []) ((5 ∷ []) ∷ []) ≡ true
 unfolding everything joined historyShown queueShown shown playedIf played alike
 example-145 = refl
 
--- eventless to itself, internal
+-- eventless to itself, a compound state, internal
 abbrev numbers-146 : List ℕ
-numbers-146 = 2 ∷ 2 ∷ 2 ∷ 2 ∷ 2 ∷ 3 ∷ 0 ∷ 65535 ∷ 65535 ∷ 0 ∷ 0 ∷ 0 ∷ 0 ∷ 0 ∷ 0 ∷ 0 ∷ 0 ∷ 1 ∷ 0 ∷ 0 ∷ 0 ∷ 0 ∷ 0 ∷ 0 ∷
-    0 ∷ 0 ∷ 0 ∷ 0 ∷ 1 ∷ 0 ∷ 2 ∷ 65535 ∷ 0 ∷ 0 ∷ 1 ∷ 0 ∷ 2 ∷ 1 ∷ 0 ∷ 0 ∷ 65535 ∷ 1 ∷ 1 ∷ 1 ∷ 0 ∷ 0 ∷ 1 ∷ 1 ∷ 1 ∷ 2 ∷ 0 ∷
-    1 ∷ 0 ∷ 0 ∷ 1 ∷ 1 ∷ 0 ∷ 0 ∷ []
+numbers-146 = 4 ∷ 2 ∷ 2 ∷ 1 ∷ 0 ∷ 4 ∷ 0 ∷ 65535 ∷ 65535 ∷ 0 ∷ 0 ∷ 0 ∷ 0 ∷ 0 ∷ 0 ∷ 0 ∷ 0 ∷ 1 ∷ 0 ∷ 0 ∷ 0 ∷ 0 ∷ 0 ∷ 0 ∷
+    0 ∷ 0 ∷ 0 ∷ 0 ∷ 1 ∷ 1 ∷ 1 ∷ 0 ∷ 0 ∷ 0 ∷ 0 ∷ 0 ∷ 0 ∷ 0 ∷ 0 ∷ 1 ∷ 1 ∷ 2 ∷ 0 ∷ 0 ∷ 0 ∷ 0 ∷ 0 ∷ 0 ∷ 0 ∷ 0 ∷ 1 ∷ 0 ∷ 1 ∷
+    65535 ∷ 0 ∷ 0 ∷ 1 ∷ 0 ∷ 0 ∷ 1 ∷ 0 ∷ 0 ∷ 65535 ∷ 1 ∷ 1 ∷ 1 ∷ 0 ∷ 0 ∷ 3 ∷ 1 ∷ 3 ∷ []
 
 abbrev names-146 : List ℕ
-names-146 = joined (slotOf (115 ∷ []) ∷ slotOf (101 ∷ []) ∷ slotOf (42 ∷ []) ∷ [])
+names-146 = joined (slotOf (115 ∷ []) ∷ slotOf (97 ∷ []) ∷ slotOf (98 ∷ []) ∷ slotOf (101 ∷ []) ∷ [])
 
 example-146 : alike (played numbers-146 names-146 []) ((5 ∷ []) ∷ []) ≡ true
 unfolding everything joined historyShown queueShown shown playedIf played alike
 example-146 = refl
 
--- eventless to itself, a compound state, internal
+-- eventless to itself and another row
 abbrev numbers-147 : List ℕ
-numbers-147 = 4 ∷ 2 ∷ 2 ∷ 1 ∷ 0 ∷ 4 ∷ 0 ∷ 65535 ∷ 65535 ∷ 0 ∷ 0 ∷ 0 ∷ 0 ∷ 0 ∷ 0 ∷ 0 ∷ 0 ∷ 1 ∷ 0 ∷ 0 ∷ 0 ∷ 0 ∷ 0 ∷ 0 ∷
-    0 ∷ 0 ∷ 0 ∷ 0 ∷ 1 ∷ 1 ∷ 1 ∷ 0 ∷ 0 ∷ 0 ∷ 0 ∷ 0 ∷ 0 ∷ 0 ∷ 0 ∷ 1 ∷ 1 ∷ 2 ∷ 0 ∷ 0 ∷ 0 ∷ 0 ∷ 0 ∷ 0 ∷ 0 ∷ 0 ∷ 1 ∷ 0 ∷ 1 ∷
-    65535 ∷ 0 ∷ 0 ∷ 1 ∷ 0 ∷ 0 ∷ 1 ∷ 0 ∷ 0 ∷ 65535 ∷ 1 ∷ 1 ∷ 1 ∷ 0 ∷ 0 ∷ 3 ∷ 1 ∷ 3 ∷ []
+numbers-147 = 4 ∷ 2 ∷ 3 ∷ 1 ∷ 0 ∷ 4 ∷ 0 ∷ 65535 ∷ 65535 ∷ 0 ∷ 0 ∷ 0 ∷ 0 ∷ 0 ∷ 0 ∷ 0 ∷ 0 ∷ 2 ∷ 0 ∷ 0 ∷ 0 ∷ 0 ∷ 0 ∷ 0 ∷
+    0 ∷ 0 ∷ 0 ∷ 0 ∷ 1 ∷ 1 ∷ 1 ∷ 0 ∷ 0 ∷ 0 ∷ 0 ∷ 0 ∷ 0 ∷ 0 ∷ 0 ∷ 1 ∷ 1 ∷ 2 ∷ 0 ∷ 0 ∷ 0 ∷ 0 ∷ 0 ∷ 0 ∷ 0 ∷ 0 ∷ 2 ∷ 0 ∷ 1 ∷
+    65535 ∷ 0 ∷ 0 ∷ 1 ∷ 0 ∷ 0 ∷ 3 ∷ 0 ∷ 0 ∷ 65535 ∷ 0 ∷ 1 ∷ 2 ∷ 0 ∷ 0 ∷ 3 ∷ 3 ∷ 2 ∷ 3 ∷ []
 
 abbrev names-147 : List ℕ
-names-147 = joined (slotOf (115 ∷ []) ∷ slotOf (97 ∷ []) ∷ slotOf (98 ∷ []) ∷ slotOf (101 ∷ []) ∷ [])
+names-147 = joined (slotOf (112 ∷ []) ∷ slotOf (97 ∷ []) ∷ slotOf (98 ∷ []) ∷ slotOf (101 ∷ []) ∷ [])
 
 example-147 : alike (played numbers-147 names-147 []) ((5 ∷ []) ∷ []) ≡ true
 unfolding everything joined historyShown queueShown shown playedIf played alike
 example-147 = refl
 
--- eventless to itself and another row
+-- eventless to another row and itself
 abbrev numbers-148 : List ℕ
 numbers-148 = 4 ∷ 2 ∷ 3 ∷ 1 ∷ 0 ∷ 4 ∷ 0 ∷ 65535 ∷ 65535 ∷ 0 ∷ 0 ∷ 0 ∷ 0 ∷ 0 ∷ 0 ∷ 0 ∷ 0 ∷ 2 ∷ 0 ∷ 0 ∷ 0 ∷ 0 ∷ 0 ∷ 0 ∷
     0 ∷ 0 ∷ 0 ∷ 0 ∷ 1 ∷ 1 ∷ 1 ∷ 0 ∷ 0 ∷ 0 ∷ 0 ∷ 0 ∷ 0 ∷ 0 ∷ 0 ∷ 1 ∷ 1 ∷ 2 ∷ 0 ∷ 0 ∷ 0 ∷ 0 ∷ 0 ∷ 0 ∷ 0 ∷ 0 ∷ 2 ∷ 0 ∷ 1 ∷
-    65535 ∷ 0 ∷ 0 ∷ 1 ∷ 0 ∷ 0 ∷ 3 ∷ 0 ∷ 0 ∷ 65535 ∷ 0 ∷ 1 ∷ 2 ∷ 0 ∷ 0 ∷ 3 ∷ 3 ∷ 2 ∷ 3 ∷ []
+    65535 ∷ 0 ∷ 0 ∷ 1 ∷ 0 ∷ 0 ∷ 3 ∷ 0 ∷ 0 ∷ 65535 ∷ 0 ∷ 1 ∷ 2 ∷ 0 ∷ 0 ∷ 3 ∷ 2 ∷ 3 ∷ 3 ∷ []
 
 abbrev names-148 : List ℕ
 names-148 = joined (slotOf (112 ∷ []) ∷ slotOf (97 ∷ []) ∷ slotOf (98 ∷ []) ∷ slotOf (101 ∷ []) ∷ [])
@@ -2284,11 +2295,11 @@ example-148 : alike (played numbers-148 names-148 []) ((5 ∷ []) ∷ []) ≡ tr
 unfolding everything joined historyShown queueShown shown playedIf played alike
 example-148 = refl
 
--- eventless to another row and itself
+-- eventless to another row and itself, internal
 abbrev numbers-149 : List ℕ
 numbers-149 = 4 ∷ 2 ∷ 3 ∷ 1 ∷ 0 ∷ 4 ∷ 0 ∷ 65535 ∷ 65535 ∷ 0 ∷ 0 ∷ 0 ∷ 0 ∷ 0 ∷ 0 ∷ 0 ∷ 0 ∷ 2 ∷ 0 ∷ 0 ∷ 0 ∷ 0 ∷ 0 ∷ 0 ∷
     0 ∷ 0 ∷ 0 ∷ 0 ∷ 1 ∷ 1 ∷ 1 ∷ 0 ∷ 0 ∷ 0 ∷ 0 ∷ 0 ∷ 0 ∷ 0 ∷ 0 ∷ 1 ∷ 1 ∷ 2 ∷ 0 ∷ 0 ∷ 0 ∷ 0 ∷ 0 ∷ 0 ∷ 0 ∷ 0 ∷ 2 ∷ 0 ∷ 1 ∷
-    65535 ∷ 0 ∷ 0 ∷ 1 ∷ 0 ∷ 0 ∷ 3 ∷ 0 ∷ 0 ∷ 65535 ∷ 0 ∷ 1 ∷ 2 ∷ 0 ∷ 0 ∷ 3 ∷ 2 ∷ 3 ∷ 3 ∷ []
+    65535 ∷ 0 ∷ 0 ∷ 1 ∷ 0 ∷ 0 ∷ 3 ∷ 0 ∷ 0 ∷ 65535 ∷ 1 ∷ 1 ∷ 2 ∷ 0 ∷ 0 ∷ 3 ∷ 2 ∷ 3 ∷ 3 ∷ []
 
 abbrev names-149 : List ℕ
 names-149 = joined (slotOf (112 ∷ []) ∷ slotOf (97 ∷ []) ∷ slotOf (98 ∷ []) ∷ slotOf (101 ∷ []) ∷ [])
@@ -2297,15 +2308,625 @@ example-149 : alike (played numbers-149 names-149 []) ((5 ∷ []) ∷ []) ≡ tr
 unfolding everything joined historyShown queueShown shown playedIf played alike
 example-149 = refl
 
--- eventless to another row and itself, internal
+-- initial list holds its owner's history and a child
 abbrev numbers-150 : List ℕ
-numbers-150 = 4 ∷ 2 ∷ 3 ∷ 1 ∷ 0 ∷ 4 ∷ 0 ∷ 65535 ∷ 65535 ∷ 0 ∷ 0 ∷ 0 ∷ 0 ∷ 0 ∷ 0 ∷ 0 ∷ 0 ∷ 2 ∷ 0 ∷ 0 ∷ 0 ∷ 0 ∷ 0 ∷ 0 ∷
-    0 ∷ 0 ∷ 0 ∷ 0 ∷ 1 ∷ 1 ∷ 1 ∷ 0 ∷ 0 ∷ 0 ∷ 0 ∷ 0 ∷ 0 ∷ 0 ∷ 0 ∷ 1 ∷ 1 ∷ 2 ∷ 0 ∷ 0 ∷ 0 ∷ 0 ∷ 0 ∷ 0 ∷ 0 ∷ 0 ∷ 2 ∷ 0 ∷ 1 ∷
-    65535 ∷ 0 ∷ 0 ∷ 1 ∷ 0 ∷ 0 ∷ 3 ∷ 0 ∷ 0 ∷ 65535 ∷ 1 ∷ 1 ∷ 2 ∷ 0 ∷ 0 ∷ 3 ∷ 2 ∷ 3 ∷ 3 ∷ []
+numbers-150 = 6 ∷ 1 ∷ 5 ∷ 1 ∷ 0 ∷ 6 ∷ 0 ∷ 65535 ∷ 65535 ∷ 0 ∷ 0 ∷ 0 ∷ 0 ∷ 0 ∷ 0 ∷ 0 ∷ 0 ∷ 1 ∷ 0 ∷ 0 ∷ 0 ∷ 0 ∷ 0 ∷ 0 ∷
+    0 ∷ 2 ∷ 0 ∷ 0 ∷ 1 ∷ 1 ∷ 1 ∷ 0 ∷ 0 ∷ 0 ∷ 0 ∷ 0 ∷ 0 ∷ 0 ∷ 0 ∷ 1 ∷ 1 ∷ 2 ∷ 0 ∷ 0 ∷ 0 ∷ 0 ∷ 0 ∷ 0 ∷ 0 ∷ 0 ∷ 4 ∷ 1 ∷ 3 ∷
+    0 ∷ 0 ∷ 0 ∷ 0 ∷ 2 ∷ 1 ∷ 0 ∷ 0 ∷ 5 ∷ 1 ∷ 4 ∷ 0 ∷ 0 ∷ 0 ∷ 0 ∷ 3 ∷ 1 ∷ 0 ∷ 0 ∷ 2 ∷ 0 ∷ 1 ∷ 65535 ∷ 0 ∷ 4 ∷ 1 ∷ 0 ∷ 0 ∷
+    4 ∷ 2 ∷ 2 ∷ 3 ∷ 4 ∷ 5 ∷ []
 
 abbrev names-150 : List ℕ
-names-150 = joined (slotOf (112 ∷ []) ∷ slotOf (97 ∷ []) ∷ slotOf (98 ∷ []) ∷ slotOf (101 ∷ []) ∷ [])
+names-150 = joined (slotOf (115 ∷ []) ∷ slotOf (97 ∷ []) ∷ slotOf (98 ∷ []) ∷ slotOf (104 ∷ []) ∷ slotOf (100 ∷ []) ∷
+    slotOf (101 ∷ []) ∷ [])
 
-example-150 : alike (played numbers-150 names-150 []) ((5 ∷ []) ∷ []) ≡ true
+example-150 : alike (played numbers-150 names-150 []) ((4 ∷ []) ∷ []) ≡ true
 unfolding everything joined historyShown queueShown shown playedIf played alike
 example-150 = refl
+
+-- initial list holds a history and a row below its parent
+abbrev numbers-151 : List ℕ
+numbers-151 = 6 ∷ 1 ∷ 5 ∷ 1 ∷ 0 ∷ 6 ∷ 0 ∷ 65535 ∷ 65535 ∷ 0 ∷ 0 ∷ 0 ∷ 0 ∷ 0 ∷ 2 ∷ 0 ∷ 0 ∷ 1 ∷ 0 ∷ 0 ∷ 0 ∷ 0 ∷ 0 ∷ 0 ∷
+    0 ∷ 0 ∷ 0 ∷ 0 ∷ 1 ∷ 1 ∷ 1 ∷ 0 ∷ 0 ∷ 0 ∷ 0 ∷ 0 ∷ 0 ∷ 0 ∷ 0 ∷ 1 ∷ 1 ∷ 2 ∷ 0 ∷ 0 ∷ 0 ∷ 0 ∷ 0 ∷ 0 ∷ 0 ∷ 0 ∷ 4 ∷ 1 ∷ 3 ∷
+    0 ∷ 0 ∷ 0 ∷ 0 ∷ 2 ∷ 1 ∷ 0 ∷ 0 ∷ 5 ∷ 1 ∷ 4 ∷ 0 ∷ 0 ∷ 0 ∷ 0 ∷ 3 ∷ 1 ∷ 0 ∷ 0 ∷ 2 ∷ 0 ∷ 1 ∷ 65535 ∷ 0 ∷ 4 ∷ 1 ∷ 0 ∷ 0 ∷
+    2 ∷ 4 ∷ 2 ∷ 3 ∷ 4 ∷ 5 ∷ []
+
+abbrev names-151 : List ℕ
+names-151 = joined (slotOf (115 ∷ []) ∷ slotOf (97 ∷ []) ∷ slotOf (98 ∷ []) ∷ slotOf (104 ∷ []) ∷ slotOf (100 ∷ []) ∷
+    slotOf (101 ∷ []) ∷ [])
+
+example-151 : alike (played numbers-151 names-151 []) ((4 ∷ []) ∷ []) ≡ true
+unfolding everything joined historyShown queueShown shown playedIf played alike
+example-151 = refl
+
+-- initial list holds a history and its parent
+abbrev numbers-152 : List ℕ
+numbers-152 = 6 ∷ 1 ∷ 5 ∷ 1 ∷ 0 ∷ 6 ∷ 0 ∷ 65535 ∷ 65535 ∷ 0 ∷ 0 ∷ 0 ∷ 0 ∷ 0 ∷ 2 ∷ 0 ∷ 0 ∷ 1 ∷ 0 ∷ 0 ∷ 0 ∷ 0 ∷ 0 ∷ 0 ∷
+    0 ∷ 0 ∷ 0 ∷ 0 ∷ 1 ∷ 1 ∷ 1 ∷ 0 ∷ 0 ∷ 0 ∷ 0 ∷ 0 ∷ 0 ∷ 0 ∷ 0 ∷ 1 ∷ 1 ∷ 2 ∷ 0 ∷ 0 ∷ 0 ∷ 0 ∷ 0 ∷ 0 ∷ 0 ∷ 0 ∷ 4 ∷ 1 ∷ 3 ∷
+    0 ∷ 0 ∷ 0 ∷ 0 ∷ 2 ∷ 1 ∷ 0 ∷ 0 ∷ 5 ∷ 1 ∷ 4 ∷ 0 ∷ 0 ∷ 0 ∷ 0 ∷ 3 ∷ 1 ∷ 0 ∷ 0 ∷ 2 ∷ 0 ∷ 1 ∷ 65535 ∷ 0 ∷ 4 ∷ 1 ∷ 0 ∷ 0 ∷
+    4 ∷ 1 ∷ 2 ∷ 3 ∷ 4 ∷ 5 ∷ []
+
+abbrev names-152 : List ℕ
+names-152 = joined (slotOf (115 ∷ []) ∷ slotOf (97 ∷ []) ∷ slotOf (98 ∷ []) ∷ slotOf (104 ∷ []) ∷ slotOf (100 ∷ []) ∷
+    slotOf (101 ∷ []) ∷ [])
+
+example-152 : alike (played numbers-152 names-152 []) ((4 ∷ []) ∷ []) ≡ true
+unfolding everything joined historyShown queueShown shown playedIf played alike
+example-152 = refl
+
+-- initial list holds two histories of its owner
+abbrev numbers-153 : List ℕ
+numbers-153 = 6 ∷ 1 ∷ 5 ∷ 1 ∷ 0 ∷ 6 ∷ 0 ∷ 65535 ∷ 65535 ∷ 0 ∷ 0 ∷ 0 ∷ 0 ∷ 0 ∷ 0 ∷ 0 ∷ 0 ∷ 1 ∷ 0 ∷ 0 ∷ 0 ∷ 0 ∷ 0 ∷ 0 ∷
+    0 ∷ 2 ∷ 0 ∷ 0 ∷ 1 ∷ 1 ∷ 1 ∷ 0 ∷ 0 ∷ 0 ∷ 0 ∷ 0 ∷ 0 ∷ 0 ∷ 0 ∷ 1 ∷ 1 ∷ 2 ∷ 0 ∷ 0 ∷ 0 ∷ 0 ∷ 0 ∷ 0 ∷ 0 ∷ 0 ∷ 4 ∷ 1 ∷ 3 ∷
+    0 ∷ 0 ∷ 0 ∷ 0 ∷ 2 ∷ 1 ∷ 0 ∷ 0 ∷ 5 ∷ 1 ∷ 4 ∷ 0 ∷ 0 ∷ 0 ∷ 0 ∷ 3 ∷ 1 ∷ 0 ∷ 0 ∷ 2 ∷ 0 ∷ 1 ∷ 65535 ∷ 0 ∷ 4 ∷ 1 ∷ 0 ∷ 0 ∷
+    4 ∷ 5 ∷ 2 ∷ 3 ∷ 4 ∷ 5 ∷ []
+
+abbrev names-153 : List ℕ
+names-153 = joined (slotOf (115 ∷ []) ∷ slotOf (97 ∷ []) ∷ slotOf (98 ∷ []) ∷ slotOf (104 ∷ []) ∷ slotOf (100 ∷ []) ∷
+    slotOf (101 ∷ []) ∷ [])
+
+example-153 : alike (played numbers-153 names-153 []) ((4 ∷ []) ∷ []) ≡ true
+unfolding everything joined historyShown queueShown shown playedIf played alike
+example-153 = refl
+
+-- initial list holds two histories of a row below
+abbrev numbers-154 : List ℕ
+numbers-154 = 6 ∷ 1 ∷ 5 ∷ 1 ∷ 0 ∷ 6 ∷ 0 ∷ 65535 ∷ 65535 ∷ 0 ∷ 0 ∷ 0 ∷ 0 ∷ 0 ∷ 2 ∷ 0 ∷ 0 ∷ 1 ∷ 0 ∷ 0 ∷ 0 ∷ 0 ∷ 0 ∷ 0 ∷
+    0 ∷ 0 ∷ 0 ∷ 0 ∷ 1 ∷ 1 ∷ 1 ∷ 0 ∷ 0 ∷ 0 ∷ 0 ∷ 0 ∷ 0 ∷ 0 ∷ 0 ∷ 1 ∷ 1 ∷ 2 ∷ 0 ∷ 0 ∷ 0 ∷ 0 ∷ 0 ∷ 0 ∷ 0 ∷ 0 ∷ 4 ∷ 1 ∷ 3 ∷
+    0 ∷ 0 ∷ 0 ∷ 0 ∷ 2 ∷ 1 ∷ 0 ∷ 0 ∷ 5 ∷ 1 ∷ 4 ∷ 0 ∷ 0 ∷ 0 ∷ 0 ∷ 3 ∷ 1 ∷ 0 ∷ 0 ∷ 2 ∷ 0 ∷ 1 ∷ 65535 ∷ 0 ∷ 4 ∷ 1 ∷ 0 ∷ 0 ∷
+    4 ∷ 5 ∷ 2 ∷ 3 ∷ 4 ∷ 5 ∷ []
+
+abbrev names-154 : List ℕ
+names-154 = joined (slotOf (115 ∷ []) ∷ slotOf (97 ∷ []) ∷ slotOf (98 ∷ []) ∷ slotOf (104 ∷ []) ∷ slotOf (100 ∷ []) ∷
+    slotOf (101 ∷ []) ∷ [])
+
+example-154 : alike (played numbers-154 names-154 []) ((4 ∷ []) ∷ []) ≡ true
+unfolding everything joined historyShown queueShown shown playedIf played alike
+example-154 = refl
+
+-- initial list holds a history twice
+abbrev numbers-155 : List ℕ
+numbers-155 = 6 ∷ 1 ∷ 5 ∷ 1 ∷ 0 ∷ 6 ∷ 0 ∷ 65535 ∷ 65535 ∷ 0 ∷ 0 ∷ 0 ∷ 0 ∷ 0 ∷ 0 ∷ 0 ∷ 0 ∷ 1 ∷ 0 ∷ 0 ∷ 0 ∷ 0 ∷ 0 ∷ 0 ∷
+    0 ∷ 2 ∷ 0 ∷ 0 ∷ 1 ∷ 1 ∷ 1 ∷ 0 ∷ 0 ∷ 0 ∷ 0 ∷ 0 ∷ 0 ∷ 0 ∷ 0 ∷ 1 ∷ 1 ∷ 2 ∷ 0 ∷ 0 ∷ 0 ∷ 0 ∷ 0 ∷ 0 ∷ 0 ∷ 0 ∷ 4 ∷ 1 ∷ 3 ∷
+    0 ∷ 0 ∷ 0 ∷ 0 ∷ 2 ∷ 1 ∷ 0 ∷ 0 ∷ 5 ∷ 1 ∷ 4 ∷ 0 ∷ 0 ∷ 0 ∷ 0 ∷ 3 ∷ 1 ∷ 0 ∷ 0 ∷ 2 ∷ 0 ∷ 1 ∷ 65535 ∷ 0 ∷ 4 ∷ 1 ∷ 0 ∷ 0 ∷
+    4 ∷ 4 ∷ 2 ∷ 3 ∷ 4 ∷ 5 ∷ []
+
+abbrev names-155 : List ℕ
+names-155 = joined (slotOf (115 ∷ []) ∷ slotOf (97 ∷ []) ∷ slotOf (98 ∷ []) ∷ slotOf (104 ∷ []) ∷ slotOf (100 ∷ []) ∷
+    slotOf (101 ∷ []) ∷ [])
+
+example-155 : alike (played numbers-155 names-155 []) ((4 ∷ []) ∷ []) ≡ true
+unfolding everything joined historyShown queueShown shown playedIf played alike
+example-155 = refl
+
+-- initial list holds a history outside
+abbrev numbers-156 : List ℕ
+numbers-156 = 6 ∷ 2 ∷ 4 ∷ 2 ∷ 0 ∷ 6 ∷ 0 ∷ 65535 ∷ 65535 ∷ 0 ∷ 0 ∷ 0 ∷ 0 ∷ 0 ∷ 0 ∷ 0 ∷ 0 ∷ 1 ∷ 0 ∷ 0 ∷ 0 ∷ 0 ∷ 0 ∷ 0 ∷
+    0 ∷ 0 ∷ 0 ∷ 0 ∷ 1 ∷ 1 ∷ 1 ∷ 0 ∷ 0 ∷ 0 ∷ 0 ∷ 0 ∷ 1 ∷ 0 ∷ 0 ∷ 1 ∷ 2 ∷ 2 ∷ 0 ∷ 0 ∷ 0 ∷ 0 ∷ 0 ∷ 0 ∷ 0 ∷ 0 ∷ 4 ∷ 1 ∷ 3 ∷
+    0 ∷ 0 ∷ 0 ∷ 0 ∷ 1 ∷ 1 ∷ 0 ∷ 0 ∷ 1 ∷ 0 ∷ 4 ∷ 0 ∷ 0 ∷ 0 ∷ 0 ∷ 0 ∷ 0 ∷ 0 ∷ 0 ∷ 3 ∷ 0 ∷ 1 ∷ 65535 ∷ 0 ∷ 2 ∷ 1 ∷ 0 ∷ 0 ∷
+    5 ∷ 1 ∷ 1 ∷ 65535 ∷ 0 ∷ 3 ∷ 1 ∷ 0 ∷ 0 ∷ 4 ∷ 2 ∷ 4 ∷ 1 ∷ 5 ∷ 5 ∷ []
+
+abbrev names-156 : List ℕ
+names-156 = joined (slotOf (115 ∷ []) ∷ slotOf (97 ∷ []) ∷ slotOf (120 ∷ []) ∷ slotOf (104 ∷ []) ∷ slotOf (122 ∷ []) ∷
+    slotOf (101 ∷ []) ∷ [])
+
+example-156 : alike (played numbers-156 names-156 []) ((4 ∷ []) ∷ []) ≡ true
+unfolding everything joined historyShown queueShown shown playedIf played alike
+example-156 = refl
+
+-- initial list holds a history of its owner's parent
+abbrev numbers-157 : List ℕ
+numbers-157 = 6 ∷ 2 ∷ 4 ∷ 2 ∷ 0 ∷ 6 ∷ 0 ∷ 65535 ∷ 65535 ∷ 0 ∷ 0 ∷ 0 ∷ 0 ∷ 0 ∷ 0 ∷ 0 ∷ 0 ∷ 1 ∷ 0 ∷ 0 ∷ 0 ∷ 0 ∷ 0 ∷ 0 ∷
+    0 ∷ 0 ∷ 0 ∷ 0 ∷ 1 ∷ 1 ∷ 1 ∷ 0 ∷ 0 ∷ 0 ∷ 0 ∷ 0 ∷ 1 ∷ 0 ∷ 0 ∷ 1 ∷ 2 ∷ 2 ∷ 0 ∷ 0 ∷ 0 ∷ 0 ∷ 0 ∷ 0 ∷ 0 ∷ 0 ∷ 4 ∷ 1 ∷ 3 ∷
+    0 ∷ 0 ∷ 0 ∷ 0 ∷ 1 ∷ 1 ∷ 0 ∷ 0 ∷ 1 ∷ 0 ∷ 4 ∷ 0 ∷ 0 ∷ 0 ∷ 0 ∷ 0 ∷ 0 ∷ 0 ∷ 0 ∷ 3 ∷ 0 ∷ 1 ∷ 65535 ∷ 0 ∷ 2 ∷ 1 ∷ 0 ∷ 0 ∷
+    5 ∷ 1 ∷ 1 ∷ 65535 ∷ 0 ∷ 3 ∷ 1 ∷ 0 ∷ 0 ∷ 4 ∷ 2 ∷ 4 ∷ 1 ∷ 5 ∷ 5 ∷ []
+
+abbrev names-157 : List ℕ
+names-157 = joined (slotOf (115 ∷ []) ∷ slotOf (97 ∷ []) ∷ slotOf (120 ∷ []) ∷ slotOf (104 ∷ []) ∷ slotOf (122 ∷ []) ∷
+    slotOf (101 ∷ []) ∷ [])
+
+example-157 : alike (played numbers-157 names-157 []) ((4 ∷ []) ∷ []) ≡ true
+unfolding everything joined historyShown queueShown shown playedIf played alike
+example-157 = refl
+
+-- default list holds a history of a row below
+abbrev numbers-158 : List ℕ
+numbers-158 = 20 ∷ 7 ∷ 14 ∷ 7 ∷ 6 ∷ 24 ∷ 0 ∷ 65535 ∷ 65535 ∷ 0 ∷ 0 ∷ 0 ∷ 0 ∷ 0 ∷ 0 ∷ 0 ∷ 0 ∷ 2 ∷ 0 ∷ 0 ∷ 0 ∷ 0 ∷ 0 ∷
+    0 ∷ 0 ∷ 0 ∷ 0 ∷ 0 ∷ 1 ∷ 1 ∷ 1 ∷ 0 ∷ 0 ∷ 0 ∷ 0 ∷ 0 ∷ 1 ∷ 0 ∷ 1 ∷ 1 ∷ 2 ∷ 2 ∷ 0 ∷ 0 ∷ 0 ∷ 0 ∷ 0 ∷ 0 ∷ 0 ∷ 0 ∷ 1 ∷ 2 ∷
+    3 ∷ 0 ∷ 0 ∷ 0 ∷ 0 ∷ 0 ∷ 0 ∷ 0 ∷ 0 ∷ 3 ∷ 2 ∷ 4 ∷ 0 ∷ 0 ∷ 0 ∷ 0 ∷ 0 ∷ 0 ∷ 0 ∷ 0 ∷ 4 ∷ 2 ∷ 5 ∷ 0 ∷ 0 ∷ 0 ∷ 0 ∷ 1 ∷ 1 ∷
+    1 ∷ 1 ∷ 1 ∷ 1 ∷ 6 ∷ 0 ∷ 0 ∷ 0 ∷ 0 ∷ 0 ∷ 0 ∷ 0 ∷ 0 ∷ 2 ∷ 7 ∷ 7 ∷ 0 ∷ 0 ∷ 0 ∷ 0 ∷ 0 ∷ 0 ∷ 0 ∷ 0 ∷ 1 ∷ 8 ∷ 8 ∷ 0 ∷ 0 ∷
+    0 ∷ 0 ∷ 0 ∷ 0 ∷ 0 ∷ 0 ∷ 1 ∷ 9 ∷ 9 ∷ 0 ∷ 0 ∷ 0 ∷ 0 ∷ 0 ∷ 0 ∷ 0 ∷ 0 ∷ 1 ∷ 8 ∷ 10 ∷ 0 ∷ 0 ∷ 0 ∷ 0 ∷ 0 ∷ 0 ∷ 0 ∷ 0 ∷
+    5 ∷ 7 ∷ 11 ∷ 0 ∷ 0 ∷ 0 ∷ 0 ∷ 2 ∷ 2 ∷ 0 ∷ 0 ∷ 5 ∷ 7 ∷ 12 ∷ 0 ∷ 0 ∷ 0 ∷ 0 ∷ 4 ∷ 1 ∷ 0 ∷ 0 ∷ 4 ∷ 1 ∷ 13 ∷ 0 ∷ 0 ∷ 0 ∷
+    0 ∷ 5 ∷ 1 ∷ 0 ∷ 0 ∷ 1 ∷ 0 ∷ 14 ∷ 2 ∷ 2 ∷ 0 ∷ 0 ∷ 0 ∷ 0 ∷ 0 ∷ 0 ∷ 1 ∷ 0 ∷ 15 ∷ 0 ∷ 0 ∷ 0 ∷ 0 ∷ 0 ∷ 0 ∷ 0 ∷ 0 ∷ 1 ∷
+    16 ∷ 16 ∷ 0 ∷ 0 ∷ 4 ∷ 1 ∷ 0 ∷ 0 ∷ 0 ∷ 0 ∷ 3 ∷ 16 ∷ 17 ∷ 0 ∷ 0 ∷ 0 ∷ 0 ∷ 0 ∷ 0 ∷ 0 ∷ 0 ∷ 3 ∷ 0 ∷ 18 ∷ 0 ∷ 0 ∷ 0 ∷
+    0 ∷ 0 ∷ 0 ∷ 0 ∷ 0 ∷ 1 ∷ 0 ∷ 1 ∷ 65535 ∷ 0 ∷ 6 ∷ 1 ∷ 0 ∷ 0 ∷ 3 ∷ 1 ∷ 2 ∷ 65535 ∷ 0 ∷ 7 ∷ 1 ∷ 5 ∷ 1 ∷ 4 ∷ 3 ∷ 1 ∷
+    65535 ∷ 0 ∷ 8 ∷ 1 ∷ 0 ∷ 0 ∷ 15 ∷ 4 ∷ 1 ∷ 65535 ∷ 0 ∷ 9 ∷ 2 ∷ 0 ∷ 0 ∷ 15 ∷ 5 ∷ 1 ∷ 15 ∷ 0 ∷ 11 ∷ 1 ∷ 0 ∷ 0 ∷ 16 ∷
+    0 ∷ 0 ∷ 17 ∷ 1 ∷ 12 ∷ 1 ∷ 0 ∷ 0 ∷ 17 ∷ 6 ∷ 1 ∷ 65535 ∷ 0 ∷ 13 ∷ 1 ∷ 0 ∷ 0 ∷ 4 ∷ 3 ∷ 10 ∷ 11 ∷ 8 ∷ 6 ∷ 16 ∷ 4 ∷ 5 ∷
+    6 ∷ 12 ∷ 1 ∷ 18 ∷ 19 ∷ 20 ∷ 19 ∷ 21 ∷ 19 ∷ 22 ∷ 23 ∷ 19 ∷ 1 ∷ 1 ∷ 0 ∷ 0 ∷ 0 ∷ 19 ∷ 0 ∷ 0 ∷ 0 ∷ 19 ∷ 0 ∷ 0 ∷ 1 ∷
+    65535 ∷ 0 ∷ 0 ∷ 1 ∷ 0 ∷ 0 ∷ 0 ∷ 0 ∷ 18 ∷ 0 ∷ 0 ∷ []
+
+abbrev names-158 : List ℕ
+names-158 = joined (slotOf (112 ∷ []) ∷ slotOf (97 ∷ []) ∷ slotOf (97 ∷ 49 ∷ []) ∷ slotOf (97 ∷ 50 ∷ []) ∷ slotOf (97 ∷
+    102 ∷ []) ∷ slotOf (104 ∷ 97 ∷ []) ∷ slotOf (98 ∷ []) ∷ slotOf (113 ∷ []) ∷ slotOf (113 ∷ 49 ∷ []) ∷ slotOf (113 ∷
+    49 ∷ 97 ∷ []) ∷ slotOf (113 ∷ 50 ∷ []) ∷ slotOf (104 ∷ 98 ∷ []) ∷ slotOf (104 ∷ 99 ∷ []) ∷ slotOf (104 ∷ 112 ∷
+    []) ∷ slotOf (115 ∷ []) ∷ slotOf (99 ∷ []) ∷ slotOf (99 ∷ 49 ∷ []) ∷ slotOf (99 ∷ 102 ∷ []) ∷ slotOf (102 ∷ []) ∷
+    slotOf (101 ∷ []) ∷ slotOf (100 ∷ 111 ∷ 110 ∷ 101 ∷ 46 ∷ 115 ∷ 116 ∷ 97 ∷ 116 ∷ 101 ∷ 46 ∷ 112 ∷ []) ∷
+    slotOf (102 ∷ 46 ∷ 42 ∷ []) ∷ slotOf (103 ∷ []) ∷ slotOf (42 ∷ []) ∷ [])
+
+example-158 : alike (played numbers-158 names-158 []) ((4 ∷ []) ∷ []) ≡ true
+unfolding everything joined historyShown queueShown shown playedIf played alike
+example-158 = refl
+
+-- default list holds itself
+abbrev numbers-159 : List ℕ
+numbers-159 = 6 ∷ 1 ∷ 3 ∷ 1 ∷ 0 ∷ 6 ∷ 0 ∷ 65535 ∷ 65535 ∷ 0 ∷ 0 ∷ 0 ∷ 0 ∷ 0 ∷ 0 ∷ 0 ∷ 0 ∷ 1 ∷ 0 ∷ 0 ∷ 0 ∷ 0 ∷ 0 ∷ 0 ∷
+    0 ∷ 0 ∷ 0 ∷ 0 ∷ 1 ∷ 1 ∷ 1 ∷ 0 ∷ 0 ∷ 0 ∷ 0 ∷ 0 ∷ 0 ∷ 0 ∷ 0 ∷ 1 ∷ 1 ∷ 2 ∷ 0 ∷ 0 ∷ 0 ∷ 0 ∷ 0 ∷ 0 ∷ 0 ∷ 0 ∷ 4 ∷ 1 ∷ 3 ∷
+    0 ∷ 0 ∷ 0 ∷ 0 ∷ 0 ∷ 1 ∷ 0 ∷ 0 ∷ 5 ∷ 1 ∷ 4 ∷ 0 ∷ 0 ∷ 0 ∷ 0 ∷ 1 ∷ 1 ∷ 0 ∷ 0 ∷ 2 ∷ 0 ∷ 1 ∷ 65535 ∷ 0 ∷ 2 ∷ 1 ∷ 0 ∷ 0 ∷
+    2 ∷ 5 ∷ 4 ∷ 5 ∷ []
+
+abbrev names-159 : List ℕ
+names-159 = joined (slotOf (115 ∷ []) ∷ slotOf (97 ∷ []) ∷ slotOf (98 ∷ []) ∷ slotOf (104 ∷ []) ∷ slotOf (100 ∷ []) ∷
+    slotOf (101 ∷ []) ∷ [])
+
+example-159 : alike (played numbers-159 names-159 []) ((4 ∷ []) ∷ []) ≡ true
+unfolding everything joined historyShown queueShown shown playedIf played alike
+example-159 = refl
+
+-- elseif without an open if
+abbrev numbers-160 : List ℕ
+numbers-160 = 2 ∷ 1 ∷ 1 ∷ 2 ∷ 2 ∷ 3 ∷ 0 ∷ 65535 ∷ 65535 ∷ 0 ∷ 0 ∷ 0 ∷ 0 ∷ 0 ∷ 0 ∷ 0 ∷ 0 ∷ 1 ∷ 0 ∷ 0 ∷ 0 ∷ 0 ∷ 0 ∷ 0 ∷
+    0 ∷ 0 ∷ 0 ∷ 0 ∷ 1 ∷ 0 ∷ 2 ∷ 65535 ∷ 0 ∷ 0 ∷ 1 ∷ 0 ∷ 2 ∷ 1 ∷ 1 ∷ 2 ∷ 3 ∷ 1 ∷ 0 ∷ 0 ∷ 1 ∷ 7 ∷ 0 ∷ 0 ∷ []
+
+abbrev names-160 : List ℕ
+names-160 = joined (slotOf (115 ∷ []) ∷ slotOf (101 ∷ []) ∷ slotOf (42 ∷ []) ∷ [])
+
+example-160 : alike (played numbers-160 names-160 []) ((5 ∷ []) ∷ []) ≡ true
+unfolding everything joined historyShown queueShown shown playedIf played alike
+example-160 = refl
+
+-- else without an open if
+abbrev numbers-161 : List ℕ
+numbers-161 = 2 ∷ 1 ∷ 1 ∷ 2 ∷ 2 ∷ 3 ∷ 0 ∷ 65535 ∷ 65535 ∷ 0 ∷ 0 ∷ 0 ∷ 0 ∷ 0 ∷ 0 ∷ 0 ∷ 0 ∷ 1 ∷ 0 ∷ 0 ∷ 0 ∷ 0 ∷ 0 ∷ 0 ∷
+    0 ∷ 0 ∷ 0 ∷ 0 ∷ 1 ∷ 0 ∷ 2 ∷ 65535 ∷ 0 ∷ 0 ∷ 1 ∷ 0 ∷ 2 ∷ 1 ∷ 1 ∷ 2 ∷ 4 ∷ 0 ∷ 0 ∷ 0 ∷ 1 ∷ 7 ∷ 0 ∷ 0 ∷ []
+
+abbrev names-161 : List ℕ
+names-161 = joined (slotOf (115 ∷ []) ∷ slotOf (101 ∷ []) ∷ slotOf (42 ∷ []) ∷ [])
+
+example-161 : alike (played numbers-161 names-161 []) ((5 ∷ []) ∷ []) ≡ true
+unfolding everything joined historyShown queueShown shown playedIf played alike
+example-161 = refl
+
+-- end without an open if
+abbrev numbers-162 : List ℕ
+numbers-162 = 2 ∷ 1 ∷ 1 ∷ 2 ∷ 2 ∷ 3 ∷ 0 ∷ 65535 ∷ 65535 ∷ 0 ∷ 0 ∷ 0 ∷ 0 ∷ 0 ∷ 0 ∷ 0 ∷ 0 ∷ 1 ∷ 0 ∷ 0 ∷ 0 ∷ 0 ∷ 0 ∷ 0 ∷
+    0 ∷ 0 ∷ 0 ∷ 0 ∷ 1 ∷ 0 ∷ 2 ∷ 65535 ∷ 0 ∷ 0 ∷ 1 ∷ 0 ∷ 2 ∷ 1 ∷ 1 ∷ 2 ∷ 1 ∷ 7 ∷ 0 ∷ 0 ∷ 5 ∷ 0 ∷ 0 ∷ 0 ∷ []
+
+abbrev names-162 : List ℕ
+names-162 = joined (slotOf (115 ∷ []) ∷ slotOf (101 ∷ []) ∷ slotOf (42 ∷ []) ∷ [])
+
+example-162 : alike (played numbers-162 names-162 []) ((5 ∷ []) ∷ []) ≡ true
+unfolding everything joined historyShown queueShown shown playedIf played alike
+example-162 = refl
+
+-- elseif behind an end
+abbrev numbers-163 : List ℕ
+numbers-163 = 2 ∷ 1 ∷ 1 ∷ 2 ∷ 6 ∷ 3 ∷ 0 ∷ 65535 ∷ 65535 ∷ 0 ∷ 0 ∷ 0 ∷ 0 ∷ 0 ∷ 0 ∷ 0 ∷ 0 ∷ 1 ∷ 0 ∷ 0 ∷ 0 ∷ 0 ∷ 0 ∷ 0 ∷
+    0 ∷ 0 ∷ 0 ∷ 0 ∷ 1 ∷ 0 ∷ 2 ∷ 65535 ∷ 0 ∷ 0 ∷ 1 ∷ 0 ∷ 6 ∷ 1 ∷ 1 ∷ 2 ∷ 2 ∷ 1 ∷ 0 ∷ 0 ∷ 1 ∷ 7 ∷ 0 ∷ 0 ∷ 5 ∷ 0 ∷ 0 ∷ 0 ∷
+    3 ∷ 1 ∷ 0 ∷ 0 ∷ 1 ∷ 7 ∷ 0 ∷ 0 ∷ 5 ∷ 0 ∷ 0 ∷ 0 ∷ []
+
+abbrev names-163 : List ℕ
+names-163 = joined (slotOf (115 ∷ []) ∷ slotOf (101 ∷ []) ∷ slotOf (42 ∷ []) ∷ [])
+
+example-163 : alike (played numbers-163 names-163 []) ((5 ∷ []) ∷ []) ≡ true
+unfolding everything joined historyShown queueShown shown playedIf played alike
+example-163 = refl
+
+-- else behind an end
+abbrev numbers-164 : List ℕ
+numbers-164 = 2 ∷ 1 ∷ 1 ∷ 2 ∷ 6 ∷ 3 ∷ 0 ∷ 65535 ∷ 65535 ∷ 0 ∷ 0 ∷ 0 ∷ 0 ∷ 0 ∷ 0 ∷ 0 ∷ 0 ∷ 1 ∷ 0 ∷ 0 ∷ 0 ∷ 0 ∷ 0 ∷ 0 ∷
+    0 ∷ 0 ∷ 0 ∷ 0 ∷ 1 ∷ 0 ∷ 2 ∷ 65535 ∷ 0 ∷ 0 ∷ 1 ∷ 0 ∷ 6 ∷ 1 ∷ 1 ∷ 2 ∷ 2 ∷ 1 ∷ 0 ∷ 0 ∷ 1 ∷ 7 ∷ 0 ∷ 0 ∷ 5 ∷ 0 ∷ 0 ∷ 0 ∷
+    4 ∷ 0 ∷ 0 ∷ 0 ∷ 1 ∷ 7 ∷ 0 ∷ 0 ∷ 5 ∷ 0 ∷ 0 ∷ 0 ∷ []
+
+abbrev names-164 : List ℕ
+names-164 = joined (slotOf (115 ∷ []) ∷ slotOf (101 ∷ []) ∷ slotOf (42 ∷ []) ∷ [])
+
+example-164 : alike (played numbers-164 names-164 []) ((5 ∷ []) ∷ []) ≡ true
+unfolding everything joined historyShown queueShown shown playedIf played alike
+example-164 = refl
+
+-- an end too many
+abbrev numbers-165 : List ℕ
+numbers-165 = 2 ∷ 1 ∷ 1 ∷ 2 ∷ 5 ∷ 3 ∷ 0 ∷ 65535 ∷ 65535 ∷ 0 ∷ 0 ∷ 0 ∷ 0 ∷ 0 ∷ 0 ∷ 0 ∷ 0 ∷ 1 ∷ 0 ∷ 0 ∷ 0 ∷ 0 ∷ 0 ∷ 0 ∷
+    0 ∷ 0 ∷ 0 ∷ 0 ∷ 1 ∷ 0 ∷ 2 ∷ 65535 ∷ 0 ∷ 0 ∷ 1 ∷ 0 ∷ 5 ∷ 1 ∷ 1 ∷ 2 ∷ 2 ∷ 1 ∷ 0 ∷ 0 ∷ 2 ∷ 1 ∷ 0 ∷ 0 ∷ 5 ∷ 0 ∷ 0 ∷ 0 ∷
+    5 ∷ 0 ∷ 0 ∷ 0 ∷ 5 ∷ 0 ∷ 0 ∷ 0 ∷ []
+
+abbrev names-165 : List ℕ
+names-165 = joined (slotOf (115 ∷ []) ∷ slotOf (101 ∷ []) ∷ slotOf (42 ∷ []) ∷ [])
+
+example-165 : alike (played numbers-165 names-165 []) ((5 ∷ []) ∷ []) ≡ true
+unfolding everything joined historyShown queueShown shown playedIf played alike
+example-165 = refl
+
+-- an end before its if
+abbrev numbers-166 : List ℕ
+numbers-166 = 2 ∷ 1 ∷ 1 ∷ 2 ∷ 2 ∷ 3 ∷ 0 ∷ 65535 ∷ 65535 ∷ 0 ∷ 0 ∷ 0 ∷ 0 ∷ 0 ∷ 0 ∷ 0 ∷ 0 ∷ 1 ∷ 0 ∷ 0 ∷ 0 ∷ 0 ∷ 0 ∷ 0 ∷
+    0 ∷ 0 ∷ 0 ∷ 0 ∷ 1 ∷ 0 ∷ 2 ∷ 65535 ∷ 0 ∷ 0 ∷ 1 ∷ 0 ∷ 2 ∷ 1 ∷ 1 ∷ 2 ∷ 5 ∷ 0 ∷ 0 ∷ 0 ∷ 2 ∷ 1 ∷ 0 ∷ 0 ∷ []
+
+abbrev names-166 : List ℕ
+names-166 = joined (slotOf (115 ∷ []) ∷ slotOf (101 ∷ []) ∷ slotOf (42 ∷ []) ∷ [])
+
+example-166 : alike (played numbers-166 names-166 []) ((5 ∷ []) ∷ []) ≡ true
+unfolding everything joined historyShown queueShown shown playedIf played alike
+example-166 = refl
+
+-- elseif after else
+abbrev numbers-167 : List ℕ
+numbers-167 = 2 ∷ 1 ∷ 1 ∷ 2 ∷ 4 ∷ 3 ∷ 0 ∷ 65535 ∷ 65535 ∷ 0 ∷ 0 ∷ 0 ∷ 0 ∷ 0 ∷ 0 ∷ 0 ∷ 0 ∷ 1 ∷ 0 ∷ 0 ∷ 0 ∷ 0 ∷ 0 ∷ 0 ∷
+    0 ∷ 0 ∷ 0 ∷ 0 ∷ 1 ∷ 0 ∷ 2 ∷ 65535 ∷ 0 ∷ 0 ∷ 1 ∷ 0 ∷ 4 ∷ 1 ∷ 1 ∷ 2 ∷ 2 ∷ 1 ∷ 0 ∷ 0 ∷ 4 ∷ 0 ∷ 0 ∷ 0 ∷ 3 ∷ 1 ∷ 0 ∷ 0 ∷
+    5 ∷ 0 ∷ 0 ∷ 0 ∷ []
+
+abbrev names-167 : List ℕ
+names-167 = joined (slotOf (115 ∷ []) ∷ slotOf (101 ∷ []) ∷ slotOf (42 ∷ []) ∷ [])
+
+example-167 : alike (played numbers-167 names-167 []) ((5 ∷ []) ∷ []) ≡ true
+unfolding everything joined historyShown queueShown shown playedIf played alike
+example-167 = refl
+
+-- else twice
+abbrev numbers-168 : List ℕ
+numbers-168 = 2 ∷ 1 ∷ 1 ∷ 2 ∷ 5 ∷ 3 ∷ 0 ∷ 65535 ∷ 65535 ∷ 0 ∷ 0 ∷ 0 ∷ 0 ∷ 0 ∷ 0 ∷ 0 ∷ 0 ∷ 1 ∷ 0 ∷ 0 ∷ 0 ∷ 0 ∷ 0 ∷ 0 ∷
+    0 ∷ 0 ∷ 0 ∷ 0 ∷ 1 ∷ 0 ∷ 2 ∷ 65535 ∷ 0 ∷ 0 ∷ 1 ∷ 0 ∷ 5 ∷ 1 ∷ 1 ∷ 2 ∷ 2 ∷ 1 ∷ 0 ∷ 0 ∷ 4 ∷ 0 ∷ 0 ∷ 0 ∷ 1 ∷ 7 ∷ 0 ∷ 0 ∷
+    4 ∷ 0 ∷ 0 ∷ 0 ∷ 5 ∷ 0 ∷ 0 ∷ 0 ∷ []
+
+abbrev names-168 : List ℕ
+names-168 = joined (slotOf (115 ∷ []) ∷ slotOf (101 ∷ []) ∷ slotOf (42 ∷ []) ∷ [])
+
+example-168 : alike (played numbers-168 names-168 []) ((5 ∷ []) ∷ []) ≡ true
+unfolding everything joined historyShown queueShown shown playedIf played alike
+example-168 = refl
+
+-- elseif after else, inside
+abbrev numbers-169 : List ℕ
+numbers-169 = 2 ∷ 1 ∷ 1 ∷ 2 ∷ 7 ∷ 3 ∷ 0 ∷ 65535 ∷ 65535 ∷ 0 ∷ 0 ∷ 0 ∷ 0 ∷ 0 ∷ 0 ∷ 0 ∷ 0 ∷ 1 ∷ 0 ∷ 0 ∷ 0 ∷ 0 ∷ 0 ∷ 0 ∷
+    0 ∷ 0 ∷ 0 ∷ 0 ∷ 1 ∷ 0 ∷ 2 ∷ 65535 ∷ 0 ∷ 0 ∷ 1 ∷ 0 ∷ 7 ∷ 1 ∷ 1 ∷ 2 ∷ 2 ∷ 1 ∷ 0 ∷ 0 ∷ 2 ∷ 1 ∷ 0 ∷ 0 ∷ 4 ∷ 0 ∷ 0 ∷ 0 ∷
+    1 ∷ 7 ∷ 0 ∷ 0 ∷ 3 ∷ 1 ∷ 0 ∷ 0 ∷ 5 ∷ 0 ∷ 0 ∷ 0 ∷ 5 ∷ 0 ∷ 0 ∷ 0 ∷ []
+
+abbrev names-169 : List ℕ
+names-169 = joined (slotOf (115 ∷ []) ∷ slotOf (101 ∷ []) ∷ slotOf (42 ∷ []) ∷ [])
+
+example-169 : alike (played numbers-169 names-169 []) ((5 ∷ []) ∷ []) ≡ true
+unfolding everything joined historyShown queueShown shown playedIf played alike
+example-169 = refl
+
+-- elseif after else, behind a whole if
+abbrev numbers-170 : List ℕ
+numbers-170 = 2 ∷ 1 ∷ 1 ∷ 2 ∷ 6 ∷ 3 ∷ 0 ∷ 65535 ∷ 65535 ∷ 0 ∷ 0 ∷ 0 ∷ 0 ∷ 0 ∷ 0 ∷ 0 ∷ 0 ∷ 1 ∷ 0 ∷ 0 ∷ 0 ∷ 0 ∷ 0 ∷ 0 ∷
+    0 ∷ 0 ∷ 0 ∷ 0 ∷ 1 ∷ 0 ∷ 2 ∷ 65535 ∷ 0 ∷ 0 ∷ 1 ∷ 0 ∷ 6 ∷ 1 ∷ 1 ∷ 2 ∷ 2 ∷ 1 ∷ 0 ∷ 0 ∷ 4 ∷ 0 ∷ 0 ∷ 0 ∷ 2 ∷ 1 ∷ 0 ∷ 0 ∷
+    5 ∷ 0 ∷ 0 ∷ 0 ∷ 3 ∷ 1 ∷ 0 ∷ 0 ∷ 5 ∷ 0 ∷ 0 ∷ 0 ∷ []
+
+abbrev names-170 : List ℕ
+names-170 = joined (slotOf (115 ∷ []) ∷ slotOf (101 ∷ []) ∷ slotOf (42 ∷ []) ∷ [])
+
+example-170 : alike (played numbers-170 names-170 []) ((5 ∷ []) ∷ []) ≡ true
+unfolding everything joined historyShown queueShown shown playedIf played alike
+example-170 = refl
+
+-- else twice, inside an else
+abbrev numbers-171 : List ℕ
+numbers-171 = 2 ∷ 1 ∷ 1 ∷ 2 ∷ 7 ∷ 3 ∷ 0 ∷ 65535 ∷ 65535 ∷ 0 ∷ 0 ∷ 0 ∷ 0 ∷ 0 ∷ 0 ∷ 0 ∷ 0 ∷ 1 ∷ 0 ∷ 0 ∷ 0 ∷ 0 ∷ 0 ∷ 0 ∷
+    0 ∷ 0 ∷ 0 ∷ 0 ∷ 1 ∷ 0 ∷ 2 ∷ 65535 ∷ 0 ∷ 0 ∷ 1 ∷ 0 ∷ 7 ∷ 1 ∷ 1 ∷ 2 ∷ 2 ∷ 1 ∷ 0 ∷ 0 ∷ 4 ∷ 0 ∷ 0 ∷ 0 ∷ 2 ∷ 1 ∷ 0 ∷ 0 ∷
+    4 ∷ 0 ∷ 0 ∷ 0 ∷ 4 ∷ 0 ∷ 0 ∷ 0 ∷ 5 ∷ 0 ∷ 0 ∷ 0 ∷ 5 ∷ 0 ∷ 0 ∷ 0 ∷ []
+
+abbrev names-171 : List ℕ
+names-171 = joined (slotOf (115 ∷ []) ∷ slotOf (101 ∷ []) ∷ slotOf (42 ∷ []) ∷ [])
+
+example-171 : alike (played numbers-171 names-171 []) ((5 ∷ []) ∷ []) ≡ true
+unfolding everything joined historyShown queueShown shown playedIf played alike
+example-171 = refl
+
+-- unclosed if
+abbrev numbers-172 : List ℕ
+numbers-172 = 2 ∷ 1 ∷ 1 ∷ 2 ∷ 2 ∷ 3 ∷ 0 ∷ 65535 ∷ 65535 ∷ 0 ∷ 0 ∷ 0 ∷ 0 ∷ 0 ∷ 0 ∷ 0 ∷ 0 ∷ 1 ∷ 0 ∷ 0 ∷ 0 ∷ 0 ∷ 0 ∷ 0 ∷
+    0 ∷ 0 ∷ 0 ∷ 0 ∷ 1 ∷ 0 ∷ 2 ∷ 65535 ∷ 0 ∷ 0 ∷ 1 ∷ 0 ∷ 2 ∷ 1 ∷ 1 ∷ 2 ∷ 2 ∷ 1 ∷ 0 ∷ 0 ∷ 1 ∷ 7 ∷ 0 ∷ 0 ∷ []
+
+abbrev names-172 : List ℕ
+names-172 = joined (slotOf (115 ∷ []) ∷ slotOf (101 ∷ []) ∷ slotOf (42 ∷ []) ∷ [])
+
+example-172 : alike (played numbers-172 names-172 []) ((5 ∷ []) ∷ []) ≡ true
+unfolding everything joined historyShown queueShown shown playedIf played alike
+example-172 = refl
+
+-- unclosed if with an else
+abbrev numbers-173 : List ℕ
+numbers-173 = 2 ∷ 1 ∷ 1 ∷ 2 ∷ 4 ∷ 3 ∷ 0 ∷ 65535 ∷ 65535 ∷ 0 ∷ 0 ∷ 0 ∷ 0 ∷ 0 ∷ 0 ∷ 0 ∷ 0 ∷ 1 ∷ 0 ∷ 0 ∷ 0 ∷ 0 ∷ 0 ∷ 0 ∷
+    0 ∷ 0 ∷ 0 ∷ 0 ∷ 1 ∷ 0 ∷ 2 ∷ 65535 ∷ 0 ∷ 0 ∷ 1 ∷ 0 ∷ 4 ∷ 1 ∷ 1 ∷ 2 ∷ 2 ∷ 1 ∷ 0 ∷ 0 ∷ 1 ∷ 7 ∷ 0 ∷ 0 ∷ 4 ∷ 0 ∷ 0 ∷ 0 ∷
+    1 ∷ 7 ∷ 0 ∷ 0 ∷ []
+
+abbrev names-173 : List ℕ
+names-173 = joined (slotOf (115 ∷ []) ∷ slotOf (101 ∷ []) ∷ slotOf (42 ∷ []) ∷ [])
+
+example-173 : alike (played numbers-173 names-173 []) ((5 ∷ []) ∷ []) ≡ true
+unfolding everything joined historyShown queueShown shown playedIf played alike
+example-173 = refl
+
+-- unclosed if around a closed one
+abbrev numbers-174 : List ℕ
+numbers-174 = 2 ∷ 1 ∷ 1 ∷ 2 ∷ 4 ∷ 3 ∷ 0 ∷ 65535 ∷ 65535 ∷ 0 ∷ 0 ∷ 0 ∷ 0 ∷ 0 ∷ 0 ∷ 0 ∷ 0 ∷ 1 ∷ 0 ∷ 0 ∷ 0 ∷ 0 ∷ 0 ∷ 0 ∷
+    0 ∷ 0 ∷ 0 ∷ 0 ∷ 1 ∷ 0 ∷ 2 ∷ 65535 ∷ 0 ∷ 0 ∷ 1 ∷ 0 ∷ 4 ∷ 1 ∷ 1 ∷ 2 ∷ 2 ∷ 1 ∷ 0 ∷ 0 ∷ 2 ∷ 1 ∷ 0 ∷ 0 ∷ 1 ∷ 7 ∷ 0 ∷ 0 ∷
+    5 ∷ 0 ∷ 0 ∷ 0 ∷ []
+
+abbrev names-174 : List ℕ
+names-174 = joined (slotOf (115 ∷ []) ∷ slotOf (101 ∷ []) ∷ slotOf (42 ∷ []) ∷ [])
+
+example-174 : alike (played numbers-174 names-174 []) ((5 ∷ []) ∷ []) ≡ true
+unfolding everything joined historyShown queueShown shown playedIf played alike
+example-174 = refl
+
+-- unclosed if behind a closed one
+abbrev numbers-175 : List ℕ
+numbers-175 = 2 ∷ 1 ∷ 1 ∷ 2 ∷ 3 ∷ 3 ∷ 0 ∷ 65535 ∷ 65535 ∷ 0 ∷ 0 ∷ 0 ∷ 0 ∷ 0 ∷ 0 ∷ 0 ∷ 0 ∷ 1 ∷ 0 ∷ 0 ∷ 0 ∷ 0 ∷ 0 ∷ 0 ∷
+    0 ∷ 0 ∷ 0 ∷ 0 ∷ 1 ∷ 0 ∷ 2 ∷ 65535 ∷ 0 ∷ 0 ∷ 1 ∷ 0 ∷ 3 ∷ 1 ∷ 1 ∷ 2 ∷ 2 ∷ 1 ∷ 0 ∷ 0 ∷ 5 ∷ 0 ∷ 0 ∷ 0 ∷ 2 ∷ 1 ∷ 0 ∷ 0 ∷
+    []
+
+abbrev names-175 : List ℕ
+names-175 = joined (slotOf (115 ∷ []) ∷ slotOf (101 ∷ []) ∷ slotOf (42 ∷ []) ∷ [])
+
+example-175 : alike (played numbers-175 names-175 []) ((5 ∷ []) ∷ []) ≡ true
+unfolding everything joined historyShown queueShown shown playedIf played alike
+example-175 = refl
+
+-- a fifth level
+abbrev numbers-176 : List ℕ
+numbers-176 = 2 ∷ 1 ∷ 1 ∷ 2 ∷ 10 ∷ 3 ∷ 0 ∷ 65535 ∷ 65535 ∷ 0 ∷ 0 ∷ 0 ∷ 0 ∷ 0 ∷ 0 ∷ 0 ∷ 0 ∷ 1 ∷ 0 ∷ 0 ∷ 0 ∷ 0 ∷ 0 ∷ 0 ∷
+    0 ∷ 0 ∷ 0 ∷ 0 ∷ 1 ∷ 0 ∷ 2 ∷ 65535 ∷ 0 ∷ 0 ∷ 1 ∷ 0 ∷ 10 ∷ 1 ∷ 1 ∷ 2 ∷ 2 ∷ 1 ∷ 0 ∷ 0 ∷ 2 ∷ 1 ∷ 0 ∷ 0 ∷ 2 ∷ 1 ∷ 0 ∷
+    0 ∷ 2 ∷ 1 ∷ 0 ∷ 0 ∷ 2 ∷ 1 ∷ 0 ∷ 0 ∷ 5 ∷ 0 ∷ 0 ∷ 0 ∷ 5 ∷ 0 ∷ 0 ∷ 0 ∷ 5 ∷ 0 ∷ 0 ∷ 0 ∷ 5 ∷ 0 ∷ 0 ∷ 0 ∷ 5 ∷ 0 ∷ 0 ∷ 0 ∷
+    []
+
+abbrev names-176 : List ℕ
+names-176 = joined (slotOf (115 ∷ []) ∷ slotOf (101 ∷ []) ∷ slotOf (42 ∷ []) ∷ [])
+
+example-176 : alike (played numbers-176 names-176 []) ((5 ∷ []) ∷ []) ≡ true
+unfolding everything joined historyShown queueShown shown playedIf played alike
+example-176 = refl
+
+-- a fifth level in an else
+abbrev numbers-177 : List ℕ
+numbers-177 = 2 ∷ 1 ∷ 1 ∷ 2 ∷ 11 ∷ 3 ∷ 0 ∷ 65535 ∷ 65535 ∷ 0 ∷ 0 ∷ 0 ∷ 0 ∷ 0 ∷ 0 ∷ 0 ∷ 0 ∷ 1 ∷ 0 ∷ 0 ∷ 0 ∷ 0 ∷ 0 ∷ 0 ∷
+    0 ∷ 0 ∷ 0 ∷ 0 ∷ 1 ∷ 0 ∷ 2 ∷ 65535 ∷ 0 ∷ 0 ∷ 1 ∷ 0 ∷ 11 ∷ 1 ∷ 1 ∷ 2 ∷ 2 ∷ 1 ∷ 0 ∷ 0 ∷ 4 ∷ 0 ∷ 0 ∷ 0 ∷ 2 ∷ 1 ∷ 0 ∷
+    0 ∷ 2 ∷ 1 ∷ 0 ∷ 0 ∷ 2 ∷ 1 ∷ 0 ∷ 0 ∷ 2 ∷ 1 ∷ 0 ∷ 0 ∷ 5 ∷ 0 ∷ 0 ∷ 0 ∷ 5 ∷ 0 ∷ 0 ∷ 0 ∷ 5 ∷ 0 ∷ 0 ∷ 0 ∷ 5 ∷ 0 ∷ 0 ∷ 0 ∷
+    5 ∷ 0 ∷ 0 ∷ 0 ∷ []
+
+abbrev names-177 : List ℕ
+names-177 = joined (slotOf (115 ∷ []) ∷ slotOf (101 ∷ []) ∷ slotOf (42 ∷ []) ∷ [])
+
+example-177 : alike (played numbers-177 names-177 []) ((5 ∷ []) ∷ []) ≡ true
+unfolding everything joined historyShown queueShown shown playedIf played alike
+example-177 = refl
+
+-- six levels
+abbrev numbers-178 : List ℕ
+numbers-178 = 2 ∷ 1 ∷ 1 ∷ 2 ∷ 12 ∷ 3 ∷ 0 ∷ 65535 ∷ 65535 ∷ 0 ∷ 0 ∷ 0 ∷ 0 ∷ 0 ∷ 0 ∷ 0 ∷ 0 ∷ 1 ∷ 0 ∷ 0 ∷ 0 ∷ 0 ∷ 0 ∷ 0 ∷
+    0 ∷ 0 ∷ 0 ∷ 0 ∷ 1 ∷ 0 ∷ 2 ∷ 65535 ∷ 0 ∷ 0 ∷ 1 ∷ 0 ∷ 12 ∷ 1 ∷ 1 ∷ 2 ∷ 2 ∷ 1 ∷ 0 ∷ 0 ∷ 2 ∷ 1 ∷ 0 ∷ 0 ∷ 2 ∷ 1 ∷ 0 ∷
+    0 ∷ 2 ∷ 1 ∷ 0 ∷ 0 ∷ 2 ∷ 1 ∷ 0 ∷ 0 ∷ 2 ∷ 1 ∷ 0 ∷ 0 ∷ 5 ∷ 0 ∷ 0 ∷ 0 ∷ 5 ∷ 0 ∷ 0 ∷ 0 ∷ 5 ∷ 0 ∷ 0 ∷ 0 ∷ 5 ∷ 0 ∷ 0 ∷ 0 ∷
+    5 ∷ 0 ∷ 0 ∷ 0 ∷ 5 ∷ 0 ∷ 0 ∷ 0 ∷ []
+
+abbrev names-178 : List ℕ
+names-178 = joined (slotOf (115 ∷ []) ∷ slotOf (101 ∷ []) ∷ slotOf (42 ∷ []) ∷ [])
+
+example-178 : alike (played numbers-178 names-178 []) ((5 ∷ []) ∷ []) ≡ true
+unfolding everything joined historyShown queueShown shown playedIf played alike
+example-178 = refl
+
+-- thirty-three actions with an if
+abbrev numbers-179 : List ℕ
+numbers-179 = 2 ∷ 1 ∷ 1 ∷ 2 ∷ 33 ∷ 3 ∷ 0 ∷ 65535 ∷ 65535 ∷ 0 ∷ 0 ∷ 0 ∷ 0 ∷ 0 ∷ 0 ∷ 0 ∷ 0 ∷ 1 ∷ 0 ∷ 0 ∷ 0 ∷ 0 ∷ 0 ∷ 0 ∷
+    0 ∷ 0 ∷ 0 ∷ 0 ∷ 1 ∷ 0 ∷ 2 ∷ 65535 ∷ 0 ∷ 0 ∷ 1 ∷ 0 ∷ 33 ∷ 1 ∷ 1 ∷ 2 ∷ 2 ∷ 1 ∷ 0 ∷ 0 ∷ 1 ∷ 7 ∷ 0 ∷ 0 ∷ 1 ∷ 7 ∷ 0 ∷
+    0 ∷ 1 ∷ 7 ∷ 0 ∷ 0 ∷ 1 ∷ 7 ∷ 0 ∷ 0 ∷ 1 ∷ 7 ∷ 0 ∷ 0 ∷ 1 ∷ 7 ∷ 0 ∷ 0 ∷ 1 ∷ 7 ∷ 0 ∷ 0 ∷ 1 ∷ 7 ∷ 0 ∷ 0 ∷ 1 ∷ 7 ∷ 0 ∷ 0 ∷
+    1 ∷ 7 ∷ 0 ∷ 0 ∷ 1 ∷ 7 ∷ 0 ∷ 0 ∷ 1 ∷ 7 ∷ 0 ∷ 0 ∷ 1 ∷ 7 ∷ 0 ∷ 0 ∷ 1 ∷ 7 ∷ 0 ∷ 0 ∷ 1 ∷ 7 ∷ 0 ∷ 0 ∷ 1 ∷ 7 ∷ 0 ∷ 0 ∷ 1 ∷
+    7 ∷ 0 ∷ 0 ∷ 1 ∷ 7 ∷ 0 ∷ 0 ∷ 1 ∷ 7 ∷ 0 ∷ 0 ∷ 1 ∷ 7 ∷ 0 ∷ 0 ∷ 1 ∷ 7 ∷ 0 ∷ 0 ∷ 1 ∷ 7 ∷ 0 ∷ 0 ∷ 1 ∷ 7 ∷ 0 ∷ 0 ∷ 1 ∷ 7 ∷
+    0 ∷ 0 ∷ 1 ∷ 7 ∷ 0 ∷ 0 ∷ 1 ∷ 7 ∷ 0 ∷ 0 ∷ 1 ∷ 7 ∷ 0 ∷ 0 ∷ 1 ∷ 7 ∷ 0 ∷ 0 ∷ 1 ∷ 7 ∷ 0 ∷ 0 ∷ 1 ∷ 7 ∷ 0 ∷ 0 ∷ 1 ∷ 7 ∷ 0 ∷
+    0 ∷ 5 ∷ 0 ∷ 0 ∷ 0 ∷ []
+
+abbrev names-179 : List ℕ
+names-179 = joined (slotOf (115 ∷ []) ∷ slotOf (101 ∷ []) ∷ slotOf (42 ∷ []) ∷ [])
+
+example-179 : alike (played numbers-179 names-179 []) ((1 ∷ []) ∷ []) ≡ true
+unfolding everything joined historyShown queueShown shown playedIf played alike
+example-179 = refl
+
+-- if In names the root
+abbrev numbers-180 : List ℕ
+numbers-180 = 2 ∷ 1 ∷ 1 ∷ 2 ∷ 2 ∷ 3 ∷ 0 ∷ 65535 ∷ 65535 ∷ 0 ∷ 0 ∷ 0 ∷ 0 ∷ 0 ∷ 0 ∷ 0 ∷ 0 ∷ 1 ∷ 0 ∷ 0 ∷ 0 ∷ 0 ∷ 0 ∷ 0 ∷
+    0 ∷ 0 ∷ 0 ∷ 0 ∷ 1 ∷ 0 ∷ 2 ∷ 65535 ∷ 0 ∷ 0 ∷ 1 ∷ 0 ∷ 2 ∷ 1 ∷ 1 ∷ 2 ∷ 2 ∷ 0 ∷ 0 ∷ 0 ∷ 5 ∷ 0 ∷ 0 ∷ 0 ∷ []
+
+abbrev names-180 : List ℕ
+names-180 = joined (slotOf (115 ∷ []) ∷ slotOf (101 ∷ []) ∷ slotOf (42 ∷ []) ∷ [])
+
+example-180 : alike (played numbers-180 names-180 []) ((5 ∷ []) ∷ []) ≡ true
+unfolding everything joined historyShown queueShown shown playedIf played alike
+example-180 = refl
+
+-- elseif In names the root
+abbrev numbers-181 : List ℕ
+numbers-181 = 2 ∷ 1 ∷ 1 ∷ 2 ∷ 3 ∷ 3 ∷ 0 ∷ 65535 ∷ 65535 ∷ 0 ∷ 0 ∷ 0 ∷ 0 ∷ 0 ∷ 0 ∷ 0 ∷ 0 ∷ 1 ∷ 0 ∷ 0 ∷ 0 ∷ 0 ∷ 0 ∷ 0 ∷
+    0 ∷ 0 ∷ 0 ∷ 0 ∷ 1 ∷ 0 ∷ 2 ∷ 65535 ∷ 0 ∷ 0 ∷ 1 ∷ 0 ∷ 3 ∷ 1 ∷ 1 ∷ 2 ∷ 2 ∷ 1 ∷ 0 ∷ 0 ∷ 3 ∷ 0 ∷ 0 ∷ 0 ∷ 5 ∷ 0 ∷ 0 ∷ 0 ∷
+    []
+
+abbrev names-181 : List ℕ
+names-181 = joined (slotOf (115 ∷ []) ∷ slotOf (101 ∷ []) ∷ slotOf (42 ∷ []) ∷ [])
+
+example-181 : alike (played numbers-181 names-181 []) ((5 ∷ []) ∷ []) ≡ true
+unfolding everything joined historyShown queueShown shown playedIf played alike
+example-181 = refl
+
+-- if In names a history
+abbrev numbers-182 : List ℕ
+numbers-182 = 6 ∷ 1 ∷ 3 ∷ 1 ∷ 3 ∷ 6 ∷ 0 ∷ 65535 ∷ 65535 ∷ 0 ∷ 0 ∷ 0 ∷ 0 ∷ 0 ∷ 0 ∷ 0 ∷ 0 ∷ 1 ∷ 0 ∷ 0 ∷ 0 ∷ 3 ∷ 0 ∷ 0 ∷
+    0 ∷ 0 ∷ 0 ∷ 0 ∷ 1 ∷ 1 ∷ 1 ∷ 0 ∷ 0 ∷ 0 ∷ 0 ∷ 0 ∷ 0 ∷ 0 ∷ 0 ∷ 1 ∷ 1 ∷ 2 ∷ 0 ∷ 0 ∷ 0 ∷ 0 ∷ 0 ∷ 0 ∷ 0 ∷ 0 ∷ 4 ∷ 1 ∷ 3 ∷
+    0 ∷ 0 ∷ 0 ∷ 0 ∷ 0 ∷ 1 ∷ 0 ∷ 0 ∷ 5 ∷ 1 ∷ 4 ∷ 0 ∷ 0 ∷ 0 ∷ 0 ∷ 1 ∷ 1 ∷ 0 ∷ 0 ∷ 2 ∷ 0 ∷ 1 ∷ 65535 ∷ 0 ∷ 2 ∷ 1 ∷ 0 ∷ 0 ∷
+    2 ∷ 3 ∷ 4 ∷ 5 ∷ 2 ∷ 5 ∷ 0 ∷ 0 ∷ 1 ∷ 7 ∷ 0 ∷ 0 ∷ 5 ∷ 0 ∷ 0 ∷ 0 ∷ []
+
+abbrev names-182 : List ℕ
+names-182 = joined (slotOf (115 ∷ []) ∷ slotOf (97 ∷ []) ∷ slotOf (98 ∷ []) ∷ slotOf (104 ∷ []) ∷ slotOf (100 ∷ []) ∷
+    slotOf (101 ∷ []) ∷ [])
+
+example-182 : alike (played numbers-182 names-182 []) ((5 ∷ []) ∷ []) ≡ true
+unfolding everything joined historyShown queueShown shown playedIf played alike
+example-182 = refl
+
+-- elseif In names a history
+abbrev numbers-183 : List ℕ
+numbers-183 = 6 ∷ 1 ∷ 3 ∷ 1 ∷ 4 ∷ 6 ∷ 0 ∷ 65535 ∷ 65535 ∷ 0 ∷ 0 ∷ 0 ∷ 0 ∷ 0 ∷ 0 ∷ 0 ∷ 0 ∷ 1 ∷ 0 ∷ 0 ∷ 0 ∷ 4 ∷ 0 ∷ 0 ∷
+    0 ∷ 0 ∷ 0 ∷ 0 ∷ 1 ∷ 1 ∷ 1 ∷ 0 ∷ 0 ∷ 0 ∷ 0 ∷ 0 ∷ 0 ∷ 0 ∷ 0 ∷ 1 ∷ 1 ∷ 2 ∷ 0 ∷ 0 ∷ 0 ∷ 0 ∷ 0 ∷ 0 ∷ 0 ∷ 0 ∷ 4 ∷ 1 ∷ 3 ∷
+    0 ∷ 0 ∷ 0 ∷ 0 ∷ 0 ∷ 1 ∷ 0 ∷ 0 ∷ 5 ∷ 1 ∷ 4 ∷ 0 ∷ 0 ∷ 0 ∷ 0 ∷ 1 ∷ 1 ∷ 0 ∷ 0 ∷ 2 ∷ 0 ∷ 1 ∷ 65535 ∷ 0 ∷ 2 ∷ 1 ∷ 0 ∷ 0 ∷
+    2 ∷ 3 ∷ 4 ∷ 5 ∷ 2 ∷ 1 ∷ 0 ∷ 0 ∷ 1 ∷ 7 ∷ 0 ∷ 0 ∷ 3 ∷ 5 ∷ 0 ∷ 0 ∷ 5 ∷ 0 ∷ 0 ∷ 0 ∷ []
+
+abbrev names-183 : List ℕ
+names-183 = joined (slotOf (115 ∷ []) ∷ slotOf (97 ∷ []) ∷ slotOf (98 ∷ []) ∷ slotOf (104 ∷ []) ∷ slotOf (100 ∷ []) ∷
+    slotOf (101 ∷ []) ∷ [])
+
+example-183 : alike (played numbers-183 names-183 []) ((5 ∷ []) ∷ []) ≡ true
+unfolding everything joined historyShown queueShown shown playedIf played alike
+example-183 = refl
+
+-- if of a row past the rows
+abbrev numbers-184 : List ℕ
+numbers-184 = 2 ∷ 1 ∷ 1 ∷ 2 ∷ 3 ∷ 3 ∷ 0 ∷ 65535 ∷ 65535 ∷ 0 ∷ 0 ∷ 0 ∷ 0 ∷ 0 ∷ 0 ∷ 0 ∷ 0 ∷ 1 ∷ 0 ∷ 0 ∷ 0 ∷ 0 ∷ 0 ∷ 0 ∷
+    0 ∷ 0 ∷ 0 ∷ 0 ∷ 1 ∷ 0 ∷ 2 ∷ 65535 ∷ 0 ∷ 0 ∷ 1 ∷ 0 ∷ 2 ∷ 1 ∷ 1 ∷ 2 ∷ 0 ∷ 1 ∷ 0 ∷ 0 ∷ 1 ∷ 1 ∷ 0 ∷ 0 ∷ 2 ∷ 2 ∷ 0 ∷ 0 ∷
+    []
+
+abbrev names-184 : List ℕ
+names-184 = joined (slotOf (115 ∷ []) ∷ slotOf (101 ∷ []) ∷ slotOf (42 ∷ []) ∷ [])
+
+example-184 : alike (played numbers-184 names-184 []) ((1 ∷ []) ∷ []) ≡ true
+unfolding everything joined historyShown queueShown shown playedIf played alike
+example-184 = refl
+
+-- elseif of a row past the rows
+abbrev numbers-185 : List ℕ
+numbers-185 = 2 ∷ 1 ∷ 1 ∷ 2 ∷ 3 ∷ 3 ∷ 0 ∷ 65535 ∷ 65535 ∷ 0 ∷ 0 ∷ 0 ∷ 0 ∷ 0 ∷ 0 ∷ 0 ∷ 0 ∷ 1 ∷ 0 ∷ 0 ∷ 0 ∷ 0 ∷ 0 ∷ 0 ∷
+    0 ∷ 0 ∷ 0 ∷ 0 ∷ 1 ∷ 0 ∷ 2 ∷ 65535 ∷ 0 ∷ 0 ∷ 1 ∷ 0 ∷ 2 ∷ 1 ∷ 1 ∷ 2 ∷ 0 ∷ 1 ∷ 0 ∷ 0 ∷ 1 ∷ 1 ∷ 0 ∷ 0 ∷ 3 ∷ 2 ∷ 0 ∷ 0 ∷
+    []
+
+abbrev names-185 : List ℕ
+names-185 = joined (slotOf (115 ∷ []) ∷ slotOf (101 ∷ []) ∷ slotOf (42 ∷ []) ∷ [])
+
+example-185 : alike (played numbers-185 names-185 []) ((1 ∷ []) ∷ []) ≡ true
+unfolding everything joined historyShown queueShown shown playedIf played alike
+example-185 = refl
+
+-- if of none
+abbrev numbers-186 : List ℕ
+numbers-186 = 2 ∷ 1 ∷ 1 ∷ 2 ∷ 3 ∷ 3 ∷ 0 ∷ 65535 ∷ 65535 ∷ 0 ∷ 0 ∷ 0 ∷ 0 ∷ 0 ∷ 0 ∷ 0 ∷ 0 ∷ 1 ∷ 0 ∷ 0 ∷ 0 ∷ 0 ∷ 0 ∷ 0 ∷
+    0 ∷ 0 ∷ 0 ∷ 0 ∷ 1 ∷ 0 ∷ 2 ∷ 65535 ∷ 0 ∷ 0 ∷ 1 ∷ 0 ∷ 2 ∷ 1 ∷ 1 ∷ 2 ∷ 0 ∷ 1 ∷ 0 ∷ 0 ∷ 1 ∷ 1 ∷ 0 ∷ 0 ∷ 2 ∷ 65535 ∷ 0 ∷
+    0 ∷ []
+
+abbrev names-186 : List ℕ
+names-186 = joined (slotOf (115 ∷ []) ∷ slotOf (101 ∷ []) ∷ slotOf (42 ∷ []) ∷ [])
+
+example-186 : alike (played numbers-186 names-186 []) ((1 ∷ []) ∷ []) ≡ true
+unfolding everything joined historyShown queueShown shown playedIf played alike
+example-186 = refl
+
+-- elseif of a huge row
+abbrev numbers-187 : List ℕ
+numbers-187 = 2 ∷ 1 ∷ 1 ∷ 2 ∷ 3 ∷ 3 ∷ 0 ∷ 65535 ∷ 65535 ∷ 0 ∷ 0 ∷ 0 ∷ 0 ∷ 0 ∷ 0 ∷ 0 ∷ 0 ∷ 1 ∷ 0 ∷ 0 ∷ 0 ∷ 0 ∷ 0 ∷ 0 ∷
+    0 ∷ 0 ∷ 0 ∷ 0 ∷ 1 ∷ 0 ∷ 2 ∷ 65535 ∷ 0 ∷ 0 ∷ 1 ∷ 0 ∷ 2 ∷ 1 ∷ 1 ∷ 2 ∷ 0 ∷ 1 ∷ 0 ∷ 0 ∷ 1 ∷ 1 ∷ 0 ∷ 0 ∷ 3 ∷
+    18446744073709551615 ∷ 0 ∷ 0 ∷ []
+
+abbrev names-187 : List ℕ
+names-187 = joined (slotOf (115 ∷ []) ∷ slotOf (101 ∷ []) ∷ slotOf (42 ∷ []) ∷ [])
+
+example-187 : alike (played numbers-187 names-187 []) ((1 ∷ []) ∷ []) ≡ true
+unfolding everything joined historyShown queueShown shown playedIf played alike
+example-187 = refl
+
+-- else of a row
+abbrev numbers-188 : List ℕ
+numbers-188 = 2 ∷ 1 ∷ 1 ∷ 2 ∷ 3 ∷ 3 ∷ 0 ∷ 65535 ∷ 65535 ∷ 0 ∷ 0 ∷ 0 ∷ 0 ∷ 0 ∷ 0 ∷ 0 ∷ 0 ∷ 1 ∷ 0 ∷ 0 ∷ 0 ∷ 0 ∷ 0 ∷ 0 ∷
+    0 ∷ 0 ∷ 0 ∷ 0 ∷ 1 ∷ 0 ∷ 2 ∷ 65535 ∷ 0 ∷ 0 ∷ 1 ∷ 0 ∷ 2 ∷ 1 ∷ 1 ∷ 2 ∷ 0 ∷ 1 ∷ 0 ∷ 0 ∷ 1 ∷ 1 ∷ 0 ∷ 0 ∷ 4 ∷ 1 ∷ 0 ∷ 0 ∷
+    []
+
+abbrev names-188 : List ℕ
+names-188 = joined (slotOf (115 ∷ []) ∷ slotOf (101 ∷ []) ∷ slotOf (42 ∷ []) ∷ [])
+
+example-188 : alike (played numbers-188 names-188 []) ((1 ∷ []) ∷ []) ≡ true
+unfolding everything joined historyShown queueShown shown playedIf played alike
+example-188 = refl
+
+-- else of none
+abbrev numbers-189 : List ℕ
+numbers-189 = 2 ∷ 1 ∷ 1 ∷ 2 ∷ 3 ∷ 3 ∷ 0 ∷ 65535 ∷ 65535 ∷ 0 ∷ 0 ∷ 0 ∷ 0 ∷ 0 ∷ 0 ∷ 0 ∷ 0 ∷ 1 ∷ 0 ∷ 0 ∷ 0 ∷ 0 ∷ 0 ∷ 0 ∷
+    0 ∷ 0 ∷ 0 ∷ 0 ∷ 1 ∷ 0 ∷ 2 ∷ 65535 ∷ 0 ∷ 0 ∷ 1 ∷ 0 ∷ 2 ∷ 1 ∷ 1 ∷ 2 ∷ 0 ∷ 1 ∷ 0 ∷ 0 ∷ 1 ∷ 1 ∷ 0 ∷ 0 ∷ 4 ∷ 65535 ∷ 0 ∷
+    0 ∷ []
+
+abbrev names-189 : List ℕ
+names-189 = joined (slotOf (115 ∷ []) ∷ slotOf (101 ∷ []) ∷ slotOf (42 ∷ []) ∷ [])
+
+example-189 : alike (played numbers-189 names-189 []) ((1 ∷ []) ∷ []) ≡ true
+unfolding everything joined historyShown queueShown shown playedIf played alike
+example-189 = refl
+
+-- end of a row
+abbrev numbers-190 : List ℕ
+numbers-190 = 2 ∷ 1 ∷ 1 ∷ 2 ∷ 3 ∷ 3 ∷ 0 ∷ 65535 ∷ 65535 ∷ 0 ∷ 0 ∷ 0 ∷ 0 ∷ 0 ∷ 0 ∷ 0 ∷ 0 ∷ 1 ∷ 0 ∷ 0 ∷ 0 ∷ 0 ∷ 0 ∷ 0 ∷
+    0 ∷ 0 ∷ 0 ∷ 0 ∷ 1 ∷ 0 ∷ 2 ∷ 65535 ∷ 0 ∷ 0 ∷ 1 ∷ 0 ∷ 2 ∷ 1 ∷ 1 ∷ 2 ∷ 0 ∷ 1 ∷ 0 ∷ 0 ∷ 1 ∷ 1 ∷ 0 ∷ 0 ∷ 5 ∷ 1 ∷ 0 ∷ 0 ∷
+    []
+
+abbrev names-190 : List ℕ
+names-190 = joined (slotOf (115 ∷ []) ∷ slotOf (101 ∷ []) ∷ slotOf (42 ∷ []) ∷ [])
+
+example-190 : alike (played numbers-190 names-190 []) ((1 ∷ []) ∷ []) ≡ true
+unfolding everything joined historyShown queueShown shown playedIf played alike
+example-190 = refl
+
+-- if with a delay
+abbrev numbers-191 : List ℕ
+numbers-191 = 2 ∷ 1 ∷ 1 ∷ 2 ∷ 3 ∷ 3 ∷ 0 ∷ 65535 ∷ 65535 ∷ 0 ∷ 0 ∷ 0 ∷ 0 ∷ 0 ∷ 0 ∷ 0 ∷ 0 ∷ 1 ∷ 0 ∷ 0 ∷ 0 ∷ 0 ∷ 0 ∷ 0 ∷
+    0 ∷ 0 ∷ 0 ∷ 0 ∷ 1 ∷ 0 ∷ 2 ∷ 65535 ∷ 0 ∷ 0 ∷ 1 ∷ 0 ∷ 2 ∷ 1 ∷ 1 ∷ 2 ∷ 0 ∷ 1 ∷ 0 ∷ 0 ∷ 1 ∷ 1 ∷ 0 ∷ 0 ∷ 2 ∷ 1 ∷ 1 ∷ 0 ∷
+    []
+
+abbrev names-191 : List ℕ
+names-191 = joined (slotOf (115 ∷ []) ∷ slotOf (101 ∷ []) ∷ slotOf (42 ∷ []) ∷ [])
+
+example-191 : alike (played numbers-191 names-191 []) ((1 ∷ []) ∷ []) ≡ true
+unfolding everything joined historyShown queueShown shown playedIf played alike
+example-191 = refl
+
+-- elseif with a send id
+abbrev numbers-192 : List ℕ
+numbers-192 = 2 ∷ 1 ∷ 1 ∷ 2 ∷ 3 ∷ 3 ∷ 0 ∷ 65535 ∷ 65535 ∷ 0 ∷ 0 ∷ 0 ∷ 0 ∷ 0 ∷ 0 ∷ 0 ∷ 0 ∷ 1 ∷ 0 ∷ 0 ∷ 0 ∷ 0 ∷ 0 ∷ 0 ∷
+    0 ∷ 0 ∷ 0 ∷ 0 ∷ 1 ∷ 0 ∷ 2 ∷ 65535 ∷ 0 ∷ 0 ∷ 1 ∷ 0 ∷ 2 ∷ 1 ∷ 1 ∷ 2 ∷ 0 ∷ 1 ∷ 0 ∷ 0 ∷ 1 ∷ 1 ∷ 0 ∷ 0 ∷ 3 ∷ 1 ∷ 0 ∷ 1 ∷
+    []
+
+abbrev names-192 : List ℕ
+names-192 = joined (slotOf (115 ∷ []) ∷ slotOf (101 ∷ []) ∷ slotOf (42 ∷ []) ∷ [])
+
+example-192 : alike (played numbers-192 names-192 []) ((1 ∷ []) ∷ []) ≡ true
+unfolding everything joined historyShown queueShown shown playedIf played alike
+example-192 = refl
+
+-- else with a delay
+abbrev numbers-193 : List ℕ
+numbers-193 = 2 ∷ 1 ∷ 1 ∷ 2 ∷ 3 ∷ 3 ∷ 0 ∷ 65535 ∷ 65535 ∷ 0 ∷ 0 ∷ 0 ∷ 0 ∷ 0 ∷ 0 ∷ 0 ∷ 0 ∷ 1 ∷ 0 ∷ 0 ∷ 0 ∷ 0 ∷ 0 ∷ 0 ∷
+    0 ∷ 0 ∷ 0 ∷ 0 ∷ 1 ∷ 0 ∷ 2 ∷ 65535 ∷ 0 ∷ 0 ∷ 1 ∷ 0 ∷ 2 ∷ 1 ∷ 1 ∷ 2 ∷ 0 ∷ 1 ∷ 0 ∷ 0 ∷ 1 ∷ 1 ∷ 0 ∷ 0 ∷ 4 ∷ 0 ∷ 1 ∷ 0 ∷
+    []
+
+abbrev names-193 : List ℕ
+names-193 = joined (slotOf (115 ∷ []) ∷ slotOf (101 ∷ []) ∷ slotOf (42 ∷ []) ∷ [])
+
+example-193 : alike (played numbers-193 names-193 []) ((1 ∷ []) ∷ []) ≡ true
+unfolding everything joined historyShown queueShown shown playedIf played alike
+example-193 = refl
+
+-- end with a send id
+abbrev numbers-194 : List ℕ
+numbers-194 = 2 ∷ 1 ∷ 1 ∷ 2 ∷ 3 ∷ 3 ∷ 0 ∷ 65535 ∷ 65535 ∷ 0 ∷ 0 ∷ 0 ∷ 0 ∷ 0 ∷ 0 ∷ 0 ∷ 0 ∷ 1 ∷ 0 ∷ 0 ∷ 0 ∷ 0 ∷ 0 ∷ 0 ∷
+    0 ∷ 0 ∷ 0 ∷ 0 ∷ 1 ∷ 0 ∷ 2 ∷ 65535 ∷ 0 ∷ 0 ∷ 1 ∷ 0 ∷ 2 ∷ 1 ∷ 1 ∷ 2 ∷ 0 ∷ 1 ∷ 0 ∷ 0 ∷ 1 ∷ 1 ∷ 0 ∷ 0 ∷ 5 ∷ 0 ∷ 0 ∷
+    65535 ∷ []
+
+abbrev names-194 : List ℕ
+names-194 = joined (slotOf (115 ∷ []) ∷ slotOf (101 ∷ []) ∷ slotOf (42 ∷ []) ∷ [])
+
+example-194 : alike (played numbers-194 names-194 []) ((1 ∷ []) ∷ []) ≡ true
+unfolding everything joined historyShown queueShown shown playedIf played alike
+example-194 = refl
