@@ -16,7 +16,7 @@ static std::string spelt(char letter, size_t number, size_t bytes)
 }
 
 // All rows but two are active states without children, each with two transitions of four descriptors that differ from the event at their ends alone; the very last one
-// matches and raises the event again. So each round tries every descriptor of the chart and writes two entries, and nothing but the room ends a run.
+// matches and raises the event again. So each round tries every descriptor of the chart and writes three entries, and nothing but the room ends a run.
 static Description dear(size_t rows, const std::string &event)
 {
     Description d;

@@ -112,12 +112,10 @@ REFUSALS = {
         [3, 0, 0, 0, 0, 1, 0, 65535, 65535, 0, 0, 0, 0, 0, 0, 0, 0, 1, 0, 0, 0, 0, 0, 0, 0, 0, 0, 0, 1, 0, 0, 0, 0, 0, 0, 0, 0, 0, 0],
         None,
     ),
-    "nine-actions": (
-        "<scxml><state id='a'><onentry><log label='1'/><log label='1'/><log label='1'/><log label='1'/><log label='1'/>"
-        "</onentry><onentry><log label='1'/><log label='1'/><log label='1'/><log label='1'/></onentry></state></scxml>",
+    "many-actions": (
+        "<scxml><state id='a'><onentry>" + "<log label='1'/>" * 17 + "</onentry><onentry>" + "<log label='1'/>" * 16 + "</onentry></state></scxml>",
         1,
-        [2, 0, 0, 0, 9, 1, 0, 65535, 65535, 0, 0, 0, 0, 0, 0, 0, 0, 1, 0, 0, 0, 9, 9, 0, 0, 0, 9, 0, 1, 1, 0, 0, 1, 1, 0, 0, 1, 1, 0, 0, 1,
-         1, 0, 0, 1, 1, 0, 0, 1, 1, 0, 0, 1, 1, 0, 0, 1, 1, 0, 0, 1, 1, 0, 0],
+        [2, 0, 0, 0, 33, 1, 0, 65535, 65535, 0, 0, 0, 0, 0, 0, 0, 0, 1, 0, 0, 0, 33, 33, 0, 0, 0, 33, 0] + [1, 1, 0, 0] * 33,
         None,
     ),
     "five-descriptors": (
@@ -127,18 +125,9 @@ REFUSALS = {
          3, 4],
         None,
     ),
-    "if-elseif-else": (
-        '<scxml><state id=\'s\'/><state id=\'t\'><onentry><if cond="In(\'s\')"><raise event=\'x\'/><elseif cond="In(\'t\')"/>'
-        '<log label=\'2\'/><else/><if cond="In(\'s\')"/></if></onentry></state></scxml>',
-        1,
-        [3, 0, 0, 0, 8, 3, 0, 65535, 65535, 0, 0, 0, 0, 0, 0, 0, 0, 1, 0, 0, 0, 0, 0, 0, 0, 0, 0, 0, 1, 0, 1, 0, 8, 8, 0, 0, 0, 8, 0, 2, 1,
-         0, 0, 0, 2, 0, 0, 3, 2, 0, 0, 1, 2, 0, 0, 4, 0, 0, 0, 2, 1, 0, 0, 5, 0, 0, 0, 5, 0, 0, 0],
-        '><state id="s"/><state id="t"><onentry><if cond="In(\'s\')"><raise event="x"/><elseif cond="In(\'t\')"/>'
-        '<log label="2"/><else/><if cond="In(\'s\')"/></if></onentry></state></scxml>',
-    ),
     "stray-else": (
         "<scxml><state id='s'/><state id='t'><onentry><else/></onentry></state></scxml>",
-        1,
+        5,
         [3, 0, 0, 0, 1, 2, 0, 65535, 65535, 0, 0, 0, 0, 0, 0, 0, 0, 1, 0, 0, 0, 0, 0, 0, 0, 0, 0, 0, 1, 0, 1, 0, 1, 1, 0, 0, 0, 1, 0, 4, 0,
          0, 0],
         '><state id="s"/><state id="t"><onentry><else/></onentry></state></scxml>',
@@ -162,6 +151,15 @@ REFUSALS = {
 
 # name: the text, the numbers of its tables, its names by first use, what is written of it behind ROOT
 CHARTS = {
+    "if-elseif-else": (
+        '<scxml><state id=\'s\'/><state id=\'t\'><onentry><if cond="In(\'s\')"><raise event=\'x\'/><elseif cond="In(\'t\')"/>'
+        '<log label=\'2\'/><else/><if cond="In(\'s\')"/></if></onentry></state></scxml>',
+        [3, 0, 0, 0, 8, 3, 0, 65535, 65535, 0, 0, 0, 0, 0, 0, 0, 0, 1, 0, 0, 0, 0, 0, 0, 0, 0, 0, 0, 1, 0, 1, 0, 8, 8, 0, 0, 0, 8, 0, 2, 1,
+         0, 0, 0, 2, 0, 0, 3, 2, 0, 0, 1, 2, 0, 0, 4, 0, 0, 0, 2, 1, 0, 0, 5, 0, 0, 0, 5, 0, 0, 0],
+        ["s", "t", "x"],
+        '><state id="s"/><state id="t"><onentry><if cond="In(\'s\')"><raise event="x"/><elseif cond="In(\'t\')"/>'
+        '<log label="2"/><else/><if cond="In(\'s\')"/></if></onentry></state></scxml>',
+    ),
     "delete-byte": (
         "<scxml><!--\x7f--><state id='a'/></scxml>",
         [2, 0, 0, 0, 0, 1, 0, 65535, 65535, 0, 0, 0, 0, 0, 0, 0, 0, 1, 0, 0, 0, 0, 0, 0, 0, 0, 0, 0],

@@ -145,19 +145,23 @@ static void random_calls(void)
     for (i = 0; i < calls; i++) {
         uint64_t random = next_random();
         const char *id = ids[next_random() % (random % 64 == 0 ? COUNT(ids) : 2)];
-        switch (random % 10) {
+        switch (random % 12) {
         case 0: auttervil_add_entry(&b, id); break;
         case 1: auttervil_add_list(&b, id, targets[next_random() % COUNT(targets)]); break;
         case 2: auttervil_add_host(&b, next_random() % 64 == 0 ? 65536 : 1); break;
         case 3: auttervil_add_raise(&b, events[0]); break;
         case 4: auttervil_add_if(&b, id); break;
         case 5:
-            if (auttervil_open_ifs(&b) > 0)
+            if (auttervil_open_ifs(&b) > 0 || random % 8 == 0)
                 auttervil_add_elseif(&b, id);
             break;
         case 6:
-            if (auttervil_open_ifs(&b) > 0)
+            if (auttervil_open_ifs(&b) > 0 || random % 8 == 0)
                 auttervil_end_if(&b);
+            break;
+        case 7:
+            if (auttervil_open_ifs(&b) > 0 || random % 8 == 0)
+                auttervil_add_else(&b);
             break;
         default: auttervil_add_transition(&b, id, events[next_random() % COUNT(events)], targets[next_random() % COUNT(targets)]);
         }

@@ -59,13 +59,13 @@ static void start(lent *l)
     CHECK(started.answer == AUTTERVIL_DONE);
 }
 
-/* The runs of chart A that document 01 marks. */
+/* The runs of chart A that document 01 marks, with the rows that chose (document 02). */
 static void marked_runs(void)
 {
     static const uint32_t at_start[] = {3 << 16 | 1, 3 << 16 | 2, 3 << 16 | 3, 3 << 16 | 6, 3 << 16 | 7, 0};
-    static const uint32_t at_e4[] = {1 << 16 | 3, 2 << 16 | 1, 3 << 16 | 4, 0};
-    static const uint32_t at_e1[] = {1 << 16 | 7, 1 << 16 | 4, 2 << 16 | 2, 2 << 16 | 3, 3 << 16 | 5, 6 << 16 | 2, 3 << 16 | 8, 0};
-    static const uint32_t at_e2[] = {1 << 16 | 8, 2 << 16 | 4, 3 << 16 | 9, 6 << 16 | 6, 6 << 16 | 1, 0};
+    static const uint32_t at_e4[] = {1 << 16 | 3, 2 << 16 | 1, 7 << 16 | 3, 3 << 16 | 4, 0};
+    static const uint32_t at_e1[] = {1 << 16 | 7, 1 << 16 | 4, 2 << 16 | 2, 7 << 16 | 4, 2 << 16 | 3, 7 << 16 | 7, 3 << 16 | 5, 6 << 16 | 2, 3 << 16 | 8, 0};
+    static const uint32_t at_e2[] = {1 << 16 | 8, 2 << 16 | 4, 7 << 16 | 8, 3 << 16 | 9, 6 << 16 | 6, 6 << 16 | 1, 0};
     auttervil_started started = auttervil_start(&a.session, &a.chart, a.trace, COUNT(a.trace));
     auttervil_ran ran;
     uint32_t rounds;
@@ -87,15 +87,15 @@ static void marked_runs(void)
     CHECK(auttervil_is_active(&a.session, 10) && a.session.configuration[0] == UINT64_C(1) << 10);
     start(&a);
     run_event(&a, "e4", 10, AUTTERVIL_IDLE, at_e4);
-    run_event(&a, "e11", 10, AUTTERVIL_IDLE, at_e4 + 3);
+    run_event(&a, "e11", 10, AUTTERVIL_IDLE, at_e4 + 4);
     run_event(&a, "e1.x", 1, AUTTERVIL_MORE, at_e1);
 }
 
 static void door_runs(void)
 {
     static const uint32_t at_start[] = {196609, 262145, 262146, 196611, 0};
-    static const uint32_t at_close[] = {1 << 16 | 3, 4 << 16 | 2, 2 << 16 | 2, 4 << 16 | 7, 5 << 16 | 7, 3 << 16 | 4, 0};
-    static const uint32_t at_quit[] = {1 << 16 | 4, 1 << 16 | 1, 2 << 16 | 1, 3 << 16 | 6, 1 << 16 | 6, 0};
+    static const uint32_t at_close[] = {1 << 16 | 3, 4 << 16 | 2, 2 << 16 | 2, 7 << 16 | 3, 4 << 16 | 7, 5 << 16 | 7, 3 << 16 | 4, 0};
+    static const uint32_t at_quit[] = {1 << 16 | 4, 1 << 16 | 1, 2 << 16 | 1, 7 << 16 | 4, 3 << 16 | 6, 1 << 16 | 6, 0};
     auttervil_started started = auttervil_start(&door.session, &door.chart, door.trace, COUNT(door.trace));
     uint32_t close[COUNT(at_close)];
     uint64_t raised = 0;
@@ -103,7 +103,7 @@ static void door_runs(void)
     while (auttervil_name(&door.chart, raised) != NULL && strcmp(auttervil_name(&door.chart, raised), "did.close") != 0)
         raised++;
     memcpy(close, at_close, sizeof close);
-    close[4] = entry(AUTTERVIL_TRACE_RAISED, (uint32_t)raised);
+    close[5] = entry(AUTTERVIL_TRACE_RAISED, (uint32_t)raised);
     run_event(&door, "close", 9, AUTTERVIL_IDLE, close);
     CHECK(auttervil_has_stored(&door.session, 2, 3) == 0);
     run_event(&door, "quit", 9, AUTTERVIL_ENDED, at_quit);
@@ -163,7 +163,7 @@ static void small_rooms(void)
     }
     CHECK(auttervil_post_text(&a.session, &a.chart, "nothing") == 0 && auttervil_post_text(&a.session, &a.chart, "e4") == 0);
     before = a.session;
-    for (room = 0; room <= 2; room++) {
+    for (room = 0; room <= 3; room++) {
         a.session = before;
         memset(a.trace, 0x5a, sizeof a.trace);
         ran = auttervil_run(&a.session, &a.chart, 10, room == 0 ? NULL : a.trace, room);
@@ -171,8 +171,8 @@ static void small_rooms(void)
         CHECK(a.session.external_count == 1 && strcmp(auttervil_external_name(&a.session, 0), "e4") == 0);
     }
     a.session = before;
-    ran = auttervil_run(&a.session, &a.chart, UINT32_MAX, a.trace, 3);
-    CHECK(ran.status == AUTTERVIL_IDLE && ran.rounds == 2 && ran.count == 3 && a.trace[3] == 0x5a5a5a5a);
+    ran = auttervil_run(&a.session, &a.chart, UINT32_MAX, a.trace, 4);
+    CHECK(ran.status == AUTTERVIL_IDLE && ran.rounds == 2 && ran.count == 4 && a.trace[4] == 0x5a5a5a5a);
 }
 
 /* A start reads nothing of the session: valgrind would tell of memory that was never written. */
@@ -211,7 +211,7 @@ static void enough_room(void)
 /* room + 64, and the most that can be asked for where that is more. */
 static void most_rounds(void)
 {
-    CHECK(auttervil_most_rounds(0) == 64 && auttervil_most_rounds(1) == 65 && auttervil_most_rounds(AUTTERVIL_MOST_ROOM) == 12352);
+    CHECK(auttervil_most_rounds(0) == 64 && auttervil_most_rounds(1) == 65 && auttervil_most_rounds(AUTTERVIL_MOST_ROOM) == 43072);
     CHECK(auttervil_most_rounds(UINT32_MAX - 65) == UINT32_MAX - 1 && auttervil_most_rounds(UINT32_MAX - 64) == UINT32_MAX);
     CHECK(auttervil_most_rounds(UINT32_MAX - 63) == UINT32_MAX && auttervil_most_rounds(UINT32_MAX) == UINT32_MAX && auttervil_most_rounds(SIZE_MAX) == UINT32_MAX);
 }
@@ -244,7 +244,7 @@ static void endless_loop(void)
     start(&loop);
     for (room = 0; room <= COUNT(loop.trace); room++) {
         ran = auttervil_run(&loop.session, &loop.chart, UINT32_MAX, loop.trace, room);
-        CHECK(ran.status == AUTTERVIL_NO_ROOM && ran.rounds == room / 3 && ran.rounds <= auttervil_most_rounds(room));
+        CHECK(ran.status == AUTTERVIL_NO_ROOM && ran.rounds == room / 4 && ran.rounds <= auttervil_most_rounds(room));
     }
 }
 

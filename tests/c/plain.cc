@@ -21,7 +21,7 @@ static void lamp_is_lit()
     CHECK(auttervil_is_compatible() && auttervil_room(&compiled.chart) == 3 * 4 + 2 * 2 + 1);
     CHECK(auttervil_start(&a.session, &compiled.chart, a.trace, COUNT(a.trace)).count == 1);
     auttervil_stepped stepped = auttervil_step_text(&a.session, &compiled.chart, "push", 9, a.trace, COUNT(a.trace));
-    CHECK(stepped.answer == AUTTERVIL_DONE && stepped.status == AUTTERVIL_IDLE && stepped.count == 4 && a.trace[2] == entry(AUTTERVIL_TRACE_HOST, 1));
+    CHECK(stepped.answer == AUTTERVIL_DONE && stepped.status == AUTTERVIL_IDLE && stepped.count == 5 && a.trace[3] == entry(AUTTERVIL_TRACE_HOST, 1));
     CHECK(auttervil_step(&a.session, nullptr, "push", 4, 9, a.trace, COUNT(a.trace)).status == AUTTERVIL_CHART_NULL);
 }
 
@@ -33,7 +33,7 @@ int main()
     CHECK(started.answer == AUTTERVIL_DONE && started.count == 5);
     CHECK(auttervil_post_text(&a.session, &a.chart, "e4") == AUTTERVIL_DONE);
     auttervil_ran ran = auttervil_run(&a.session, &a.chart, 10, a.trace, COUNT(a.trace));
-    CHECK(ran.status == AUTTERVIL_IDLE && ran.rounds == 1 && ran.count == 3);
+    CHECK(ran.status == AUTTERVIL_IDLE && ran.rounds == 1 && ran.count == 4);
     CHECK(auttervil_is_active(&a.session, auttervil_find_row(&a.chart, "S12")));
     return report();
 }

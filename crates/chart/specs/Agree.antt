@@ -129,7 +129,7 @@ module _ (a b : List ℕ) (same : take (tablesSize b) a ≡ take (tablesSize b) 
 
   action-at : (x : ℕ) → x < actionCount b → actionAt a x ≡ actionAt b x
   unfolding actionAt
-  action-at x l = rw (action-cell x 0 l (omega arith), action-cell x 1 l (omega arith))
+  action-at x l = rw (action-cell x 0 l (omega arith), action-cell x 1 l (omega arith), action-cell x 2 l (omega arith), action-cell x 3 l (omega arith))
 
   -- ---- lists and blocks
 

@@ -14,3 +14,4 @@ pub mod Faults
 pub mod Sets
 pub mod Places
 pub mod Sessions
+pub mod Worked

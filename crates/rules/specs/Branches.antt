@@ -127,17 +127,17 @@ module _ (numbers : List ℕ) (a x : ℕ) (e : x ≡ actionCell numbers a 0) whe
   pub branch-said : 2 ≤ x → isPlainAt numbers a ≡ false
   branch-said l = rw (← e) (lt-leb x 1 (omega arith))
 
-plain-nests : (k x : ℕ) (rest : List Action) → k ≤ 1 → nests [] (actionOf k x ∷ rest) ≡ nests [] rest
+plain-nests : (k x y z : ℕ) (rest : List Action) → k ≤ 1 → nests [] (actionOf k x y z ∷ rest) ≡ nests [] rest
 unfolding nests
-plain-nests zero x rest l = refl
-plain-nests (suc zero) x rest l = refl
-plain-nests (suc (suc k)) x rest l = absurd (omega arith)
+plain-nests zero x y z rest l = refl
+plain-nests (suc zero) x y z rest l = refl
+plain-nests (suc (suc k)) x y z rest l = absurd (omega arith)
 
-plain-tests : (c : Chart) (k x : ℕ) → k ≤ 1 → testFits c (actionOf k x) ≡ true
+plain-tests : (c : Chart) (k x y z : ℕ) → k ≤ 1 → testFits c (actionOf k x y z) ≡ true
 unfolding testFits
-plain-tests c zero x l = refl
-plain-tests c (suc zero) x l = refl
-plain-tests c (suc (suc k)) x l = absurd (omega arith)
+plain-tests c zero x y z l = refl
+plain-tests c (suc zero) x y z l = refl
+plain-tests c (suc (suc k)) x y z l = absurd (omega arith)
 
 module _ (numbers : List ℕ) (h : InTables numbers) (plain : all (isPlainAt numbers) (from (actionCount numbers) 0) ≡ true) where
   plain-at : (a : ℕ) → a < actionCount numbers → actionCell numbers a 0 ≤ 1
@@ -149,8 +149,8 @@ module _ (numbers : List ℕ) (h : InTables numbers) (plain : all (isPlainAt num
   plain-block (suc count) start l =
       let r = plain-block count (suc start) (omega arith) in
       let m = plain-at start (omega arith) in (
-        plain-nests (actionCell numbers start 0) (actionCell numbers start 1) (map (actionAt numbers) (from count (suc start))) m ∙ r .0,
-        and-true _ _ (plain-tests (chartOf numbers) (actionCell numbers start 0) (actionCell numbers start 1) m) (r .1),
+        plain-nests (actionCell numbers start 0) (actionCell numbers start 1) (actionCell numbers start 2) (actionCell numbers start 3) (map (actionAt numbers) (from count (suc start))) m ∙ r .0,
+        and-true _ _ (plain-tests (chartOf numbers) (actionCell numbers start 0) (actionCell numbers start 1) (actionCell numbers start 2) (actionCell numbers start 3) m) (r .1),
       )
 
   plain-fits : (start count : ℕ) → start + count ≤ actionCount numbers → branchesFit (chartOf numbers) (blockAt numbers start count) ≡ true

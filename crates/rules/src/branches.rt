@@ -17,7 +17,7 @@ use numbers::Row;
 use numbers::Transition;
 use tables::columns;
 
-// The number of a raise and of a host action are below this one's.
+// Raise and host action have lower numbers.
 const IF: u64 = 2;
 
 // The open ifs are a 1 and behind it a binary digit for each, the innermost last: 1 where its else was seen. 0 is a broken block.

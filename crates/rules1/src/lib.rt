@@ -5,10 +5,11 @@ ghost use Prim.Native.Nat.{_+_, _<_};
 ghost use lib.Dec.{eqb};
 ghost use Rattle.definition.specs.Rows.{all, from};
 ghost use Rattle.definition.specs.Names.{isDescriptor, isId};
-ghost use Rattle.definition.specs.Tables.{rowCount, transitionCount, referenceCount, descriptorCount, actionCount, nameCount, rowCell, transitionCell, actionOf};
-ghost use Rattle.definition.specs.Rules.{inside, optionalBelow, countsFit, sizesFit, blockFits, rowInRange, transitionInRange, referenceInRange, descriptorInRange, argumentFits, actionInRange, rule1, slotFits, idFits, raiseFits, actionNamed, rule2};
+ghost use Rattle.definition.specs.Tables.{rowCount, transitionCount, referenceCount, descriptorCount, actionCount, nameCount, rowCell, transitionCell};
+ghost use Rattle.definition.specs.Rules.{inside, optionalBelow, countsFit, sizesFit, blockFits, rowInRange, transitionInRange, referenceInRange, descriptorInRange, actionInRange, rule1, slotFits, idFits, raiseFits, actionNamed, rule2};
 ghost use Rattle.tables.specs.Ranges.{Sized, InTables, RowIn, ActionIn, SlotsIn};
 ghost use Rattle.rules1.specs.Inside.{isShortList, isNothing, hasNoParts};
+ghost use Rattle.rules1.specs.Arguments.{ArgumentIs};
 ghost use Rattle.rules1.specs.Ids.{Slots, IdTurn, isIdOf, isNewId};
 ghost use Rattle.rules1.specs.Plain.{startsId};
 ghost use Rattle.rules1.specs.Keys.{keyFrom, KeyOf};
@@ -164,7 +165,7 @@ fn transition_in_range(numbers: &[u64], t: Transition) -> bool
 }
 
 fn argument_fits(numbers: &[u64], kind: u64, argument: u64) -> bool
-    ensures { λ b. ⌜ b ≡ argumentFits (now (numbers .entry)) (actionOf kind argument) argument ⌝ }
+    ensures { λ b. ⌜ ArgumentIs (now (numbers .entry)) kind argument b ⌝ }
 {
     if kind == 0 {
         return argument < tables::name_count(numbers);

@@ -11,14 +11,18 @@ use Rattle.definition.specs.Tables.{rowCount, nameCount, actionCell, actionAt, 
 use Rattle.definition.specs.Rules.{argumentFits}
 use Rattle.tables.specs.Ranges.{ActionIn, argument-fits}
 
+-- what an action of kind k with x in its second cell does, whatever the other two hold
+pub record IsAction (k x : ℕ) (a : Action) : Type 0 where
+  pub is : (y z : ℕ) → a ≡ actionOf k x y z
+
 -- every number past the last is read as the last
-pub action-past : (k x : ℕ) → 5 ≤ k → actionOf k x ≡ End
-action-past zero x h = absurd (omega arith)
-action-past (suc zero) x h = absurd (omega arith)
-action-past (suc (suc zero)) x h = absurd (omega arith)
-action-past (suc (suc (suc zero))) x h = absurd (omega arith)
-action-past (suc (suc (suc (suc zero)))) x h = absurd (omega arith)
-action-past (suc (suc (suc (suc (suc k))))) x h = refl
+pub action-past : (k x y z : ℕ) → 5 ≤ k → actionOf k x y z ≡ End
+action-past zero x y z h = absurd (omega arith)
+action-past (suc zero) x y z h = absurd (omega arith)
+action-past (suc (suc zero)) x y z h = absurd (omega arith)
+action-past (suc (suc (suc zero))) x y z h = absurd (omega arith)
+action-past (suc (suc (suc (suc zero)))) x y z h = absurd (omega arith)
+action-past (suc (suc (suc (suc (suc k))))) x y z h = refl
 
 -- the name of a raise, the host action, the row of an In are each of their table or range
 unfoldable pub numberFits : List ℕ → Action → Bool
@@ -30,15 +34,15 @@ numberFits numbers Else = true
 numberFits numbers End = true
 
 -- the number of the second column is the one that the action holds
-argument-number : (numbers : List ℕ) (k x : ℕ) → argumentFits numbers (actionOf k x) x ≡ true → numberFits numbers (actionOf k x) ≡ true
+argument-number : (numbers : List ℕ) (k x y z : ℕ) → argumentFits numbers (actionOf k x y z) x ≡ true → numberFits numbers (actionOf k x y z) ≡ true
 unfolding argumentFits numberFits
-argument-number numbers zero x h = h
-argument-number numbers (suc zero) x h = h
-argument-number numbers (suc (suc zero)) x h = h
-argument-number numbers (suc (suc (suc zero))) x h = h
-argument-number numbers (suc (suc (suc (suc zero)))) x h = refl
-argument-number numbers (suc (suc (suc (suc (suc k))))) x h = refl
+argument-number numbers zero x y z h = h
+argument-number numbers (suc zero) x y z h = h
+argument-number numbers (suc (suc zero)) x y z h = h
+argument-number numbers (suc (suc (suc zero))) x y z h = h
+argument-number numbers (suc (suc (suc (suc zero)))) x y z h = refl
+argument-number numbers (suc (suc (suc (suc (suc k))))) x y z h = refl
 
 pub number-fits : (numbers : List ℕ) (a : ℕ) → ActionIn numbers a → numberFits numbers (actionAt numbers a) ≡ true
 unfolding actionAt
-number-fits numbers a h = argument-number numbers (actionCell numbers a 0) (actionCell numbers a 1) (argument-fits numbers a h)
+number-fits numbers a h = argument-number numbers (actionCell numbers a 0) (actionCell numbers a 1) (actionCell numbers a 2) (actionCell numbers a 3) (argument-fits numbers a h)

@@ -19,7 +19,7 @@ use Rattle.definition.specs.Rules.{optionalBelow, referenceInRange, descriptorI
 use Rattle.tables.specs.declared.Condition.{Condition}
 use Rattle.tables.specs.declared.Condition.the-variants.{Always, In}
 use Rattle.tables.specs.Ranges.{RowIn, RowsIn, NamesIn, TransitionIn, ActionIn, SlotIn, ReferencesIn, DescriptorsIn, BlockIn, layout, condition-below}
-use Rattle.tables.specs.Actions.{numberFits, number-fits}
+use Rattle.tables.specs.Actions.{IsAction, numberFits, number-fits}
 
 -- the list xs, as a part of the numbers: at most so many, each in its table
 pub record Listed (Within : List ℕ → Type 0) (most : ℕ) (xs l : List ℕ) : Type 0 where
@@ -48,7 +48,7 @@ actionsOf [] = []
 actionsOf (k ∷ []) = []
 actionsOf (k ∷ x ∷ []) = []
 actionsOf (k ∷ x ∷ y ∷ []) = []
-actionsOf (k ∷ x ∷ y ∷ z ∷ b) = actionOf k x ∷ actionsOf b
+actionsOf (k ∷ x ∷ y ∷ z ∷ b) = actionOf k x y z ∷ actionsOf b
 
 -- action k of such a part
 pub record ActionInBlock (b : List ℕ) (k : ℕ) : Type 0 where
@@ -161,11 +161,11 @@ part-four place at l =
 -- ---- blocks
 
 -- an action of the table, read by its number
-pub action-read : (numbers : List ℕ) (a k x : ℕ) (y : Action) → ActionIn numbers a → k ≡ actionCell numbers a 0 → x ≡ actionCell numbers a 1 → y ≡ actionOf k x →
+pub action-read : (numbers : List ℕ) (a k x : ℕ) (y : Action) → ActionIn numbers a → k ≡ actionCell numbers a 0 → x ≡ actionCell numbers a 1 → IsAction k x y →
     (y ≡ actionAt numbers a) × (numberFits numbers y ≡ true)
 unfolding actionAt
 action-read numbers a k x y h e q z =
-    let w : y ≡ actionAt numbers a = z ∙ rw (e, q) in (w, ap (numberFits numbers) w ∙ number-fits numbers a h)
+    let w : y ≡ actionAt numbers a = z .is (actionCell numbers a 2) (actionCell numbers a 3) ∙ rw (e, q) in (w, ap (numberFits numbers) w ∙ number-fits numbers a h)
 
 -- how many actions a part has
 pub actions-count : (b : List ℕ) → length b / 4 ≡ length (actionsOf b)
@@ -180,7 +180,8 @@ actions-count (k ∷ x ∷ y ∷ z ∷ b) = let h = actions-count b in omega ari
 pub actions-inside : (b : List ℕ) (k : ℕ) → ActionInBlock b k → k * 4 + 4 ≤ length b
 actions-inside b k i = let l = i .below in let h = actions-count b in omega arith
 
-pub actions-at : (b : List ℕ) (k : ℕ) (d : Action) → k < length (actionsOf b) → actionOf (getD b (k * 4) 0) (getD b (k * 4 + 1) 0) ≡ getD (actionsOf b) k d
+pub actions-at : (b : List ℕ) (k : ℕ) (d : Action) → k < length (actionsOf b) →
+    actionOf (getD b (k * 4) 0) (getD b (k * 4 + 1) 0) (getD b (k * 4 + 2) 0) (getD b (k * 4 + 3) 0) ≡ getD (actionsOf b) k d
 unfolding actionsOf
 actions-at [] k d l = absurd (omega arith)
 actions-at (k₀ ∷ []) k d l = absurd (omega arith)
@@ -190,7 +191,14 @@ actions-at (k₀ ∷ x ∷ y ∷ z ∷ b) zero d l = refl
 actions-at (k₀ ∷ x ∷ y ∷ z ∷ b) (suc k) d l =
     let e : suc k * 4 ≡ suc (suc (suc (suc (k * 4)))) = omega arith in
     let q : suc (suc (suc (suc (k * 4)))) + 1 ≡ suc (suc (suc (suc (k * 4 + 1)))) = omega arith in
-    rw (e, q) (actions-at b k d (omega arith))
+    let p : suc (suc (suc (suc (k * 4)))) + 2 ≡ suc (suc (suc (suc (k * 4 + 2)))) = omega arith in
+    let r : suc (suc (suc (suc (k * 4)))) + 3 ≡ suc (suc (suc (suc (k * 4 + 3)))) = omega arith in
+    rw (e, q, p, r) (actions-at b k d (omega arith))
+
+-- an action read by its first two cells
+pub actions-read : (b : List ℕ) (k : ℕ) (d a : Action) → k < length (actionsOf b) → IsAction (getD b (k * 4 + 0) 0) (getD b (k * 4 + 1) 0) a → a ≡ getD (actionsOf b) k d
+actions-read b k d a l i =
+    i .is (getD b (k * 4 + 2) 0) (getD b (k * 4 + 3) 0) ∙ rw add-zero (actions-at b k d l)
 
 -- so many actions from start on
 actions-from : (numbers : List ℕ) (start count : ℕ) → actionBase numbers + (start + count) * 4 ≤ length numbers →

@@ -2,9 +2,9 @@
 ghost use mathlib.Core.Path.{_≡_};
 ghost use mathlib.Core.Bool.{true};
 ghost use lib.ListN.{length, getD};
-ghost use Rattle.definition.specs.Tables.{actionCell, actionOf, actionAt, blockAt, entryAt, exitAt, listBlockAt, transitionBlockAt};
+ghost use Rattle.definition.specs.Tables.{actionCell, actionAt, blockAt, entryAt, exitAt, listBlockAt, transitionBlockAt};
 ghost use Rattle.tables.specs.Ranges.{CellOfAction, RowIn, TransitionIn, ActionIn, BlockIn};
-ghost use Rattle.tables.specs.Actions.{numberFits};
+ghost use Rattle.tables.specs.Actions.{IsAction, numberFits};
 ghost use Rattle.tables.specs.Parts.{actionsOf, ActionInBlock, BlockOf};
 use crate::columns;
 use crate::header::action_base;
@@ -72,9 +72,9 @@ pub fn transition_block_of(numbers: &[u64], t: Transition) -> &[u64]
     actions_part(numbers, start, count)
 }
 
-// What the first two cells of an action mean.
+// What the cells of an action mean; no kind has anything in the last two.
 fn action_from(kind: u64, argument: u64) -> Action
-    ensures { λ x. ⌜ x ≡ actionOf kind argument ⌝ }
+    ensures { λ x. ⌜ IsAction kind argument x ⌝ }
 {
     match kind {
         0 => Action::Raise(argument),

@@ -1,6 +1,5 @@
 use borrow.Author.Needs.{needs}
-use Rattle.definition.specs.Rules.{actionInRange}
-use Rattle.definition.specs.Tables.{actionAt}
+use Rattle.rules1.specs.Arguments.{cells-in-range}
 use Rattle.rules1.proofs.action_in_range.Statement.{statement}
 use Rattle.rules1.proofs.action_in_range.Tie as tie
 
@@ -26,8 +25,13 @@ action-cell-requires-4 : tie.Need-action-cell-requires-4
 action-cell-requires-4 c κs = search needs
 
 returns : tie.Need-returns
-unfolding actionInRange actionAt
-returns c = rw (c .before .before .argument-fits .ensures, c .action-cell4 .ensures, c .before .action-cell3 .ensures, c .before .before .before .action-cell2 .ensures, c .before .before .before .before .action-cell .ensures)
+returns c =
+    cells-in-range _ _ _ _ _ _ _
+    (c .before .before .before .before .action-cell .ensures)
+    (c .before .before .before .action-cell2 .ensures)
+    (c .before .action-cell3 .ensures)
+    (c .action-cell4 .ensures)
+    (c .before .before .argument-fits .ensures)
 
 pub action-in-range-spec : {M : Type 1} → statement M
 action-in-range-spec =

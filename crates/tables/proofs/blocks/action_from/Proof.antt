@@ -5,22 +5,22 @@ use Rattle.tables.proofs.blocks.action_from.Statement.{statement}
 use Rattle.tables.proofs.blocks.action_from.Tie as tie
 
 returns : tie.Need-returns
-returns c = rw (c .match .keys1)
+returns c = record { is = λ y z. rw (c .match .keys1) }
 
 returns-2 : tie.Need-returns-2
-returns-2 c = rw (c .match .keys2)
+returns-2 c = record { is = λ y z. rw (c .match .keys2) }
 
 returns-3 : tie.Need-returns-3
-returns-3 c = rw (c .match .keys3)
+returns-3 c = record { is = λ y z. rw (c .match .keys3) }
 
 returns-4 : tie.Need-returns-4
-returns-4 c = rw (c .match .keys4)
+returns-4 c = record { is = λ y z. rw (c .match .keys4) }
 
 returns-5 : tie.Need-returns-5
-returns-5 c = rw (c .match .keys5)
+returns-5 c = record { is = λ y z. rw (c .match .keys5) }
 
 returns-6 : tie.Need-returns-6
-returns-6 c = sym (action-past (c .before .args .kind) (c .before .args .argument) (omega arith))
+returns-6 c = record { is = λ y z. sym (action-past (c .before .args .kind) (c .before .args .argument) y z (omega arith)) }
 
 pub action-from-spec : {M : Type 1} → statement M
 action-from-spec =

@@ -1,7 +1,5 @@
-use mathlib.Core.Path.{_∙_}
-use native.Mathlib.Nat.{add-zero}
 use borrow.Author.Needs.{needs}
-use Rattle.tables.specs.Parts.{actions-inside, actions-at}
+use Rattle.tables.specs.Parts.{actions-inside, actions-read}
 use Rattle.tables.proofs.blocks.action_of.Statement.{statement}
 use Rattle.tables.proofs.blocks.action_of.Tie as tie
 
@@ -30,7 +28,7 @@ action-from-requires : tie.Need-action-from-requires
 action-from-requires c κs = search needs
 
 returns : tie.Need-returns
-returns c = c .action-from .ensures ∙ rw add-zero (actions-at _ _ _ (c .before .before .before .before .pre .below))
+returns c = actions-read _ _ _ _ (c .before .before .before .before .pre .below) (c .action-from .ensures)
 
 pub action-of-spec : {M : Type 1} → statement M
 action-of-spec =
