@@ -11,202 +11,202 @@ use Rattle.definition.specs.ChartA.{plainRow}
 use Rattle.follower.specs.Marked.{at}
 use Rattle.follower.specs.Open.{everything}
 use Rattle.follower.specs.MarkedRuns.{alike}
-use Rattle.worked.specs.Play.{asks, shown, shownAll, played}
+use Rattle.worked.specs.Play.{hosts, shown, shownAll, played}
 
--- 1. own history, nothing stored: entry, initial, default block, then the default list
-abbrev numbers-1 : List ℕ
-numbers-1 =
+-- own history, nothing stored: entry, initial, default block, then the default list
+abbrev numbers-own-fallen : List ℕ
+numbers-own-fallen =
     (6 ∷ 0 ∷ 2 ∷ 0 ∷ 3 ∷ 5 ∷ []) ++ plainRow 0 noNumber noNumber ++ (1 ∷ 0 ∷ 0 ∷ 0 ∷ 1 ∷ 0 ∷ 0 ∷ 0 ∷ 1 ∷ 1 ∷ 1 ∷ []) ++ plainRow 1 1 1 ++
-    plainRow 1 1 2 ++ (4 ∷ 1 ∷ 3 ∷ 0 ∷ 0 ∷ 0 ∷ 0 ∷ 1 ∷ 1 ∷ 2 ∷ 1 ∷ []) ++ plainRow 1 0 4 ++ (4 ∷ 3 ∷ []) ++ asks 1 ++ asks 2 ++ asks 3
+    plainRow 1 1 2 ++ (4 ∷ 1 ∷ 3 ∷ 0 ∷ 0 ∷ 0 ∷ 0 ∷ 1 ∷ 1 ∷ 2 ∷ 1 ∷ []) ++ plainRow 1 0 4 ++ (4 ∷ 3 ∷ []) ++ hosts 1 ++ hosts 2 ++ hosts 3
 
 -- s, a, b, h, z
-abbrev names-1 : List ℕ
-names-1 =
+abbrev names-own-fallen : List ℕ
+names-own-fallen =
     slotOf (115 ∷ []) ++ slotOf (97 ∷ []) ++ slotOf (98 ∷ []) ++ slotOf (104 ∷ []) ++ slotOf (122 ∷ [])
 
-pub example-1 : alike (played numbers-1 names-1 (starts 200 ∷ []))
+pub example-own-fallen : alike (played numbers-own-fallen names-own-fallen (starts 200 ∷ []))
     ((0 ∷ []) ∷
     (0 ∷ 0 ∷ []) ∷ (at 3 1 ∷ at 4 1 ∷ at 4 2 ∷ at 4 3 ∷ at 3 3 ∷ []) ∷ (1 ∷ 3 ∷ []) ∷ []) ≡ true
 unfolding everything shown shownAll played alike
-example-1 = refl
+example-own-fallen = refl
 
--- 2. own history, stored: the initial block runs, the default block does not
-abbrev numbers-2 : List ℕ
-numbers-2 =
+-- own history, stored: the initial block runs, the default block does not
+abbrev numbers-own-stored : List ℕ
+numbers-own-stored =
     (6 ∷ 3 ∷ 5 ∷ 3 ∷ 3 ∷ 8 ∷ []) ++ plainRow 0 noNumber noNumber ++ (1 ∷ 0 ∷ 0 ∷ 0 ∷ 1 ∷ 0 ∷ 0 ∷ 0 ∷ 1 ∷ 1 ∷ 1 ∷ []) ++ plainRow 1 1 1 ++
     plainRow 1 1 2 ++ (4 ∷ 1 ∷ 3 ∷ 0 ∷ 0 ∷ 0 ∷ 0 ∷ 1 ∷ 1 ∷ 2 ∷ 1 ∷ []) ++ plainRow 1 0 4 ++
     (1 ∷ 0 ∷ 1 ∷ noNumber ∷ 0 ∷ 2 ∷ 1 ∷ 0 ∷ 0 ∷ []) ++ (3 ∷ 1 ∷ 1 ∷ noNumber ∷ 0 ∷ 3 ∷ 1 ∷ 0 ∷ 0 ∷ []) ++
-    (5 ∷ 2 ∷ 1 ∷ noNumber ∷ 0 ∷ 4 ∷ 1 ∷ 0 ∷ 0 ∷ []) ++ (4 ∷ 3 ∷ 5 ∷ 2 ∷ 1 ∷ []) ++ (5 ∷ 6 ∷ 7 ∷ []) ++ asks 1 ++ asks 2 ++ asks 3
+    (5 ∷ 2 ∷ 1 ∷ noNumber ∷ 0 ∷ 4 ∷ 1 ∷ 0 ∷ 0 ∷ []) ++ (4 ∷ 3 ∷ 5 ∷ 2 ∷ 1 ∷ []) ++ (5 ∷ 6 ∷ 7 ∷ []) ++ hosts 1 ++ hosts 2 ++ hosts 3
 
 -- s, a, b, h, z, out, e, in
-abbrev names-2 : List ℕ
-names-2 =
+abbrev names-own-stored : List ℕ
+names-own-stored =
     slotOf (115 ∷ []) ++ slotOf (97 ∷ []) ++ slotOf (98 ∷ []) ++ slotOf (104 ∷ []) ++ slotOf (122 ∷ []) ++ slotOf (111 ∷ 117 ∷ 116 ∷ []) ++
     slotOf (101 ∷ []) ++ slotOf (105 ∷ 110 ∷ [])
 
-pub example-2 : alike (played numbers-2 names-2 (starts 200 ∷ posts (101 ∷ []) ∷ posts (111 ∷ 117 ∷ 116 ∷ []) ∷ posts (105 ∷ 110 ∷ []) ∷ runs 9 200 ∷ []))
+pub example-own-stored : alike (played numbers-own-stored names-own-stored (starts 200 ∷ posts (101 ∷ []) ∷ posts (111 ∷ 117 ∷ 116 ∷ []) ∷ posts (105 ∷ 110 ∷ []) ∷ runs 9 200 ∷ []))
     ((0 ∷ []) ∷
     (0 ∷ 0 ∷ []) ∷ (at 3 1 ∷ at 4 1 ∷ at 4 2 ∷ at 4 3 ∷ at 3 3 ∷ []) ∷ (1 ∷ 3 ∷ []) ∷
     (101 ∷ 3 ∷ []) ∷ (at 1 3 ∷ at 2 1 ∷ at 7 3 ∷ at 3 2 ∷ at 1 2 ∷ at 1 1 ∷ at 2 0 ∷ at 7 2 ∷ at 3 5 ∷ at 1 5 ∷ at 2 2 ∷ at 7 5 ∷ at 3 1 ∷
     at 4 1 ∷ at 4 2 ∷ at 3 2 ∷ []) ∷ (1 ∷ 2 ∷ []) ∷ []) ≡ true
 unfolding everything shown shownAll played alike
-example-2 = refl
+example-own-stored = refl
 
--- 3. the history as this round's exits left it: an external self transition restores what it exits
-abbrev numbers-3 : List ℕ
-numbers-3 =
+-- the history as this round's exits left it: an external self transition restores what it exits
+abbrev numbers-left-by-exits : List ℕ
+numbers-left-by-exits =
     (6 ∷ 2 ∷ 4 ∷ 2 ∷ 3 ∷ 7 ∷ []) ++ plainRow 0 noNumber noNumber ++ (1 ∷ 0 ∷ 0 ∷ 0 ∷ 1 ∷ 0 ∷ 0 ∷ 0 ∷ 1 ∷ 1 ∷ 1 ∷ []) ++ plainRow 1 1 1 ++
     plainRow 1 1 2 ++ (4 ∷ 1 ∷ 3 ∷ 0 ∷ 0 ∷ 0 ∷ 0 ∷ 1 ∷ 1 ∷ 2 ∷ 1 ∷ []) ++ plainRow 1 0 4 ++
     (1 ∷ 0 ∷ 1 ∷ noNumber ∷ 0 ∷ 2 ∷ 1 ∷ 0 ∷ 0 ∷ []) ++ (3 ∷ 1 ∷ 1 ∷ noNumber ∷ 0 ∷ 3 ∷ 1 ∷ 0 ∷ 0 ∷ []) ++ (4 ∷ 3 ∷ 1 ∷ 2 ∷ []) ++
-    (5 ∷ 6 ∷ []) ++ asks 1 ++ asks 2 ++ asks 3
+    (5 ∷ 6 ∷ []) ++ hosts 1 ++ hosts 2 ++ hosts 3
 
 -- s, a, b, h, z, again, e
-abbrev names-3 : List ℕ
-names-3 =
+abbrev names-left-by-exits : List ℕ
+names-left-by-exits =
     slotOf (115 ∷ []) ++ slotOf (97 ∷ []) ++ slotOf (98 ∷ []) ++ slotOf (104 ∷ []) ++ slotOf (122 ∷ []) ++
     slotOf (97 ∷ 103 ∷ 97 ∷ 105 ∷ 110 ∷ []) ++ slotOf (101 ∷ [])
 
-pub example-3 : alike (played numbers-3 names-3 (starts 200 ∷ posts (101 ∷ []) ∷ posts (97 ∷ 103 ∷ 97 ∷ 105 ∷ 110 ∷ []) ∷ runs 9 200 ∷ []))
+pub example-left-by-exits : alike (played numbers-left-by-exits names-left-by-exits (starts 200 ∷ posts (101 ∷ []) ∷ posts (97 ∷ 103 ∷ 97 ∷ 105 ∷ 110 ∷ []) ∷ runs 9 200 ∷ []))
     ((0 ∷ []) ∷
     (0 ∷ 0 ∷ []) ∷ (at 3 1 ∷ at 4 1 ∷ at 4 2 ∷ at 4 3 ∷ at 3 3 ∷ []) ∷ (1 ∷ 3 ∷ []) ∷
     (101 ∷ 2 ∷ []) ∷ (at 1 3 ∷ at 2 1 ∷ at 7 3 ∷ at 3 2 ∷ at 1 2 ∷ at 1 1 ∷ at 2 0 ∷ at 7 2 ∷ at 3 1 ∷ at 4 1 ∷ at 4 2 ∷ at 3 2 ∷ []) ∷
     (1 ∷ 2 ∷ []) ∷ []) ≡ true
 unfolding everything shown shownAll played alike
-example-3 = refl
+example-left-by-exits = refl
 
--- 4. a history of a descendant: the default block in that row's entry, its own initial block not
-abbrev numbers-4 : List ℕ
-numbers-4 =
+-- a history of a descendant: the default block in that row's entry, its own initial block not
+abbrev numbers-descendant : List ℕ
+numbers-descendant =
     (7 ∷ 0 ∷ 3 ∷ 0 ∷ 5 ∷ 6 ∷ []) ++ plainRow 0 noNumber noNumber ++ (1 ∷ 0 ∷ 0 ∷ 0 ∷ 1 ∷ 0 ∷ 0 ∷ 0 ∷ 1 ∷ 1 ∷ 1 ∷ []) ++ plainRow 1 1 1 ++
     (1 ∷ 1 ∷ 2 ∷ 2 ∷ 1 ∷ 0 ∷ 0 ∷ 1 ∷ 1 ∷ 3 ∷ 1 ∷ []) ++ plainRow 1 3 3 ++ plainRow 1 3 4 ++
-    (4 ∷ 3 ∷ 5 ∷ 0 ∷ 0 ∷ 0 ∷ 0 ∷ 2 ∷ 1 ∷ 4 ∷ 1 ∷ []) ++ (6 ∷ 4 ∷ 5 ∷ []) ++ asks 1 ++ asks 2 ++ asks 4 ++ asks 5 ++ asks 3
+    (4 ∷ 3 ∷ 5 ∷ 0 ∷ 0 ∷ 0 ∷ 0 ∷ 2 ∷ 1 ∷ 4 ∷ 1 ∷ []) ++ (6 ∷ 4 ∷ 5 ∷ []) ++ hosts 1 ++ hosts 2 ++ hosts 4 ++ hosts 5 ++ hosts 3
 
 -- s, a, q, q1, q2, h
-abbrev names-4 : List ℕ
-names-4 =
+abbrev names-descendant : List ℕ
+names-descendant =
     slotOf (115 ∷ []) ++ slotOf (97 ∷ []) ++ slotOf (113 ∷ []) ++ slotOf (113 ∷ 49 ∷ []) ++ slotOf (113 ∷ 50 ∷ []) ++ slotOf (104 ∷ [])
 
-pub example-4 : alike (played numbers-4 names-4 (starts 200 ∷ []))
+pub example-descendant : alike (played numbers-descendant names-descendant (starts 200 ∷ []))
     ((0 ∷ []) ∷
     (0 ∷ 0 ∷ []) ∷ (at 3 1 ∷ at 4 1 ∷ at 4 2 ∷ at 3 3 ∷ at 4 4 ∷ at 4 3 ∷ at 3 5 ∷ []) ∷ (1 ∷ 3 ∷ 5 ∷ []) ∷ []) ≡ true
 unfolding everything shown shownAll played alike
-example-4 = refl
+example-descendant = refl
 
--- 5. a history of a parallel below; the other region comes by its own initial list, which names its own history
-abbrev numbers-5 : List ℕ
-numbers-5 =
+-- a history of a parallel below; the other region comes by its own initial list, which names its own history
+abbrev numbers-parallel : List ℕ
+numbers-parallel =
     (11 ∷ 0 ∷ 4 ∷ 0 ∷ 4 ∷ 10 ∷ []) ++ plainRow 0 noNumber noNumber ++ (1 ∷ 0 ∷ 0 ∷ 0 ∷ 0 ∷ 0 ∷ 0 ∷ 0 ∷ 1 ∷ 0 ∷ 0 ∷ []) ++
     (2 ∷ 1 ∷ 1 ∷ 0 ∷ 1 ∷ 0 ∷ 0 ∷ 0 ∷ 0 ∷ 0 ∷ 0 ∷ []) ++ (1 ∷ 2 ∷ 2 ∷ 0 ∷ 0 ∷ 0 ∷ 0 ∷ 1 ∷ 1 ∷ 1 ∷ 1 ∷ []) ++ plainRow 1 3 3 ++
     plainRow 1 3 4 ++ (4 ∷ 3 ∷ 5 ∷ 0 ∷ 0 ∷ 0 ∷ 0 ∷ 2 ∷ 1 ∷ 2 ∷ 1 ∷ []) ++ plainRow 1 2 6 ++ plainRow 1 7 7 ++ plainRow 1 7 8 ++
-    (5 ∷ 2 ∷ 9 ∷ 0 ∷ 0 ∷ 0 ∷ 0 ∷ 3 ∷ 1 ∷ 3 ∷ 1 ∷ []) ++ (10 ∷ 6 ∷ 5 ∷ 9 ∷ []) ++ asks 4 ++ asks 5 ++ asks 6 ++ asks 3
+    (5 ∷ 2 ∷ 9 ∷ 0 ∷ 0 ∷ 0 ∷ 0 ∷ 3 ∷ 1 ∷ 3 ∷ 1 ∷ []) ++ (10 ∷ 6 ∷ 5 ∷ 9 ∷ []) ++ hosts 4 ++ hosts 5 ++ hosts 6 ++ hosts 3
 
 -- s, p, c, c1, c2, hc, d, d1, d2, h
-abbrev names-5 : List ℕ
-names-5 =
+abbrev names-parallel : List ℕ
+names-parallel =
     slotOf (115 ∷ []) ++ slotOf (112 ∷ []) ++ slotOf (99 ∷ []) ++ slotOf (99 ∷ 49 ∷ []) ++ slotOf (99 ∷ 50 ∷ []) ++
     slotOf (104 ∷ 99 ∷ []) ++ slotOf (100 ∷ []) ++ slotOf (100 ∷ 49 ∷ []) ++ slotOf (100 ∷ 50 ∷ []) ++ slotOf (104 ∷ [])
 
-pub example-5 : alike (played numbers-5 names-5 (starts 200 ∷ []))
+pub example-parallel : alike (played numbers-parallel names-parallel (starts 200 ∷ []))
     ((0 ∷ []) ∷
     (0 ∷ 0 ∷ []) ∷ (at 3 1 ∷ at 3 2 ∷ at 4 4 ∷ at 4 3 ∷ at 3 3 ∷ at 4 5 ∷ at 4 6 ∷ at 3 5 ∷ at 3 7 ∷ at 3 9 ∷ []) ∷
     (1 ∷ 2 ∷ 3 ∷ 5 ∷ 7 ∷ 9 ∷ []) ∷ []) ≡ true
 unfolding everything shown shownAll played alike
-example-5 = refl
+example-parallel = refl
 
--- 6. the root's initial list names a history: default block in the parent's entry, no initial block above it
-abbrev numbers-6 : List ℕ
-numbers-6 =
+-- the root's initial list names a history: default block in the parent's entry, no initial block above it
+abbrev numbers-root : List ℕ
+numbers-root =
     (7 ∷ 0 ∷ 4 ∷ 0 ∷ 5 ∷ 6 ∷ []) ++ (0 ∷ noNumber ∷ noNumber ∷ 0 ∷ 0 ∷ 0 ∷ 0 ∷ 0 ∷ 1 ∷ 0 ∷ 0 ∷ []) ++
     (1 ∷ 0 ∷ 0 ∷ 0 ∷ 1 ∷ 0 ∷ 0 ∷ 1 ∷ 1 ∷ 1 ∷ 1 ∷ []) ++ plainRow 1 1 1 ++ (1 ∷ 1 ∷ 2 ∷ 2 ∷ 1 ∷ 0 ∷ 0 ∷ 2 ∷ 1 ∷ 3 ∷ 1 ∷ []) ++
-    plainRow 1 3 3 ++ plainRow 1 3 4 ++ (4 ∷ 3 ∷ 5 ∷ 0 ∷ 0 ∷ 0 ∷ 0 ∷ 3 ∷ 1 ∷ 4 ∷ 1 ∷ []) ++ (6 ∷ 6 ∷ 4 ∷ 5 ∷ []) ++ asks 1 ++ asks 2 ++
-    asks 4 ++ asks 5 ++ asks 3
+    plainRow 1 3 3 ++ plainRow 1 3 4 ++ (4 ∷ 3 ∷ 5 ∷ 0 ∷ 0 ∷ 0 ∷ 0 ∷ 3 ∷ 1 ∷ 4 ∷ 1 ∷ []) ++ (6 ∷ 6 ∷ 4 ∷ 5 ∷ []) ++ hosts 1 ++ hosts 2 ++
+    hosts 4 ++ hosts 5 ++ hosts 3
 
 -- s, a, q, q1, q2, h
-abbrev names-6 : List ℕ
-names-6 =
+abbrev names-root : List ℕ
+names-root =
     slotOf (115 ∷ []) ++ slotOf (97 ∷ []) ++ slotOf (113 ∷ []) ++ slotOf (113 ∷ 49 ∷ []) ++ slotOf (113 ∷ 50 ∷ []) ++ slotOf (104 ∷ [])
 
-pub example-6 : alike (played numbers-6 names-6 (starts 200 ∷ []))
+pub example-root : alike (played numbers-root names-root (starts 200 ∷ []))
     ((0 ∷ []) ∷
     (0 ∷ 0 ∷ []) ∷ (at 3 1 ∷ at 4 1 ∷ at 3 3 ∷ at 4 4 ∷ at 4 3 ∷ at 3 5 ∷ []) ∷ (1 ∷ 3 ∷ 5 ∷ []) ∷ []) ≡ true
 unfolding everything shown shownAll played alike
-example-6 = refl
+example-root = refl
 
--- 7. the owner's own history stands alone in the list: 4
-abbrev numbers-7 : List ℕ
-numbers-7 =
+-- the owner's own history beside another row: 4
+abbrev numbers-own-not-alone : List ℕ
+numbers-own-not-alone =
     (6 ∷ 0 ∷ 3 ∷ 0 ∷ 2 ∷ 5 ∷ []) ++ plainRow 0 noNumber noNumber ++ (1 ∷ 0 ∷ 0 ∷ 0 ∷ 1 ∷ 0 ∷ 0 ∷ 0 ∷ 2 ∷ 0 ∷ 0 ∷ []) ++ plainRow 1 1 1 ++
-    plainRow 1 1 2 ++ (4 ∷ 1 ∷ 3 ∷ 0 ∷ 0 ∷ 0 ∷ 0 ∷ 2 ∷ 1 ∷ 1 ∷ 1 ∷ []) ++ plainRow 1 0 4 ++ (4 ∷ 2 ∷ 3 ∷ []) ++ asks 1 ++ asks 3
+    plainRow 1 1 2 ++ (4 ∷ 1 ∷ 3 ∷ 0 ∷ 0 ∷ 0 ∷ 0 ∷ 2 ∷ 1 ∷ 1 ∷ 1 ∷ []) ++ plainRow 1 0 4 ++ (4 ∷ 2 ∷ 3 ∷ []) ++ hosts 1 ++ hosts 3
 
 -- s, a, b, h, z
-abbrev names-7 : List ℕ
-names-7 =
+abbrev names-own-not-alone : List ℕ
+names-own-not-alone =
     slotOf (115 ∷ []) ++ slotOf (97 ∷ []) ++ slotOf (98 ∷ []) ++ slotOf (104 ∷ []) ++ slotOf (122 ∷ [])
 
-pub example-7 : answerNo (keepsRules numbers-7 names-7) ≡ 4
+pub example-own-not-alone : answerNo (keepsRules numbers-own-not-alone names-own-not-alone) ≡ 4
 unfolding everything
-example-7 = refl
+example-own-not-alone = refl
 
--- 8. a history and a row below its parent: 4
-abbrev numbers-8 : List ℕ
-numbers-8 =
+-- a history and a row below its parent: 4
+abbrev numbers-below-parent : List ℕ
+numbers-below-parent =
     (7 ∷ 0 ∷ 4 ∷ 0 ∷ 4 ∷ 6 ∷ []) ++ plainRow 0 noNumber noNumber ++ (1 ∷ 0 ∷ 0 ∷ 0 ∷ 1 ∷ 0 ∷ 0 ∷ 0 ∷ 2 ∷ 0 ∷ 0 ∷ []) ++ plainRow 1 1 1 ++
     (1 ∷ 1 ∷ 2 ∷ 1 ∷ 1 ∷ 0 ∷ 0 ∷ 2 ∷ 1 ∷ 2 ∷ 1 ∷ []) ++ plainRow 1 3 3 ++ plainRow 1 3 4 ++
-    (4 ∷ 3 ∷ 5 ∷ 0 ∷ 0 ∷ 0 ∷ 0 ∷ 3 ∷ 1 ∷ 3 ∷ 1 ∷ []) ++ (6 ∷ 4 ∷ 4 ∷ 5 ∷ []) ++ asks 1 ++ asks 4 ++ asks 5 ++ asks 3
+    (4 ∷ 3 ∷ 5 ∷ 0 ∷ 0 ∷ 0 ∷ 0 ∷ 3 ∷ 1 ∷ 3 ∷ 1 ∷ []) ++ (6 ∷ 4 ∷ 4 ∷ 5 ∷ []) ++ hosts 1 ++ hosts 4 ++ hosts 5 ++ hosts 3
 
 -- s, a, q, q1, q2, h
-abbrev names-8 : List ℕ
-names-8 =
+abbrev names-below-parent : List ℕ
+names-below-parent =
     slotOf (115 ∷ []) ++ slotOf (97 ∷ []) ++ slotOf (113 ∷ []) ++ slotOf (113 ∷ 49 ∷ []) ++ slotOf (113 ∷ 50 ∷ []) ++ slotOf (104 ∷ [])
 
-pub example-8 : answerNo (keepsRules numbers-8 names-8) ≡ 4
+pub example-below-parent : answerNo (keepsRules numbers-below-parent names-below-parent) ≡ 4
 unfolding everything
-example-8 = refl
+example-below-parent = refl
 
--- 9. two histories of one row: 4
-abbrev numbers-9 : List ℕ
-numbers-9 =
+-- two histories of one row: 4
+abbrev numbers-two-of-one : List ℕ
+numbers-two-of-one =
     (8 ∷ 0 ∷ 5 ∷ 0 ∷ 4 ∷ 7 ∷ []) ++ plainRow 0 noNumber noNumber ++ (1 ∷ 0 ∷ 0 ∷ 0 ∷ 1 ∷ 0 ∷ 0 ∷ 0 ∷ 2 ∷ 0 ∷ 0 ∷ []) ++ plainRow 1 1 1 ++
     (1 ∷ 1 ∷ 2 ∷ 1 ∷ 1 ∷ 0 ∷ 0 ∷ 2 ∷ 1 ∷ 2 ∷ 1 ∷ []) ++ plainRow 1 3 3 ++ plainRow 1 3 4 ++
     (4 ∷ 3 ∷ 5 ∷ 0 ∷ 0 ∷ 0 ∷ 0 ∷ 3 ∷ 1 ∷ 3 ∷ 1 ∷ []) ++ (5 ∷ 3 ∷ 6 ∷ 0 ∷ 0 ∷ 0 ∷ 0 ∷ 4 ∷ 1 ∷ 0 ∷ 0 ∷ []) ++ (6 ∷ 7 ∷ 4 ∷ 5 ∷ 4 ∷ []) ++
-    asks 1 ++ asks 4 ++ asks 5 ++ asks 3
+    hosts 1 ++ hosts 4 ++ hosts 5 ++ hosts 3
 
 -- s, a, q, q1, q2, h, h2
-abbrev names-9 : List ℕ
-names-9 =
+abbrev names-two-of-one : List ℕ
+names-two-of-one =
     slotOf (115 ∷ []) ++ slotOf (97 ∷ []) ++ slotOf (113 ∷ []) ++ slotOf (113 ∷ 49 ∷ []) ++ slotOf (113 ∷ 50 ∷ []) ++ slotOf (104 ∷ []) ++
     slotOf (104 ∷ 50 ∷ [])
 
-pub example-9 : answerNo (keepsRules numbers-9 names-9) ≡ 4
+pub example-two-of-one : answerNo (keepsRules numbers-two-of-one names-two-of-one) ≡ 4
 unfolding everything
-example-9 = refl
+example-two-of-one = refl
 
--- 10. a history that stands outside the owner: 4
-abbrev numbers-10 : List ℕ
-numbers-10 =
+-- a history that stands outside the owner: 4
+abbrev numbers-outside : List ℕ
+numbers-outside =
     (6 ∷ 0 ∷ 2 ∷ 0 ∷ 0 ∷ 5 ∷ []) ++ plainRow 0 noNumber noNumber ++ (1 ∷ 0 ∷ 0 ∷ 0 ∷ 0 ∷ 0 ∷ 0 ∷ 0 ∷ 1 ∷ 0 ∷ 0 ∷ []) ++ plainRow 1 1 1 ++
     plainRow 1 0 2 ++ plainRow 1 3 3 ++ (4 ∷ 3 ∷ 4 ∷ 0 ∷ 0 ∷ 0 ∷ 0 ∷ 1 ∷ 1 ∷ 0 ∷ 0 ∷ []) ++ (5 ∷ 4 ∷ [])
 
 -- s, a, q, q1, h
-abbrev names-10 : List ℕ
-names-10 =
+abbrev names-outside : List ℕ
+names-outside =
     slotOf (115 ∷ []) ++ slotOf (97 ∷ []) ++ slotOf (113 ∷ []) ++ slotOf (113 ∷ 49 ∷ []) ++ slotOf (104 ∷ [])
 
-pub example-10 : answerNo (keepsRules numbers-10 names-10) ≡ 4
+pub example-outside : answerNo (keepsRules numbers-outside names-outside) ≡ 4
 unfolding everything
-example-10 = refl
+example-outside = refl
 
--- 11. a default list still holds no history: 4
-abbrev numbers-11 : List ℕ
-numbers-11 =
+-- a default list still holds no history: 4
+abbrev numbers-in-default : List ℕ
+numbers-in-default =
     (5 ∷ 0 ∷ 2 ∷ 0 ∷ 0 ∷ 4 ∷ []) ++ plainRow 0 noNumber noNumber ++ plainRow 1 0 0 ++ plainRow 1 1 1 ++
     (4 ∷ 1 ∷ 2 ∷ 0 ∷ 0 ∷ 0 ∷ 0 ∷ 0 ∷ 1 ∷ 0 ∷ 0 ∷ []) ++ (5 ∷ 1 ∷ 3 ∷ 0 ∷ 0 ∷ 0 ∷ 0 ∷ 1 ∷ 1 ∷ 0 ∷ 0 ∷ []) ++ (2 ∷ 3 ∷ [])
 
 -- s, a, h, g
-abbrev names-11 : List ℕ
-names-11 =
+abbrev names-in-default : List ℕ
+names-in-default =
     slotOf (115 ∷ []) ++ slotOf (97 ∷ []) ++ slotOf (104 ∷ []) ++ slotOf (103 ∷ [])
 
-pub example-11 : answerNo (keepsRules numbers-11 names-11) ≡ 4
+pub example-in-default : answerNo (keepsRules numbers-in-default names-in-default) ≡ 4
 unfolding everything
-example-11 = refl
+example-in-default = refl

@@ -10,8 +10,8 @@ use Rattle.follower.specs.Calls.{Call, starts, posts, runs, Outcome, followAll}
 abbrev pub raises : ℕ → List ℕ
 raises n = 0 ∷ n ∷ 0 ∷ 0 ∷ []
 
-abbrev pub asks : ℕ → List ℕ
-asks n = 1 ∷ n ∷ 0 ∷ 0 ∷ []
+abbrev pub hosts : ℕ → List ℕ
+hosts n = 1 ∷ n ∷ 0 ∷ 0 ∷ []
 
 abbrev pub ifIn : ℕ → List ℕ
 ifIn i = 2 ∷ i ∷ 0 ∷ 0 ∷ []
@@ -19,8 +19,8 @@ ifIn i = 2 ∷ i ∷ 0 ∷ 0 ∷ []
 abbrev pub elseIfIn : ℕ → List ℕ
 elseIfIn i = 3 ∷ i ∷ 0 ∷ 0 ∷ []
 
-abbrev pub orElse : List ℕ
-orElse = 4 ∷ 0 ∷ 0 ∷ 0 ∷ []
+abbrev pub otherwise : List ℕ
+otherwise = 4 ∷ 0 ∷ 0 ∷ 0 ∷ []
 
 abbrev pub ends : List ℕ
 ends = 5 ∷ 0 ∷ 0 ∷ 0 ∷ []
