@@ -11,6 +11,7 @@ pub mod LegalTest
 pub mod Seed
 pub mod DefaultBlocks
 pub mod Storing
+pub mod Nested
 pub mod Branches
 pub mod Runs
 pub mod Moments
