@@ -1,5 +1,5 @@
--- Default blocks in the entry of a row: there is at most one, and beside the row's initial block only that of the history which its own
--- initial list names, and names alone (R-3).
+-- Default blocks in the entry of a row (R-3): that of a history which fell in an initial list runs, since the history's parent is entered;
+-- a row has at most one, and beside its initial block only that of the history which its own initial list names, and names alone.
 use mathlib.Core.Path.{_≡_, refl, sym, _∙_}
 use mathlib.Core.Bool.{true, false}
 use mathlib.Core.List.{List, [], _∷_}
@@ -8,7 +8,7 @@ use Prim.Native.Nat.{ℕ, zero, suc, _<_}
 use native.Mathlib.Omega.{arith}
 use Rattle.definition.specs.Rows.{keep, those, mem, isIn, union, nothingAt}
 use Rattle.definition.specs.Chart.{Chart, kind, parent, isHistory}
-use Rattle.definition.specs.Tree.{children, defaultTargets, anchor}
+use Rattle.definition.specs.Tree.{isDescendant, children, defaultTargets, anchor}
 use Rattle.follower.specs.Selection.{History, standIns, effectiveTargets, initialTargets, domain}
 use Rattle.follower.specs.Microstep.{pathsBelow, addTargets, targeted, Entry, fellToDefault, addFallen, fallen, addFallenInitial, withInitial, storedIn, staying, historyAfter, entryOf, configurationAfter, fallenOf}
 use Rattle.follower.specs.Follower.{firstEntry, firstFallen}
@@ -20,18 +20,22 @@ use Rattle.accepted.specs.Tree.{low, way-zero, under-below, under-plain, below-
 use Rattle.accepted.specs.Fork.{live, Legal, live-up, list-split}
 use Rattle.accepted.specs.Unions.{mem-fold-union, union-mem, mem-in-union, ascends-fold-union}
 use Rattle.theory.specs.Entry.{way-plain, down-intro, bare-facts}
-use Rattle.theory.specs.EntryOrder.{Default, IsEntry}
+use Rattle.theory.specs.EntryOrder.{fromAim, fromDefault, Default, IsEntry}
 use Rattle.accepted.specs.Sound.{Sound}
 use Rattle.theory.specs.Accepted.{targets-apart, HistOk}
 use Rattle.theory.specs.Resolved.{resolved-in, default-below, default-apart, default-stand}
 use Rattle.theory.specs.Domain.{target-stand, effective-in}
 use Rattle.theory.specs.Round.{Taken, Moves, domains-apart, domain-stays, stay-part, after-ok, over-after, entered-new, entered-means, next-legal}
 use Rattle.theory.specs.Seed.{nothing-ok, first-means}
+use Rattle.theory.specs.Storing.{owner}
 
--- of the histories that fell to their default lists, whose default blocks run in the entries of their parents
-pub record DefaultBlocks (c : Chart) (e : Entry) (fell : List ℕ) : Type 0 where
+-- of the histories that fell to their default lists, whose default blocks run in the entries of their parents; owners are the rows whose
+-- initial lists were entered
+pub record DefaultBlocks (c : Chart) (e : Entry) (owners fell : List ℕ) : Type 0 where
   -- each is there once
   pub ascends : Ascends 0 fell
+  -- the parent of one in such a list is entered, so its default block runs; of those among the targets of transitions nothing is said
+  pub entered : (k h : ℕ) → mem k owners ≡ true → mem h (defaultTargets c k) ≡ true → mem h fell ≡ true → mem (parent c h) (e .set) ≡ true
   -- an entered row has at most one default block
   pub one : (i g h : ℕ) → mem i (e .set) ≡ true → mem g fell ≡ true → mem h fell ≡ true → parent c g ≡ i → parent c h ≡ i → g ≡ h
   -- "If the owner itself is the history's parent": both blocks only where the row's initial list is its own history
@@ -70,6 +74,26 @@ module _ (c : Chart) (g : Sound c) where
   same-anchor : (x y : ℕ) → ((x ≡ y → ⊥) → Way (parent c) (anchor c x) (anchor c y) → ⊥) → isHistory (kind c x) ≡ true → isHistory (kind c y) ≡ true → parent c x ≡ parent c y → x ≡ y
   unfolding anchor
   same-anchor x y apart q r e = eq-case x y (λ same. same) (λ other. absurd (apart other (rw (q, r, e) (eq-way (parent c) refl))))
+
+module _ (c : Chart) (g : Sound c) (after : History) (ok : HistOk c after) where
+  -- the parent of a history in row k's initial list is on the way to what stands in for the history
+  parent-on-path : (k h : ℕ) → isHistory (kind c h) ≡ true → mem h (defaultTargets c k) ≡ true → isDescendant c k (parent c h) ≡ true → mem (parent c h) (pathsBelow c k (initialTargets c after k)) ≡ true
+  unfolding initialTargets
+  parent-on-path k h q m u =
+      let s = default-stand c g after ok k h m in
+      let f = s .full in
+      down-intro c (g .tree) k (initialTargets c after k) (parent c h) (f .0) (owner c g h q .inside) u (resolved-in c after (defaultTargets c k) h (f .0) m (f .1))
+      (below-way (parent c) (parent c h) (f .0) (s .strict q (f .0) (f .1)))
+
+  -- where row k's child comes by default, that parent is row k or entered on that way
+  parent-entered : (aim : List ℕ) (e : Entry) → IsEntry c (initialTargets c after) aim e → (k h : ℕ) → isHistory (kind c h) ≡ true → mem k (e .byDefault) ≡ true → mem h (defaultTargets c k) ≡ true →
+      mem (parent c h) (e .set) ≡ true
+  parent-entered aim e means k h q m n =
+      let s = means .defaults k .0 m .entered in
+      ⊎-elim (λ (same : k ≡ parent c h). rw same at s)
+      (λ (b : Below (parent c) k (parent c h)). means .rows (parent c h) .1 (fromDefault k (means .rows k .0 s) m
+      (parent-on-path k h q n (below-under c (g .tree) k (parent c h) (under-plain c (g .tree) 0 (parent c h) (owner c g h q .rooted)) b))))
+      (way-cases (parent c) (owner-above c g k h n))
 
 -- Early: the history fell among what is aimed at. Then each entered row at or above its parent has a child aimed at.
 module _ (c : Chart) (g : Sound c) (after : History) (ok : HistOk c after) (aim : List ℕ) (e : Entry) (means : IsEntry c (initialTargets c after) aim e) (Early : ℕ → Type 0)
@@ -113,10 +137,12 @@ module _ (c : Chart) (g : Sound c) (after : History) (ok : HistOk c after) (aim 
           (λ (v : Way (parent c) l k). sym (one-owner k l y mk ml r o v (rw (← p) (owner-above c g k x n))))
           (way-compare (parent c) (owner-above c g k x n) (rw p (owner-above c g l y o)))
 
-  blocks : (fell : List ℕ) → Ascends 0 fell → ((h : ℕ) → mem h fell ≡ true → Early h ⊎ Late h) → ((h : ℕ) → mem h fell ≡ true → isHistory (kind c h) ≡ true) → DefaultBlocks c e fell
-  blocks fell up cause history =
+  blocks : (owners fell : List ℕ) → Ascends 0 fell → ((h : ℕ) → mem h fell ≡ true → Early h ⊎ Late h) → ((h : ℕ) → mem h fell ≡ true → isHistory (kind c h) ≡ true) →
+      ((k h : ℕ) → isHistory (kind c h) ≡ true → mem k owners ≡ true → mem h (defaultTargets c k) ≡ true → mem (parent c h) (e .set) ≡ true) → DefaultBlocks c e owners fell
+  blocks owners fell up cause history there =
       record {
         ascends = up;
+        entered = λ k h o m n. there k h (history h n) o m;
         one = λ i x y s m n p q. pair x y (cause x m) (cause y n) (p ∙ sym q) (rw p s);
         own = λ i h m n p. let k = named i h m n p (cause h n) in (k, λ y o. alone c g i h y (history h n) p k o);
       }
@@ -187,15 +213,21 @@ module _ (c : Chart) (g : Sound c) where
       path-child c g 0 (initialTargets c nothingAt 0) k (f .0) (resolved-in c nothingAt (defaultTargets c 0) h (f .0) m (f .1)) (s .inside (f .0) (f .1))
       (under-plain c (g .tree) 0 (f .0) (s .rooted (f .0) (f .1))) (way-zero c (g .tree) k) (below-trans (parent c) k (parent c h) (f .0) v (s .strict q (f .0) (f .1)))
 
-  pub start-default-blocks : DefaultBlocks c (firstEntry c) (firstFallen c)
+  -- the root has no history of its own
+  start-entered : (h : ℕ) → AtStart h → mem (parent c h) ((firstEntry c) .set) ≡ true
+  start-entered h (q, m) = (first-means c g) .means .rows (parent c h) .1 (fromAim (parent-on-path c g nothingAt (nothing-ok c) 0 h q m (owner c g h q .rooted)))
+
+  pub start-default-blocks : DefaultBlocks c (firstEntry c) (0 ∷ (firstEntry c) .byDefault) (firstFallen c)
   unfolding firstFallen mem
   start-default-blocks =
       blocks c g nothingAt (nothing-ok c) (pathsBelow c 0 (initialTargets c nothingAt 0)) (firstEntry c) ((first-means c g) .means) AtStart (λ h k a p m v. start-reaches h k a v)
       (λ x y (q, m) (r, n) e p. same-anchor c g x y (λ other. (list-split c (g .tree) (defaultTargets c 0) (default-apart c g 0) x y m n other) .left) q r e)
-      (withInitial c nothingAt [] (0 ∷ (firstEntry c) .byDefault)) (initial-ascends c nothingAt [] (0 ∷ (firstEntry c) .byDefault) tt)
+      (0 ∷ (firstEntry c) .byDefault) (withInitial c nothingAt [] (0 ∷ (firstEntry c) .byDefault)) (initial-ascends c nothingAt [] (0 ∷ (firstEntry c) .byDefault) tt)
       (λ h m. initial-of c nothingAt [] (0 ∷ (firstEntry c) .byDefault) h (λ n. absurd (no n))
       (λ q k n o. mem-cases k 0 ((firstEntry c) .byDefault) (λ e. inl (q, rw e at o)) (λ l. inr (q, (k, l, o))) n) m)
       (λ h m. initial-of c nothingAt [] (0 ∷ (firstEntry c) .byDefault) h (λ n. absurd (no n)) (λ q k n o. q) m)
+      (λ k h q m n. mem-cases k 0 ((firstEntry c) .byDefault) (λ e. start-entered h (q, rw e at n))
+      (λ o. parent-entered c g nothingAt (nothing-ok c) (pathsBelow c 0 (initialTargets c nothingAt 0)) (firstEntry c) ((first-means c g) .means) k h q o n) m)
 
 -- ---- of a round
 
@@ -280,12 +312,13 @@ module _ (c : Chart) (g : Sound c) (conf : List ℕ) (ord : conf ≡ those (c .r
           let s = stand-in t x gt q m in
           below-way (parent c) (d t) (parent c x) (below-domain t (parent c x) (s .row) gt p (s .under) (below-way (parent c) (parent c x) (s .row) (s .beneath)))
 
-  pub round-default-blocks : DefaultBlocks c (entryOf c conf hist ts) (fallenOf c conf hist ts)
+  pub round-default-blocks : DefaultBlocks c (entryOf c conf hist ts) ((entryOf c conf hist ts) .byDefault) (fallenOf c conf hist ts)
   unfolding fallenOf
   round-default-blocks =
       blocks c g left (after-ok c g conf ord lc hist ok ts tk) (targeted c hist left ts) entry ((entered-means c g conf ord lc hist ok ts tk) .means) Targeted
       (λ h k a p n v. round-reaches h k a n v) round-once
-      (withInitial c left (fallen c left ts) (entry .byDefault)) (initial-ascends c left (fallen c left ts) (entry .byDefault) (fallen-ascends c left ts))
+      (entry .byDefault) (withInitial c left (fallen c left ts) (entry .byDefault)) (initial-ascends c left (fallen c left ts) (entry .byDefault) (fallen-ascends c left ts))
       (λ h m. initial-of c left (fallen c left ts) (entry .byDefault) h (λ n. let f = fallen-of c left ts h n in inl (f .0, (f .1 .0, (f .1 .1, empty-some ((c .transition) (f .1 .0) .targets) h (f .1 .2)), f .1 .2)))
       (λ q k n o. inr (q, (k, n, o))) m)
       (λ h m. initial-of c left (fallen c left ts) (entry .byDefault) h (λ n. fallen-of c left ts h n .0) (λ q k n o. q) m)
+      (parent-entered c g left (after-ok c g conf ord lc hist ok ts tk) (targeted c hist left ts) entry ((entered-means c g conf ord lc hist ok ts tk) .means))

@@ -115,7 +115,8 @@ module _ (c : Chart) (g : Sound c) (names : Names) where
         let o = set-eq (c .rows) conf (k .0) in
         entered-means c g conf o (k .1) (storedIn history) (history-ok history f) (selected c names conf (storedIn history) event) ts
 
-    blocks-after : DefaultBlocks c (entryOf c conf (storedIn history) (selected c names conf (storedIn history) event)) (fallenOf c conf (storedIn history) (selected c names conf (storedIn history) event))
+    blocks-after : DefaultBlocks c (entryOf c conf (storedIn history) (selected c names conf (storedIn history) event))
+        ((entryOf c conf (storedIn history) (selected c names conf (storedIn history) event)) .byDefault) (fallenOf c conf (storedIn history) (selected c names conf (storedIn history) event))
     blocks-after =
         let k = legal-facts c (g .tree) conf l in
         let ts = selected-taken c (g .tree) names conf (k .1 .part) (storedIn history) event in
@@ -170,7 +171,8 @@ module _ (c : Chart) (g : Sound c) (names : Names) where
 
   -- the default blocks that run in it
   pub round-blocks : (s : Follower) → Fit c s → s .mode ≡ Running → (event : Option Name) →
-      DefaultBlocks c (entryOf c (s .configuration) (storedIn (s .history)) (selectedBy c names s event)) (fallenOf c (s .configuration) (storedIn (s .history)) (selectedBy c names s event))
+      DefaultBlocks c (entryOf c (s .configuration) (storedIn (s .history)) (selectedBy c names s event)) ((entryOf c (s .configuration) (storedIn (s .history)) (selectedBy c names s event)) .byDefault)
+      (fallenOf c (s .configuration) (storedIn (s .history)) (selectedBy c names s event))
   unfolding selectedBy
   round-blocks s f m event = let a = running-live s f m in blocks-after (s .configuration) (s .history) event (a .legal) (a .history)
 

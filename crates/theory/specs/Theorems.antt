@@ -1,10 +1,11 @@
 -- The theorems in one place: for tables that keep the rules, every call keeps a session well formed.
 use mathlib.Core.Path.{_≡_, refl, subst}
 use mathlib.Core.Bool.{true}
-use mathlib.Core.List.{List, [], _∷_}
+use mathlib.Core.List.{List, [], _∷_, _++_}
 use mathlib.Core.Option.{Option, none, some}
 use mathlib.Core.Logic.{inr, _↔_}
 use Prim.Native.Nat.{ℕ}
+use Rattle.definition.specs.declared.Action.{Action}
 use Rattle.definition.specs.declared.Mode.the-variants.{Running, Closing, Ended}
 use Rattle.definition.specs.declared.Answer.{Answer}
 use Rattle.definition.specs.declared.Answer.the-variants.{Done}
@@ -14,7 +15,7 @@ use Rattle.definition.specs.Chart.{Chart, Names}
 use Rattle.definition.specs.Tables.{chartOf, nameAt}
 use Rattle.definition.specs.Rules.{keepsRules}
 use Rattle.follower.specs.Selection.{initialTargets, chooser}
-use Rattle.follower.specs.Blocks.{Effect}
+use Rattle.follower.specs.Blocks.{Effect, performed}
 use Rattle.follower.specs.Microstep.{pathsBelow, targeted, storedIn, historyAfter, entryOf, fallenOf}
 use Rattle.follower.specs.Follower.{Follower, endedFollower, isFinalUnderRoot, did, round, refusal, selectedBy, firstEntry, firstFallen, firstFollower, firstEffects, startOr, start, post, run}
 use Rattle.follower.specs.Calls.{Call, starts, posts, runs, Outcome, startedOutcome, ranOutcome, follow, followAll}
@@ -29,6 +30,8 @@ use Rattle.theory.specs.EntryOrder.{EntrySet}
 use Rattle.theory.specs.Seed.{first-means}
 use Rattle.theory.specs.Choosers.{FirstChooser}
 use Rattle.theory.specs.DefaultBlocks.{DefaultBlocks, start-default-blocks}
+use Rattle.theory.specs.Nested.{Branch, wholeIf, NestedParts, NestedBlocks, nested-blocks}
+use Rattle.theory.specs.Branches.{branchTaken, if-takes}
 use Rattle.theory.specs.Keeps as keeps
 use Rattle.theory.specs.Keeps.{Fit, FitAfter, ended-over, first-fits, start-fits, post-fits, round-fits, run-fits}
 use Rattle.theory.specs.WellFormed.{parts-well-formed, well-formed-queues, well-formed-fit, well-formed-exact}
@@ -146,20 +149,35 @@ module _ (numbers names : List ℕ) (accepted : keepsRules numbers names ≡ Don
       (entryOf (chartOf numbers) (s .configuration) (storedIn (s .history)) (selectedBy (chartOf numbers) (nameAt names) s event))
   round-entry s w m event = keeps.round-entry (chartOf numbers) sound (nameAt names) s (well-formed-fit (chartOf numbers) sound s w) m event
 
-  -- ---- who chose: "with each transition the first active atomic state that chose it" (R-6)
+  -- ---- who chose: "with each transition the first active atomic state that chose it"
 
+  -- of each transition that a round takes (R-6)
   pub round-choosers : (s : Follower) → WellFormed (chartOf numbers) s → s .mode ≡ Running → (event : Option Name) (t : ℕ) →
       mem t (selectedBy (chartOf numbers) (nameAt names) s event) ≡ true →
       FirstChooser (chartOf numbers) (nameAt names) (s .configuration) event t (chooser (chartOf numbers) (nameAt names) (s .configuration) event t)
   round-choosers s w m event t n = keeps.round-choosers (chartOf numbers) sound (nameAt names) s (well-formed-fit (chartOf numbers) sound s w) m event t n
 
-  -- ---- default blocks: an entered row has at most one, and beside its initial block only that of the history which its own initial list
-  -- names alone (R-3)
+  -- ---- default blocks: that of a history in an initial list runs; an entered row has at most one, and beside its initial block only that of
+  -- the history which its own initial list names alone
 
-  pub start-blocks : DefaultBlocks (chartOf numbers) (firstEntry (chartOf numbers)) (firstFallen (chartOf numbers))
+  -- of a start, which enters the root's initial list too (R-3)
+  pub start-blocks : DefaultBlocks (chartOf numbers) (firstEntry (chartOf numbers)) (0 ∷ (firstEntry (chartOf numbers)) .byDefault) (firstFallen (chartOf numbers))
   start-blocks = start-default-blocks (chartOf numbers) sound
 
+  -- of a round (R-3)
   pub round-blocks : (s : Follower) → WellFormed (chartOf numbers) s → s .mode ≡ Running → (event : Option Name) →
       DefaultBlocks (chartOf numbers) (entryOf (chartOf numbers) (s .configuration) (storedIn (s .history)) (selectedBy (chartOf numbers) (nameAt names) s event))
+      ((entryOf (chartOf numbers) (s .configuration) (storedIn (s .history)) (selectedBy (chartOf numbers) (nameAt names) s event)) .byDefault)
       (fallenOf (chartOf numbers) (s .configuration) (storedIn (s .history)) (selectedBy (chartOf numbers) (nameAt names) s event))
   round-blocks s w m event = keeps.round-blocks (chartOf numbers) sound (nameAt names) s (well-formed-fit (chartOf numbers) sound s w) m event
+
+  -- ---- blocks: "only the branch taken"
+
+  -- every block is made of actions and whole ifs (R-5)
+  pub blocks-nested : NestedBlocks (chartOf numbers)
+  blocks-nested = nested-blocks (chartOf numbers) (sound .transitionRule)
+
+-- of an if the first branch whose test holds is performed, its else if none does, and no other; then what follows the if (R-5)
+pub branch-taken : (conf : List ℕ) (b : Branch) (bs : List Branch) (last : Option (List Action)) → NestedParts (b ∷ bs) last → (rest : List Action) →
+    performed conf (wholeIf b bs last ++ rest) ≡ performed conf (branchTaken conf (b ∷ bs) last) ++ performed conf rest
+branch-taken conf b bs last v rest = if-takes conf b bs last v rest
