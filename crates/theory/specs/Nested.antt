@@ -67,14 +67,13 @@ more-parts b bs last v w (suc n) = w n
 data Open : List Bool → List Action → Type 0 where
   outside : {xs : List Action} → Nested xs → Open [] xs
   inElse : {ifs : List Bool} (ys rest : List Action) {xs : List Action} → xs ≡ ys ++ (End ∷ rest) → Nested ys → Open ifs rest → Open (true ∷ ifs) xs
-  inBranch : {ifs : List Bool} (ys : List Action) (bs : List Branch) (last : Option (List Action)) (rest : List Action) {xs : List Action} →
-      xs ≡ ys ++ (others bs last ++ (End ∷ rest)) → Nested ys → NestedParts bs last → Open ifs rest → Open (false ∷ ifs) xs
+  inBranch : {ifs : List Bool} (ys rest : List Action) (bs : List Branch) (last : Option (List Action)) {xs : List Action} → xs ≡ ys ++ (others bs last ++ (End ∷ rest)) → Nested ys → NestedParts bs last → Open ifs rest → Open (false ∷ ifs) xs
 
 front : (pre : List Action) → ((ys : List Action) → Nested ys → Nested (pre ++ ys)) → {ifs : List Bool} {xs : List Action} → Open ifs xs → Open ifs (pre ++ xs)
 front pre f (outside {xs} v) = outside (f xs v)
 front pre f (inElse ys rest e v o) = inElse (pre ++ ys) rest (ap (λ (zs : List Action). pre ++ zs) e ∙ sym (append-assoc pre ys (End ∷ rest))) (f ys v) o
-front pre f (inBranch ys bs last rest e v w o) =
-    inBranch (pre ++ ys) bs last rest (ap (λ (zs : List Action). pre ++ zs) e ∙ sym (append-assoc pre ys (others bs last ++ (End ∷ rest)))) (f ys v) w o
+front pre f (inBranch ys rest bs last e v w o) =
+    inBranch (pre ++ ys) rest bs last (ap (λ (zs : List Action). pre ++ zs) e ∙ sym (append-assoc pre ys (others bs last ++ (End ∷ rest)))) (f ys v) w o
 
 none-open : (ifs : List Bool) → isEmpty ifs ≡ true → Open ifs []
 unfolding isEmpty
@@ -83,7 +82,7 @@ none-open (seen ∷ ifs) h = absurd (no h)
 
 if-open : (i : ℕ) {ifs : List Bool} {xs : List Action} → Open (false ∷ ifs) xs → Open ifs (If i ∷ xs)
 unfolding wholeIf
-if-open i {ifs} {xs} (inBranch ys bs last rest e v w o) =
+if-open i {ifs} {xs} (inBranch ys rest bs last e v w o) =
     let b : Branch = record { test = i; actions = ys } in
     let q : wholeIf b bs last ++ rest ≡ If i ∷ xs =
     ap (λ (zs : List Action). If i ∷ zs) (append-assoc (ys ++ others bs last) (End ∷ []) rest ∙ append-assoc ys (others bs last) (End ∷ rest) ∙ sym e) in
@@ -93,21 +92,21 @@ elseif-open : (i : ℕ) (ifs : List Bool) {xs : List Action} → awaitsElse ifs 
 unfolding awaitsElse others
 elseif-open i [] h o = absurd (no h)
 elseif-open i (true ∷ ifs) h o = absurd (no h)
-elseif-open i (false ∷ ifs) h (inBranch ys bs last rest e v w o) =
+elseif-open i (false ∷ ifs) h (inBranch ys rest bs last e v w o) =
     let b : Branch = record { test = i; actions = ys } in
-    inBranch [] (b ∷ bs) last rest (ap (λ (zs : List Action). ElseIf i ∷ zs) (e ∙ sym (append-assoc ys (others bs last) (End ∷ rest)))) nothing (more-parts b bs last v w) o
+    inBranch [] rest (b ∷ bs) last (ap (λ (zs : List Action). ElseIf i ∷ zs) (e ∙ sym (append-assoc ys (others bs last) (End ∷ rest)))) nothing (more-parts b bs last v w) o
 
 else-open : (ifs : List Bool) {xs : List Action} → awaitsElse ifs ≡ true → Open (withElse ifs) xs → Open ifs (Else ∷ xs)
 unfolding awaitsElse withElse others
 else-open [] h o = absurd (no h)
 else-open (true ∷ ifs) h o = absurd (no h)
-else-open (false ∷ ifs) h (inElse ys rest e v o) = inBranch [] [] (some ys) rest (ap (λ (zs : List Action). Else ∷ zs) e) nothing (else-part ys v) o
+else-open (false ∷ ifs) h (inElse ys rest e v o) = inBranch [] rest [] (some ys) (ap (λ (zs : List Action). Else ∷ zs) e) nothing (else-part ys v) o
 
 end-open : (ifs : List Bool) {xs : List Action} → not (isEmpty ifs) ≡ true → Open (closed ifs) xs → Open ifs (End ∷ xs)
 unfolding isEmpty closed others
 end-open [] h o = absurd (no h)
 end-open (true ∷ ifs) {xs} h o = inElse [] xs refl nothing o
-end-open (false ∷ ifs) {xs} h o = inBranch [] [] none xs refl nothing no-part o
+end-open (false ∷ ifs) {xs} h o = inBranch [] xs [] none refl nothing no-part o
 
 nests-open : (ifs : List Bool) (xs : List Action) → nests ifs xs ≡ true → Open ifs xs
 unfolding nests
@@ -119,12 +118,12 @@ nests-open ifs (ElseIf i ∷ xs) h = elseif-open i ifs (and-left (awaitsElse ifs
 nests-open ifs (Else ∷ xs) h = else-open ifs (and-left (awaitsElse ifs) _ h) (nests-open (withElse ifs) xs (and-right (awaitsElse ifs) _ h))
 nests-open ifs (End ∷ xs) h = end-open ifs (and-left (not (isEmpty ifs)) _ h) (nests-open (closed ifs) xs (and-right (not (isEmpty ifs)) _ h))
 
-open-nested : {xs : List Action} → Open [] xs → Nested xs
-open-nested (outside v) = v
+outside-nested : {xs : List Action} → Open [] xs → Nested xs
+outside-nested (outside v) = v
 
 pub fits-blocks : (c : Chart) (block : List Action) → branchesFit c block ≡ true → Nested block
 unfolding branchesFit
-fits-blocks c block h = open-nested (nests-open [] block (and-left (nests [] block) (all (testFits c) block) h))
+fits-blocks c block h = outside-nested (nests-open [] block (and-left (nests [] block) (all (testFits c) block) h))
 
 -- every block of a chart is one
 pub record NestedBlocks (c : Chart) : Type 0 where
