@@ -27,7 +27,8 @@ use Rattle.theory.specs.Round.{entered-means, selected-taken, next-legal
 use Rattle.theory.specs.LegalTest.{legal-facts, facts-legal}
 use Rattle.theory.specs.Seed.{first-legal}
 use Rattle.theory.specs.Choosers.{FirstChooser, chooser-first}
-use Rattle.theory.specs.DefaultBlocks.{DefaultBlocks, round-default-blocks}
+use Rattle.theory.specs.DefaultBlocks.{DefaultBlocks}
+use Rattle.theory.specs.Fallen.{round-default-blocks}
 use Rattle.theory.specs.Storing.{stored-kept, kept-stored}
 use Rattle.theory.specs.Runs.{round-cases, run-invariant}
 use Rattle.theory.specs.Queues.{post-free}

@@ -10,6 +10,7 @@ pub mod Round
 pub mod LegalTest
 pub mod Seed
 pub mod DefaultBlocks
+pub mod Fallen
 pub mod Storing
 pub mod Nested
 pub mod Branches

@@ -29,7 +29,8 @@ use Rattle.theory.specs.Shown as shown
 use Rattle.theory.specs.EntryOrder.{EntrySet}
 use Rattle.theory.specs.Seed.{first-means}
 use Rattle.theory.specs.Choosers.{FirstChooser}
-use Rattle.theory.specs.DefaultBlocks.{DefaultBlocks, start-default-blocks}
+use Rattle.theory.specs.DefaultBlocks.{DefaultBlocks}
+use Rattle.theory.specs.Fallen.{start-default-blocks}
 use Rattle.theory.specs.Nested.{Branch, wholeIf, NestedParts, NestedBlocks, nested-blocks}
 use Rattle.theory.specs.Branches.{branchTaken, if-takes}
 use Rattle.theory.specs.Keeps as keeps
