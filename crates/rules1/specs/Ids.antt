@@ -16,8 +16,8 @@ use Rattle.laws.specs.Lists.{same-eq, same-self}
 use Rattle.laws.specs.Loops.{each-below, below-each, all-begin, all-turn, all-leave, all-done}
 use Rattle.laws.specs.Orders.{lt-case}
 use Rattle.names.specs.Slots.{padded-before}
-use Rattle.tables.specs.Ranges.{InTables, SlotsIn, SlotIn, optional-below, slot-in}
-use Rattle.tables.specs.Parts.{IdOf, SlotOf}
+use Rattle.tables.specs.Ranges.{InTables, SlotsIn, SlotIn, optional-below, slot-in, row-fits}
+use Rattle.tables.specs.Parts.{IdOf, SlotOf, slot-is}
 
 -- every slot has been judged
 pub record Slots (numbers names : List ℕ) : Type 0 where
@@ -39,6 +39,11 @@ pub record IdTurn (numbers names : List ℕ) (i : ℕ) : Type 0 where
   pub slots : Slots numbers names
   pub below : i < rowCount numbers
   pub before : (j : ℕ) → j < i → isNewId numbers names j ≡ true
+
+-- every slot and every id by itself has been judged
+pub record AllIds (numbers names : List ℕ) : Type 0 where
+  pub slots : Slots numbers names
+  pub ids : (i : ℕ) → i < rowCount numbers → isIdOf numbers names i ≡ true
 
 -- ---- slots that end in zeros are equal if their names are
 
@@ -126,6 +131,11 @@ module _ (numbers names : List ℕ) where
   id-there zero l h = absurd (omega arith)
   id-there (suc i) l h = eqb-false _ _ (not-true _ (and-left (not (eqb (idAt numbers (suc i)) noNumber)) _ h))
 
+  pub id-named : (i : ℕ) → 0 < i → isIdOf numbers names i ≡ true → isId (nameOf i) ≡ true
+  unfolding isIdOf
+  id-named zero l h = absurd (omega arith)
+  id-named (suc i) l h = and-right (not (eqb (idAt numbers (suc i)) noNumber)) _ h
+
   module _ (s : Slots numbers names) where
     id-low : (i n : ℕ) → 0 < i → isIdOf numbers names i ≡ true → IdOf numbers i n → n < nameCount numbers
     id-low i n l h o = optional-below (nameCount numbers) n (o .low) (λ e. id-there i l h (sym (o .is) ∙ e))
@@ -136,6 +146,22 @@ module _ (numbers names : List ℕ) where
     slot-zeros : (n : ℕ) → n < nameCount numbers → zerosAfter (slotAt names n) ≡ true
     unfolding slotFits
     slot-zeros n l = and-left (zerosAfter (slotAt names n)) _ (s .fit n l)
+
+    id-is : (i : ℕ) → i < rowCount numbers → IdOf numbers i (idAt numbers i)
+    unfolding idAt
+    id-is i l = record { is = refl; low = row-fits numbers i (record { tables = s .tables; below = l }) .id }
+
+    slot-size : (n : ℕ) → n < nameCount numbers → length (slotAt names n) ≡ 64
+    slot-size n l = let a = slot-is names n (slot-in numbers names n (s .slots) l) in ap length (sym (a .is)) ∙ a .size
+
+    -- rows of one name have one slot
+    pub id-slots : (i j : ℕ) → 0 < i → 0 < j → i < rowCount numbers → j < rowCount numbers → isIdOf numbers names i ≡ true → isIdOf numbers names j ≡ true →
+        nameOf i ≡ nameOf j → slotAt names (idAt numbers i) ≡ slotAt names (idAt numbers j)
+    unfolding nameAt
+    id-slots i j p q l m h g e =
+        let a = id-low i (idAt numbers i) p h (id-is i l) in
+        let b = id-low j (idAt numbers j) q g (id-is j m) in
+        same-eq _ _ (same-slots (slotAt names (idAt numbers i)) (slotAt names (idAt numbers j)) (slot-size _ a ∙ sym (slot-size _ b)) (slot-zeros _ a) (slot-zeros _ b) ∙ rw e (same-self (beforeZero (slotAt names (idAt numbers j)))))
 
     -- two slots, read by the ids of two rows
     pub id-same : (i j n m : ℕ) (xs ys : List ℕ) → 0 < i → 0 < j → (i ≡ j → ⊥) → isIdOf numbers names i ≡ true → isIdOf numbers names j ≡ true → IdOf numbers i n → IdOf numbers j m →

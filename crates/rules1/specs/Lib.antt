@@ -2,6 +2,8 @@ pub mod Inside
 pub mod Arguments
 pub mod Ids
 pub mod Keys
+pub mod Classes
+pub mod Buckets
 pub mod Raises
 pub mod Verdicts
 pub mod Plain

@@ -10,8 +10,10 @@ use numbers::NameNumber;
 pub use sizes::has_no_parts;
 pub use sizes::keeps_sizes;
 
+mod classes;
 mod ids;
 mod sizes;
+mod spelling;
 
 // ---- rule 2
 

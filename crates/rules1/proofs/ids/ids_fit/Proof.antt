@@ -1,12 +1,13 @@
 use borrow.Author.Needs.{needs}
 use mathlib.Core.Path.{_≡_, refl, sym}
-use mathlib.Core.Bool.{true}
-use Prim.Native.Nat.{_-_, _≤_, _<_}
+use mathlib.Core.Bool.{true, false}
+use Prim.Native.Nat.{_+_, _*_, _-_, _≤_, _<_}
 use native.Mathlib.Omega.{arith}
 use Rattle.definition.specs.Rows.{all, from}
 use Rattle.laws.specs.Loops.{all-begin, all-turn, said-not-yes, said-not-no}
-use Rattle.rules1.specs.Ids.{isNewId, id-turn, ids-leave, ids-done, new-no}
-use Rattle.rules1.specs.Keys.{Seen, seen-begin, seen-turn, key-free, key-found}
+use Rattle.rules1.specs.Ids.{isNewId, id-turn, ids-leave, ids-done, new-no, new-root}
+use Rattle.rules1.specs.Keys.{key-found}
+use Rattle.rules1.specs.Buckets.{Seen, Turn, seen-begin, seen-turn}
 use Rattle.rules1.proofs.ids.ids_fit.Statement.{statement}
 use Rattle.rules1.proofs.ids.ids_fit.Tie as tie
 
@@ -19,50 +20,47 @@ abbrev μ-loop : tie.MeasureT-loop
 row-count-requires : tie.Need-row-count-requires Inv-loop μ-loop
 row-count-requires c κs = search needs
 
+is-id-of-requires : tie.Need-is-id-of-requires Inv-loop μ-loop
+is-id-of-requires c κs = let some = c .before .before .before .pre .tables .sized .counts .some in (c .before .before .before .pre, omega (arith, some))
+
 returns : tie.Need-returns Inv-loop μ-loop
-returns c = ids-done _ _ 0 (c .before .row-count .result) (omega arith) (omega (arith, c .if1 .taken)) (c .before .row-count .ensures) (all-begin _)
-
-is-new-id-requires : tie.Need-is-new-id-requires Inv-loop μ-loop
-is-new-id-requires c κs = let l : 0 < c .before .row-count .result = omega arith in id-turn _ _ 0 (c .before .row-count .result) (c .before .before .before .before .pre) l (c .before .row-count .ensures) (all-begin _)
-
-returns-2 : tie.Need-returns-2 Inv-loop μ-loop
-returns-2 c = let l : 0 < c .before .before .before .row-count .result = omega arith in ids-leave _ _ 0 (c .before .before .before .row-count .result) l (c .before .before .before .row-count .ensures) (said-not-yes _ _ (c .before .is-new-id .ensures) (c .if2 .taken))
+returns c = let n = c .before .before .row-count .result in let q = c .before .before .row-count .ensures in let some = c .before .before .before .before .before .pre .tables .sized .counts .some in ids-leave _ _ 0 n (omega (arith, q, some)) q (sym (new-no _ _ 0 (said-not-yes _ _ (c .before .is-id-of .ensures) (c .if1 .taken))))
 
 loop-holds : tie.Need-loop-holds Inv-loop μ-loop
-loop-holds c = let l : 1 ≤ c .before .before .before .row-count .result = omega arith in (omega arith, l, all-turn _ 0 (all-begin _) (said-not-no _ _ (c .before .is-new-id .ensures) (c .if2 .left)), seen-begin _ _ _ refl)
+loop-holds c = let n = c .before .before .row-count .result in let q = c .before .before .row-count .ensures in let some = c .before .before .before .before .before .pre .tables .sized .counts .some in (omega arith, omega (arith, q, some), all-turn _ 0 (all-begin _) (sym (new-root _ _ 0 refl (said-not-no _ _ (c .before .is-id-of .ensures) (c .if1 .left)))), seen-begin _ _)
 
-cast-t16 : tie.Need-cast-t16 Inv-loop μ-loop
-cast-t16 c = search needs
+cast-t13 : tie.Need-cast-t13 Inv-loop μ-loop
+cast-t13 c = search needs
 
 id-key-requires : tie.Need-id-key-requires Inv-loop μ-loop
-id-key-requires c κs = let e = (c .before .before .before .before .before .row-count .ensures) in (c .before .before .before .before .before .before .before .before .pre, omega (arith, e), omega arith)
+id-key-requires c κs = let n = c .before .before .before .before .row-count .result in let q = c .before .before .before .before .row-count .ensures in let some = c .before .before .before .before .before .before .before .pre .tables .sized .counts .some in let i = c .before .loop .i in let l : i < n = omega arith in (c .before .before .before .before .before .before .before .pre, omega (arith, q, l), omega arith)
+
+returns-2 : tie.Need-returns-2 Inv-loop μ-loop
+returns-2 c = let n = c .before .before .before .before .before .before .row-count .result in let q = c .before .before .before .before .before .before .row-count .ensures in let some = c .before .before .before .before .before .before .before .before .before .pre .tables .sized .counts .some in let i = c .before .before .before .loop .i in let l : i < n = omega arith in ids-leave _ _ i n l q (sym (new-no _ _ i (c .before .id-key .ensures .none (c .if2 .taken))))
+
+slice-aggregate-place-of : tie.Need-slice-aggregate-place-of Inv-loop μ-loop
+slice-aggregate-place-of c = search needs
+
+place-of-requires : tie.Need-place-of-requires Inv-loop μ-loop
+place-of-requires c κs = let n = c .before .before .before .before .before .before .before .row-count .result in let q = c .before .before .before .before .before .before .before .row-count .ensures in let some = c .before .before .before .before .before .before .before .before .before .before .pre .tables .sized .counts .some in let i = c .before .before .before .before .loop .i in let l : i < n = omega arith in let f = key-found _ _ _ _ (c .before .before .id-key .ensures) (c .before .if2 .left) in record { turn = id-turn _ _ i n (c .before .before .before .before .before .before .before .before .before .before .pre) l q (c .before .before .before .before .loop .inv .2); positive = omega arith; own = f .1; is = f .2; low = f .0; so-far = c .before .before .before .before .loop .inv .3 }
 
 returns-3 : tie.Need-returns-3 Inv-loop μ-loop
-returns-3 c = let i = c .before .before .before .loop .i in let l : i < c .before .before .before .before .before .before .before .row-count .result = omega arith in ids-leave _ _ i (c .before .before .before .before .before .before .before .row-count .result) l (c .before .before .before .before .before .before .before .row-count .ensures) (sym (new-no _ _ i (c .before .id-key .ensures .none (c .if3 .taken))))
+returns-3 c = let n = c .before .before .before .before .before .before .before .before .before .row-count .result in let q = c .before .before .before .before .before .before .before .before .before .row-count .ensures in let some = c .before .before .before .before .before .before .before .before .before .before .before .before .pre .tables .sized .counts .some in let i = c .before .before .before .before .before .before .loop .i in let l : i < n = omega arith in ids-leave _ _ i n l q (c .before .place-of .ensures .twice (c .if3 .taken))
 
-mul-word : tie.Need-mul-word Inv-loop μ-loop
-mul-word c = search needs
-
-array-read-word : tie.Need-array-read-word Inv-loop μ-loop
-array-read-word c = let f = key-found _ _ _ _ (c .before .id-key .ensures) (c .if3 .left) in let l = f .0 in let v = c .before .before .before .loop .inv .3 .size in omega arith
-
-shr-taken : tie.Need-shr-taken Inv-loop μ-loop
-shr-taken c = search needs
-
-is-new-key-requires : tie.Need-is-new-key-requires Inv-loop μ-loop
-is-new-key-requires c κs = let i = c .before .before .before .loop .i in let l : i < c .before .before .before .before .before .before .before .row-count .result = omega arith in let p : 0 < i = omega arith in let v = c .before .before .before .loop .inv in let f = key-found _ _ _ _ (c .before .id-key .ensures) (c .if3 .left) in (id-turn _ _ i (c .before .before .before .before .before .before .before .row-count .result) (c .before .before .before .before .before .before .before .before .before .before .pre) l (c .before .before .before .before .before .before .before .row-count .ensures) (v .2), key-free _ _ _ i (v .3) p (f .1) _ (f .2))
+ids-differ-requires : tie.Need-ids-differ-requires Inv-loop μ-loop
+ids-differ-requires c κs = c .before .before .before .before .before .before .before .before .before .before .before .before .before .pre
 
 returns-4 : tie.Need-returns-4 Inv-loop μ-loop
-returns-4 c = let i = c .before .before .before .before .before .loop .i in let l : i < c .before .before .before .before .before .before .before .before .before .row-count .result = omega arith in ids-leave _ _ i (c .before .before .before .before .before .before .before .before .before .row-count .result) l (c .before .before .before .before .before .before .before .before .before .row-count .ensures) (said-not-yes _ _ (c .before .is-new-key .ensures) (c .if4 .taken))
-
-shl-seen : tie.Need-shl-seen Inv-loop μ-loop
-shl-seen c = search needs
+returns-4 c = c .ids-differ .ensures
 
 mul-seen : tie.Need-mul-seen Inv-loop μ-loop
-mul-seen c = search needs
+mul-seen c = let n = c .before .before .before .before .before .before .before .before .before .before .row-count .result in let q = c .before .before .before .before .before .before .before .before .before .before .row-count .ensures in let some = c .before .before .before .before .before .before .before .before .before .before .before .before .before .pre .tables .sized .counts .some in let i = c .before .before .before .before .before .before .before .loop .i in let l : i < n = omega arith in let f = key-found _ _ _ _ (c .before .before .before .before .before .id-key .ensures) (c .before .before .before .before .if2 .left) in let k = f .0 in omega arith
+
+add-seen : tie.Need-add-seen Inv-loop μ-loop
+add-seen c = let n = c .before .before .before .before .before .before .before .before .before .before .row-count .result in let q = c .before .before .before .before .before .before .before .before .before .before .row-count .ensures in let some = c .before .before .before .before .before .before .before .before .before .before .before .before .before .pre .tables .sized .counts .some in let i = c .before .before .before .before .before .before .before .loop .i in let l : i < n = omega arith in let f = key-found _ _ _ _ (c .before .before .before .before .before .id-key .ensures) (c .before .before .before .before .if2 .left) in let e = c .before .before .place-of .result in let p = c .before .before .place-of .ensures in let h = p .low in let m : e < 4 = omega (arith, h, c .before .if3 .left, c .if4 .left) in let k = f .0 in omega (arith, k, m)
 
 array-write-seen : tie.Need-array-write-seen Inv-loop μ-loop
-array-write-seen c = let f = key-found _ _ _ _ (c .before .before .before .id-key .ensures) (c .before .before .if3 .left) in let l = f .0 in let v = c .before .before .before .before .before .loop .inv .3 .size in omega arith
+array-write-seen c = let n = c .before .before .before .before .before .before .before .before .before .before .row-count .result in let q = c .before .before .before .before .before .before .before .before .before .before .row-count .ensures in let some = c .before .before .before .before .before .before .before .before .before .before .before .before .before .pre .tables .sized .counts .some in let i = c .before .before .before .before .before .before .before .loop .i in let l : i < n = omega arith in let f = key-found _ _ _ _ (c .before .before .before .before .before .id-key .ensures) (c .before .before .before .before .if2 .left) in let e = c .before .before .place-of .result in let p = c .before .before .place-of .ensures in let h = p .low in let m : e < 4 = omega (arith, h, c .before .if3 .left, c .if4 .left) in let k = f .0 in let s = c .before .before .before .before .before .before .before .loop .inv .3 .size in omega (arith, k, m, s)
 
 add-i : tie.Need-add-i Inv-loop μ-loop
 add-i c = search needs
@@ -71,10 +69,10 @@ loop-less : tie.Need-loop-less Inv-loop μ-loop
 loop-less c = omega arith
 
 loop-again : tie.Need-loop-again Inv-loop μ-loop
-loop-again c = let i = c .before .before .before .before .before .loop .i in let v = c .before .before .before .before .before .loop .inv in let f = key-found _ _ _ _ (c .before .before .before .id-key .ensures) (c .before .before .if3 .left) in (omega arith, omega arith, all-turn _ i (v .2) (said-not-no _ _ (c .before .is-new-key .ensures) (c .if4 .left)), seen-turn _ _ _ i (v .3) _ (f .0) (f .2))
+loop-again c = let n = c .before .before .before .before .before .before .before .before .before .before .row-count .result in let q = c .before .before .before .before .before .before .before .before .before .before .row-count .ensures in let some = c .before .before .before .before .before .before .before .before .before .before .before .before .before .pre .tables .sized .counts .some in let i = c .before .before .before .before .before .before .before .loop .i in let l : i < n = omega arith in let f = key-found _ _ _ _ (c .before .before .before .before .before .id-key .ensures) (c .before .before .before .before .if2 .left) in let e = c .before .before .place-of .result in let p = c .before .before .place-of .ensures in let h = p .low in let m : e < 4 = omega (arith, h, c .before .if3 .left, c .if4 .left) in let t : Turn _ _ _ i _ = record { turn = id-turn _ _ i n (c .before .before .before .before .before .before .before .before .before .before .before .before .before .pre) l q (c .before .before .before .before .before .before .before .loop .inv .2); positive = omega arith; own = f .1; is = f .2; low = f .0; so-far = c .before .before .before .before .before .before .before .loop .inv .3 } in (omega arith, omega arith, all-turn _ i (c .before .before .before .before .before .before .before .loop .inv .2) (p .free m .0), seen-turn _ _ _ i _ t e p m)
 
 returns-5 : tie.Need-returns-5 Inv-loop μ-loop
-returns-5 c = let v = c .before .loop .inv in ids-done _ _ (c .before .loop .i) (c .before .before .before .before .before .row-count .result) (v .1) (omega arith) (c .before .before .before .before .before .row-count .ensures) (v .2)
+returns-5 c = let n = c .before .before .before .before .row-count .result in let q = c .before .before .before .before .row-count .ensures in let some = c .before .before .before .before .before .before .before .pre .tables .sized .counts .some in ids-done _ _ (c .before .loop .i) n (c .before .loop .inv .1) (omega arith) q (c .before .loop .inv .2)
 
 pub ids-fit-spec : {M : Type 1} → statement M
 ids-fit-spec =
@@ -83,20 +81,19 @@ ids-fit-spec =
     Inv-loop
     μ-loop
     row-count-requires
+    is-id-of-requires
     returns
-    is-new-id-requires
-    returns-2
     loop-holds
-    cast-t16
+    cast-t13
     id-key-requires
+    returns-2
+    slice-aggregate-place-of
+    place-of-requires
     returns-3
-    mul-word
-    array-read-word
-    shr-taken
-    is-new-key-requires
+    ids-differ-requires
     returns-4
-    shl-seen
     mul-seen
+    add-seen
     array-write-seen
     add-i
     loop-less

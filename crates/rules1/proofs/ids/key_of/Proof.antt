@@ -8,7 +8,7 @@ use Rattle.rules1.proofs.ids.key_of.Statement.{statement}
 use Rattle.rules1.proofs.ids.key_of.Tie as tie
 
 abbrev Inv-loop : tie.InvT-loop
-Inv-loop name key₀ i₀ key i = (i ≤ length name) × (key < 4096) × (keyFrom key (drop i name) ≡ keyFrom 0 name)
+Inv-loop name key₀ i₀ key i = (i ≤ length name) × (key < 1024) × (keyFrom key (drop i name) ≡ keyFrom 0 name)
 
 abbrev μ-loop : tie.MeasureT-loop
 μ-loop name key₀ i₀ key i = length name - i

@@ -1,7 +1,7 @@
 use borrow.Author.Needs.{needs}
 use Rattle.rules1.specs.Ids.{id-root, id-none, id-low-read, id-descriptor, id-some}
-use Rattle.rules1.proofs.ids.is_id_of.Statement.{statement}
-use Rattle.rules1.proofs.ids.is_id_of.Tie as tie
+use Rattle.rules1.proofs.spelling.is_id_of.Statement.{statement}
+use Rattle.rules1.proofs.spelling.is_id_of.Tie as tie
 
 id-of-requires : tie.Need-id-of-requires
 id-of-requires c κs = search needs

@@ -2,8 +2,8 @@ use borrow.Author.Needs.{needs}
 use mathlib.Core.Path.{refl}
 use native.Mathlib.Omega.{arith}
 use Rattle.rules1.specs.Plain.{plain-id, none-id}
-use Rattle.rules1.proofs.ids.is_id.Statement.{statement}
-use Rattle.rules1.proofs.ids.is_id.Tie as tie
+use Rattle.rules1.proofs.spelling.is_id.Statement.{statement}
+use Rattle.rules1.proofs.spelling.is_id.Tie as tie
 
 returns : tie.Need-returns
 returns c = none-id _ (c .if1 .taken)
