@@ -12,10 +12,11 @@ use Rattle.session.specs.declared.Session.{Session}
 use Rattle.lent.specs.declared.Checks.{Checks}
 use Rattle.lent.specs.Places.{sessionIn, lengthsFit, checksOf}
 use Rattle.faithful.specs.Program.{call}
-use Rattle.calls.specs.Calls.{callOf}
+use Rattle.calls.specs.declared.Cells.{Cells}
+use Rattle.calls.specs.Calls.{isKind, isCall, callOf}
 use Rattle.calls.specs.Performing.{Did, Performs, callsIn}
 use Rattle.calls.specs.Kept.{checksAfter, call-checks}
-use Rattle.calls.specs.Reading.{fitsAt}
+use Rattle.calls.specs.Reading.{cellsAt, fitsAt, fits-read}
 use Rattle.calls.specs.Turns.{lent, back, Left, left-begin, left-again, left-ends, left-stops}
 
 -- what the first i calls left in the places, and what is known of the session there
@@ -30,6 +31,11 @@ pub none-performed : (fits : Bool) (first : Session) (chart names cells text res
 unfolding callsIn
 none-performed fits first chart names cells text results trace e =
     rw e (left-ends first chart names [] text results trace first results trace 0 0 0 (left-begin first chart names [] text results trace) (omega arith))
+
+pub all-performed : (fits : Bool) (first : Session) (chart names cells text results₀ trace₀ : List ℕ) (last : Session) (count : ℕ) (results trace : List ℕ) → fits ≡ true →
+    Performs first chart names cells text results₀ trace₀ last count results trace → Performs first chart names (callsIn fits cells) text results₀ trace₀ last count results trace
+unfolding callsIn
+all-performed fits first chart names cells text results₀ trace₀ last count results trace e h = rw e h
 
 -- two triples that fit are the same
 pub same-sizes : (a b c a₁ b₁ c₁ : ℕ) → lengthsFit a b c ≡ true → lengthsFit a₁ b₁ c₁ ≡ true → (a ≡ a₁) × (b ≡ b₁) × (c ≡ c₁)
@@ -73,13 +79,28 @@ module _ (numbers₀ internal₀ external₀ chart names cells text results₀ t
     lengths = same-fit _ _ _ _ _ _ (h .lengths) ln li le;
   }
 
-  module _ (fits : lengthsFit (length numbers₀) (length internal₀) (length external₀) ≡ true) where
-    pub in-ends : length cells / 4 ≤ i →
-        Performs first chart names (callsIn (lengthsFit (length numbers₀) (length internal₀) (length external₀)) cells) text results₀ trace₀ s i results trace
-    unfolding callsIn
-    in-ends l = rw fits (left-ends first chart names cells text results₀ trace₀ s results trace i put used (h .left) l)
+  -- the same as the code reads the cells of the call
+  module _ (x : Cells) (q : x ≡ cellsAt cells (i * 4)) where
+    pub kind-read : isKind (getD cells (i * 4) 0) (getD cells (i * 4 + 2) 0) (getD cells (i * 4 + 3) 0) (length text) ≡ true → isKind (x .kind) (x .a) (x .b) (length text) ≡ true
+    kind-read = rw q (λ e. e)
 
-    pub in-stops : i < length cells / 4 → fitsAt cells text (i * 4) (length results - put) (length trace - used) ≡ false →
-        Performs first chart names (callsIn (lengthsFit (length numbers₀) (length internal₀) (length external₀)) cells) text results₀ trace₀ s i results trace
-    unfolding callsIn
-    in-stops l f = rw fits (left-stops first chart names cells text results₀ trace₀ s results trace i put used (h .left) l f)
+    pub call-read : (t b : Bool) → t ≡ isCall (x .kind) (x .room) (x .a) (x .b) (length text) (length results - put) (length trace - used) → t ≡ b →
+        fitsAt cells text (i * 4) (length results - put) (length trace - used) ≡ b
+    call-read t b e f = fits-read cells text (i * 4) x (length results - put) (length trace - used) t b q e f
+
+    pub room-read : x .room ≡ getD cells (i * 4 + 1) 0
+    room-read = ap (λ (y : Cells). y .room) q
+
+    pub in-read : i < length cells / 4 → fitsAt cells text (i * 4) (length results - put) (length trace - used) ≡ true → (numbers₁ internal₁ external₁ told cell after : List ℕ) →
+        Did (call chart names s (callOf (x .kind) (length (lent used (used + x .room - used) trace)) (x .a) (x .b) text)) (lent used (used + x .room - used) trace) (sessionIn numbers₁ internal₁ external₁) told after →
+        cell ≡ told → length after ≡ length (lent used (used + x .room - used) trace) → (k₁ : Checks) → k₁ ≡ checksAfter k (x .kind) →
+        length numbers₁ ≡ length numbers → length internal₁ ≡ length internal → length external₁ ≡ length external →
+        LeftIn numbers₀ internal₀ external₀ chart names cells text results₀ trace₀ numbers₁ internal₁ external₁ (back put (put + 3 - put) results cell) (back used (used + x .room - used) trace after) k₁ (i + 1) (put + 3)
+        (used + x .room)
+    in-read = rw q in-again
+
+  pub in-ends : length cells / 4 ≤ i → Performs first chart names cells text results₀ trace₀ s i results trace
+  in-ends l = left-ends first chart names cells text results₀ trace₀ s results trace i put used (h .left) l
+
+  pub in-stops : i < length cells / 4 → fitsAt cells text (i * 4) (length results - put) (length trace - used) ≡ false → Performs first chart names cells text results₀ trace₀ s i results trace
+  in-stops l f = left-stops first chart names cells text results₀ trace₀ s results trace i put used (h .left) l f

@@ -1,5 +1,5 @@
 -- How the cells of a list of calls are read, and one call told.
-use mathlib.Core.Path.{_≡_, refl, ap, _∙_}
+use mathlib.Core.Path.{_≡_, refl, sym, ap, _∙_}
 use mathlib.Core.Bool.{Bool, true, false, _&&_}
 use mathlib.Core.List.{List, [], _∷_}
 use Prim.Native.Nat.{ℕ, suc, _+_, _-_, _≤_, _<_}
@@ -22,6 +22,7 @@ use Rattle.faithful.specs.Program.{startStep, postStep, runStep, call}
 use Rattle.lent.specs.declared.StartedIn.{StartedIn}
 use Rattle.lent.specs.declared.RanIn.{RanIn}
 use Rattle.lent.specs.Places.{startedIn, ranIn}
+use Rattle.calls.specs.declared.Cells.{Cells}
 use Rattle.calls.specs.Calls.{mostRounds, isKind, isCall, callOf, callsOf}
 use Rattle.calls.specs.Performing.{Told, Did}
 
@@ -70,6 +71,9 @@ module _ (kind room a b size results left : ℕ) where
 
 -- ---- the calls from cell p on
 
+abbrev pub cellsAt : List ℕ → ℕ → Cells
+cellsAt cells p = record { kind = getD cells p 0; room = getD cells (p + 1) 0; a = getD cells (p + 2) 0; b = getD cells (p + 3) 0 }
+
 module _ (cells text : List ℕ) (p : ℕ) where
   four : p + 4 ≤ length cells → drop p cells ≡ getD cells p 0 ∷ getD cells (p + 1) 0 ∷ getD cells (p + 2) 0 ∷ getD cells (p + 3) 0 ∷ drop (p + 4) cells
   four l =
@@ -87,6 +91,10 @@ module _ (cells text : List ℕ) (p : ℕ) where
 
   abbrev pub fitsAt : ℕ → ℕ → Bool
   fitsAt results left = isCall (getD cells p 0) (getD cells (p + 1) 0) (getD cells (p + 2) 0) (getD cells (p + 3) 0) (length text) results left
+
+  -- as the code reads them
+  pub fits-read : (x : Cells) (results left : ℕ) (t b : Bool) → x ≡ cellsAt cells p → t ≡ isCall (x .kind) (x .room) (x .a) (x .b) (length text) results left → t ≡ b → fitsAt results left ≡ b
+  fits-read x results left t b e h q = sym (h ∙ ap (λ (y : Cells). isCall (y .kind) (y .room) (y .a) (y .b) (length text) results left) e) ∙ q
 
   abbrev pub callAt : Call
   callAt = callOf (getD cells p 0) (getD cells (p + 1) 0) (getD cells (p + 2) 0) (getD cells (p + 3) 0) text

@@ -2,11 +2,13 @@
 ghost use mathlib.Core.Path.{_≡_};
 ghost use mathlib.Core.Bool.{true};
 ghost use mathlib.Core.List.{[], _∷_};
+ghost use Prim.Native.Nat.{_*_, _/_, _<_};
 ghost use lib.ListN.{length};
 ghost use Rattle.faithful.specs.Program.{call};
 ghost use Rattle.calls.specs.Calls.{isKind, isCall, callOf};
 ghost use Rattle.lent.specs.Places.{sessionIn, lengthsFit, checksOf};
 ghost use Rattle.calls.specs.Kept.{checksAfter};
+ghost use Rattle.calls.specs.Reading.{cellsAt};
 ghost use Rattle.calls.specs.Performing.{Did, Performs, callsIn};
 use answers::answer_number;
 use answers::status_number;
@@ -38,33 +40,39 @@ fn is_kind(kind: u64, a: u64, b: u64, size: usize) -> bool
     (kind == RUN) & (a <= MOST_ROUNDS)
 }
 
+// What a call of a list is: its kind, the length of its window of the trace, and for a post where its name begins and ends in the text, for
+// a run its rounds in a.
+struct Cells {
+    kind: u64,
+    room: u64,
+    a: u64,
+    b: u64,
+}
+
+fn cells_at(calls: &[u64], i: usize) -> Cells
+    requires { ⌜ i < length (now calls) / 4 ⌝ }
+    ensures { λ c. ⌜ c ≡ cellsAt (now (calls .entry)) (i * 4) ⌝ }
+{
+    let at = i * CALL_WIDTH;
+    Cells {
+        kind: calls[at],
+        room: calls[at + 1],
+        a: calls[at + 2],
+        b: calls[at + 3],
+    }
+}
+
 // There is room for so many results and trace entries.
-fn is_call(kind: u64, room: u64, a: u64, b: u64, size: usize, results: usize, left: usize) -> bool
-    ensures { λ r. ⌜ r ≡ isCall kind room a b size results left ⌝ }
+fn is_call(cells: Cells, size: usize, results: usize, left: usize) -> bool
+    ensures { λ r. ⌜ r ≡ isCall (cells .kind) (cells .room) (cells .a) (cells .b) size results left ⌝ }
 {
     if results < RESULT_WIDTH {
         return false;
     }
-    if (left as u64) < room {
+    if (left as u64) < cells.room {
         return false;
     }
-    is_kind(kind, a, b, size)
-}
-
-fn put_result(result: &mut [u64], number: u32, rounds: u32, count: usize)
-    requires { ⌜ length (now result) ≡ 3 ⌝ }
-    ensures { λ _. ⌜ now (result .exit) ≡ number ∷ rounds ∷ count ∷ [] ⌝ }
-{
-    result[0] = number as u64;
-    result[1] = rounds as u64;
-    result[2] = count as u64;
-}
-
-// What a call of a list is: its kind, and for a post where its name begins and ends in the text, for a run its rounds in a.
-struct Cells {
-    kind: u64,
-    a: u64,
-    b: u64,
+    is_kind(cells.kind, cells.a, cells.b, size)
 }
 
 // What it gives: the number of its answer or status, the rounds done and the count of its entries.
@@ -72,6 +80,25 @@ struct Called {
     number: u32,
     rounds: u32,
     count: usize,
+}
+
+fn put_result(result: &mut [u64], called: Called)
+    requires { ⌜ length (now result) ≡ 3 ⌝ }
+    ensures { λ _. ⌜ now (result .exit) ≡ called .number ∷ called .rounds ∷ called .count ∷ [] ⌝ }
+{
+    result[0] = called.number as u64;
+    result[1] = called.rounds as u64;
+    result[2] = called.count as u64;
+}
+
+fn gives(number: u32, rounds: u32, count: usize) -> Called
+    ensures { λ r. ⌜ r ≡ record { number = number; rounds = rounds; count = count } ⌝ }
+{
+    Called {
+        number: number,
+        rounds: rounds,
+        count: count,
+    }
 }
 
 // One call of a list, over its window of the trace.
@@ -96,30 +123,14 @@ fn perform_call(
         let good = checks.chart;
         let started = lent::start_checked(good, numbers, internal, external, chart, names, trace);
         let answer = started.answer;
-        let count = started.count;
-        return Called {
-            number: answer_number(answer),
-            rounds: 0,
-            count: count,
-        };
+        return gives(answer_number(answer), 0, started.count);
     }
     if kind == POST {
         let from = a as usize;
         let to = b as usize;
-        let answer = lent::post_checked(
-            checks,
-            numbers,
-            internal,
-            external,
-            chart,
-            names,
-            &text[from..to],
-        );
-        return Called {
-            number: answer_number(answer),
-            rounds: 0,
-            count: 0,
-        };
+        let name = &text[from..to];
+        let answer = lent::post_checked(checks, numbers, internal, external, chart, names, name);
+        return gives(answer_number(answer), 0, 0);
     }
     let ran = lent::run_checked(
         checks,
@@ -132,13 +143,7 @@ fn perform_call(
         trace,
     );
     let status = ran.status;
-    let number = ran.rounds;
-    let count = ran.count;
-    Called {
-        number: status_number(status),
-        rounds: number,
-        count: count,
-    }
+    gives(status_number(status), ran.rounds, ran.count)
 }
 
 // Behind a start the session passes if the chart does; every other call keeps it as it was.
@@ -155,6 +160,52 @@ fn checks_after(checks: Checks, kind: u64) -> Checks
 }
 
 // ---- the list
+
+// The calls over places of the right lengths.
+fn perform_calls(
+    numbers: &mut [u64],
+    internal: &mut [u8],
+    external: &mut [u8],
+    chart: &[u64],
+    names: &[u8],
+    calls: &[u64],
+    text: &[u8],
+    results: &mut [u64],
+    trace: &mut [u32],
+) -> usize
+    requires { ⌜ lengthsFit (length (now numbers)) (length (now internal)) (length (now external)) ≡ true ⌝ }
+    ensures { λ r. ⌜ Performs (sessionIn (now (numbers .entry)) (now (internal .entry)) (now (external .entry))) (now (chart .entry)) (now (names .entry)) (now (calls .entry)) (now (text .entry)) (now (results .entry)) (now (trace .entry)) (sessionIn (now (numbers .exit)) (now (internal .exit)) (now (external .exit))) r (now (results .exit)) (now (trace .exit)) ⌝ }
+{
+    let mut checks = lent::check(numbers, internal, external, chart, names);
+    let mut performed = 0;
+    let mut put = 0;
+    let mut used = 0;
+    while performed < calls.len() / CALL_WIDTH {
+        let cells = cells_at(calls, performed);
+        if !is_call(cells, text.len(), results.len() - put, trace.len() - used) {
+            break;
+        }
+        let put_end = put + RESULT_WIDTH;
+        let end = used + cells.room as usize;
+        let done = perform_call(
+            checks,
+            numbers,
+            internal,
+            external,
+            chart,
+            names,
+            cells,
+            text,
+            &mut trace[used..end],
+        );
+        put_result(&mut results[put..put_end], done);
+        checks = checks_after(checks, cells.kind);
+        put = put_end;
+        used = end;
+        performed += 1;
+    }
+    performed
+}
 
 // The calls up to the first four cells that are none, or that results or trace have no room for; chart and session are checked once. Three results a call: the number of its
 // answer or status, the rounds done, the count of its entries, which stand at the beginning of its window. What is handed back is how many were performed.
@@ -174,48 +225,15 @@ pub fn perform(
     if !lent::lengths_fit(numbers.len(), internal.len(), external.len()) {
         return 0;
     }
-    let mut checks = lent::check(numbers, internal, external, chart, names);
-    let mut performed = 0;
-    let mut put = 0;
-    let mut used = 0;
-    while performed < calls.len() / CALL_WIDTH {
-        let at = performed * CALL_WIDTH;
-        let kind = calls[at];
-        let room = calls[at + 1];
-        let a = calls[at + 2];
-        let b = calls[at + 3];
-        let size = text.len();
-        let free = results.len() - put;
-        let left = trace.len() - used;
-        if !is_call(kind, room, a, b, size, free, left) {
-            break;
-        }
-        let put_end = put + RESULT_WIDTH;
-        let end = used + room as usize;
-        let cells = Cells {
-            kind: kind,
-            a: a,
-            b: b,
-        };
-        let called = perform_call(
-            checks,
-            numbers,
-            internal,
-            external,
-            chart,
-            names,
-            cells,
-            text,
-            &mut trace[used..end],
-        );
-        let number = called.number;
-        let rounds = called.rounds;
-        let count = called.count;
-        put_result(&mut results[put..put_end], number, rounds, count);
-        checks = checks_after(checks, kind);
-        put = put_end;
-        used = end;
-        performed += 1;
-    }
-    performed
+    perform_calls(
+        numbers,
+        internal,
+        external,
+        chart,
+        names,
+        calls,
+        text,
+        results,
+        trace,
+    )
 }

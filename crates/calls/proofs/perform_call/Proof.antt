@@ -23,16 +23,16 @@ same-length-4 : tie.Need-same-length-4
 same-length-4 c = search needs
 
 returns : tie.Need-returns
-returns c = started-did _ _ _ _ _ _ _ _ (c .before .before .before .before .before .before .before .before .before .start-checked .result) _ _ _ (c .before .before .before .before .before .before .before .before .before .before .before .before .before .before .if1 .taken) (c .before .before .before .before .before .before .before .before .before .start-checked .ensures) (c .answer-number .ensures)
+returns c = rw (c .gives .ensures) (started-did _ _ _ _ _ _ _ _ (c .before .before .before .before .before .before .before .before .before .before .start-checked .result) _ _ _ (c .before .before .before .before .before .before .before .before .before .before .before .before .before .before .before .if1 .taken) (c .before .before .before .before .before .before .before .before .before .before .start-checked .ensures) (c .before .answer-number .ensures))
 
-sub-post-checked : tie.Need-sub-post-checked
-sub-post-checked c = post-part _ _ _ _ (c .before .before .before .before .before .before .before .before .before .before .before .before .pre .2) (c .before .before .before .if2 .taken) .0
+sub-name : tie.Need-sub-name
+sub-name c = post-part _ _ _ _ (c .before .before .before .before .before .before .before .before .before .pre .2) (c .if2 .taken) .0
 
-part-post-checked-start : tie.Need-part-post-checked-start
-part-post-checked-start c = let p = post-part _ _ _ _ (c .before .before .before .before .before .before .before .before .before .before .before .before .pre .2) (c .before .before .before .if2 .taken) in search needs
+part-name-start : tie.Need-part-name-start
+part-name-start c = let p = post-part _ _ _ _ (c .before .before .before .before .before .before .before .before .before .pre .2) (c .if2 .taken) in search needs
 
-part-post-checked-end : tie.Need-part-post-checked-end
-part-post-checked-end c = let p = post-part _ _ _ _ (c .before .before .before .before .before .before .before .before .before .before .before .before .pre .2) (c .before .before .before .if2 .taken) in search needs
+part-name-end : tie.Need-part-name-end
+part-name-end c = let p = post-part _ _ _ _ (c .before .before .before .before .before .before .before .before .before .pre .2) (c .if2 .taken) in search needs
 
 post-checked-requires : tie.Need-post-checked-requires
 post-checked-requires c κs = search needs
@@ -50,7 +50,7 @@ same-length-7 : tie.Need-same-length-7
 same-length-7 c = search needs
 
 returns-2 : tie.Need-returns-2
-returns-2 c = posted-did _ _ _ _ _ _ _ _ _ _ _ (c .before .before .before .before .before .before .before .before .before .before .if2 .taken) (c .before .before .before .before .before .post-checked .ensures) (c .answer-number2 .ensures)
+returns-2 c = rw (c .gives2 .ensures) (posted-did _ _ _ _ _ _ _ _ _ _ _ (c .before .before .before .before .before .before .before .before .before .before .before .if2 .taken) (c .before .before .before .before .before .before .post-checked .ensures) (c .before .answer-number2 .ensures))
 
 cast-run-checked : tie.Need-cast-run-checked
 cast-run-checked c = let l = run-rounds _ _ _ _ (c .before .before .before .before .before .before .before .before .before .before .before .before .pre .2) (c .before .before .before .before .if1 .left) (c .before .before .before .if2 .left) in search needs
@@ -74,7 +74,16 @@ same-length-11 : tie.Need-same-length-11
 same-length-11 c = search needs
 
 returns-3 : tie.Need-returns-3
-returns-3 c = ran-did _ _ _ _ _ _ _ _ (c .before .before .before .before .before .before .before .before .before .run-checked .result) _ _ _ (c .before .before .before .before .before .before .before .before .before .before .before .before .before .before .before .if1 .left) (c .before .before .before .before .before .before .before .before .before .before .before .before .before .before .if2 .left) (c .before .before .before .before .before .before .before .before .before .run-checked .ensures) (c .status-number .ensures)
+returns-3 c = rw (c .gives3 .ensures) (ran-did _ _ _ _ _ _ _ _ (c .before .before .before .before .before .before .before .before .before .before .run-checked .result) _ _ _ (c .before .before .before .before .before .before .before .before .before .before .before .before .before .before .before .before .if1 .left) (c .before .before .before .before .before .before .before .before .before .before .before .before .before .before .before .if2 .left) (c .before .before .before .before .before .before .before .before .before .before .run-checked .ensures) (c .before .status-number .ensures))
+
+gives-requires : tie.Need-gives-requires
+gives-requires c κs = search needs
+
+gives-requires-2 : tie.Need-gives-requires-2
+gives-requires-2 c κs = search needs
+
+gives-requires-3 : tie.Need-gives-requires-3
+gives-requires-3 c κs = search needs
 
 pub perform-call-spec : {M : Type 1} → statement M
 perform-call-spec =
@@ -82,16 +91,18 @@ perform-call-spec =
     (tie.spec
     start-checked-requires
     answer-number-requires
+    gives-requires
     same-length
     same-length-2
     same-length-3
     same-length-4
     returns
-    sub-post-checked
-    part-post-checked-start
-    part-post-checked-end
+    sub-name
+    part-name-start
+    part-name-end
     post-checked-requires
     answer-number-requires-2
+    gives-requires-2
     same-length-5
     same-length-6
     same-length-7
@@ -99,6 +110,7 @@ perform-call-spec =
     cast-run-checked
     run-checked-requires
     status-number-requires
+    gives-requires-3
     same-length-8
     same-length-9
     same-length-10

@@ -16,9 +16,22 @@ same-length : tie.Need-same-length
 same-length c = search needs
 
 returns : tie.Need-returns
-returns c = put-three (c .args .result .now) _ _ _ (c .pre)
+returns c = put-three (c .before .before .args .result .now) _ _ _ (c .before .before .pre)
+
+cast-result : tie.Need-cast-result
+cast-result c = search needs
+
+cast-result-2 : tie.Need-cast-result-2
+cast-result-2 c = search needs
 
 pub put-result-spec : {M : Type 1} → statement M
 put-result-spec =
     tie.close
-    (tie.spec slice-write-result slice-write-result-2 slice-write-result-3 same-length returns)
+    (tie.spec
+    cast-result
+    slice-write-result
+    cast-result-2
+    slice-write-result-2
+    slice-write-result-3
+    same-length
+    returns)
