@@ -9,9 +9,10 @@ use Rattle.definition.specs.Tables.{slotSize, rowCount, transitionCount, nameCo
 use Rattle.definition.specs.Tree.{ancestors, descendants, children, defaultTargets, anchors}
 use Rattle.definition.specs.Rules.{compiledSize, rule2}
 use Rattle.definition.specs.Compiled.{ownNumbers}
-use Rattle.tables.specs.Ranges.{InTables}
+use Rattle.tables.specs.Ranges.{InTables, RowIn}
 unfoldable pub use Rattle.tables.specs.Parts.{setAt}
 use Rattle.accepted.specs.Sound.{Sound}
+use Rattle.rowset.specs.declared.RowSet.{RowSet}
 use Rattle.rowset.specs.Member.{rowsOf}
 
 -- ---- where each column begins; a set has four words
@@ -51,6 +52,11 @@ pub record RowReady (chart : List ℕ) (i : ℕ) : Type 0 where
 pub record TransitionReady (chart : List ℕ) (t : ℕ) : Type 0 where
   pub ready : Ready chart
   pub inside : t < transitionCount chart
+
+-- a row of the tables, and its children
+pub record RowWith (numbers : List ℕ) (i : ℕ) (kids : RowSet) : Type 0 where
+  pub row : RowIn numbers i
+  pub are : rowsOf kids ≡ children (chartOf numbers) i
 
 -- a row that is not the root
 pub record BelowRoot (chart : List ℕ) (i : ℕ) : Type 0 where

@@ -6,7 +6,7 @@ ghost use Rattle.definition.specs.Rows.{union};
 ghost use Rattle.definition.specs.Tables.{rowCount, tablesSize, chartOf};
 ghost use Rattle.definition.specs.Tree.{ancestors, descendants, children, isCompound, isAtomic, isDomainKind, defaultTargets, anchors};
 ghost use Rattle.rowset.specs.Member.{rowsOf};
-ghost use Rattle.chart.specs.Ready.{setAt, RowReady, BelowRoot, TransitionReady, ParentRow, SetInside};
+ghost use Rattle.chart.specs.Ready.{setAt, RowReady, RowWith, BelowRoot, TransitionReady, ParentRow, SetInside};
 use kinds::is_final;
 pub use kinds::is_history;
 use kinds::is_root;
@@ -96,15 +96,26 @@ pub fn is_atomic(chart: &[u64], r: Row) -> bool
     false
 }
 
-// Whether a row has an initial list and may be a domain: the root and the compounds.
+// Whether a row with these children has an initial list and may be a domain: the root and the compounds. The sets of the chart need not be there yet.
+pub fn has_initial(numbers: &[u64], r: Row, kids: RowSet) -> bool
+    requires { ⌜ RowWith (now numbers) (r .0) kids ⌝ }
+    ensures { λ b. ⌜ b ≡ isDomainKind (chartOf (now (numbers .entry))) (r .0) ⌝ }
+{
+    let k = tables::kind_of(numbers, r);
+    if is_root(k) {
+        return true;
+    }
+    if is_state(k) {
+        return !kids.is_empty();
+    }
+    false
+}
+
 pub fn is_domain_kind(chart: &[u64], r: Row) -> bool
     requires { ⌜ RowReady (now chart) (r .0) ⌝ }
     ensures { λ b. ⌜ b ≡ isDomainKind (chartOf (now (chart .entry))) (r .0) ⌝ }
 {
-    if is_root(tables::kind_of(chart, r)) {
-        return true;
-    }
-    is_compound(chart, r)
+    has_initial(chart, r, children_of(chart, r))
 }
 
 // The parent of a row that is not the root.

@@ -19,15 +19,15 @@ use Rattle.laws.specs.Orders.{union-none}
 use Rattle.laws.specs.Parts.{part-end}
 use Rattle.laws.specs.Passes.{drop-end}
 use Rattle.accepted.specs.Tree.{Tree}
-use Rattle.rowset.specs.Member.{rowsOf, Fitting}
+use Rattle.rowset.specs.Member.{rowsOf}
 use Rattle.rowset.specs.Rows.{words-of-rows}
 use Rattle.chart.specs.Ready.{setAt}
 use Rattle.chart.specs.Columns.{length-column}
 use Rattle.chart.specs.Inside.{ancestor-inside, descendant-inside, child-inside, default-inside, anchors-inside}
-use Rattle.compiler.specs.Writing.{putAt, words-set, columnOver, over-begin, over-next, read-set}
+use Rattle.chart.specs.Writing.{putAt, words-set, columnOver, over-begin, over-next, read-set}
 use Rattle.compiler.specs.Compilable.{Compilable, RowRoom}
 use Rattle.compiler.specs.Whole.{lent}
-use Rattle.compiler.specs.Judged.{rowsIn, isAbove, isJoined, isDown, isAimed, isAnchored, isChildRow, KidsKnown, above-are, are-above, kids-are, are-joined, downs-are, are-downs, aims-are, are-aims, anchors-are, are-anchors, down-rows}
+use Rattle.compiler.specs.Judged.{rowsIn, isAbove, isJoined, isDown, isAimed, isAnchored, KidsKnown, above-are, are-above, kids-are, are-joined, downs-are, are-downs, aims-are, are-aims, anchors-are, are-anchors, down-rows}
 
 -- ---- a column that holds the sets that f gives is f's
 

@@ -11,7 +11,8 @@ use Rattle.accepted.specs.Tree.{low}
 use Rattle.accepted.specs.Sound.{Sound}
 use Rattle.definition.specs.Tree.{children, defaultTargets}
 use Rattle.definition.specs.Compiled.{column}
-use Rattle.compiler.specs.Writing.{columnOver}
+use Rattle.chart.specs.Writing.{columnOver}
+use Rattle.rules3.specs.Parents.{TreeIn, tree-kept}
 
 -- numbers that keep rules 1, 3, 4 and 5
 pub record Compilable (numbers : List ℕ) : Type 0 where
@@ -49,6 +50,9 @@ pub record TransitionRoom (numbers sets : List ℕ) : Type 0 where
 -- ---- a row and its parent
 
 module _ (numbers : List ℕ) (h : Compilable numbers) where
+  pub tree-in : TreeIn numbers
+  tree-in = tree-kept numbers (h .tables) (h .sound .tree .rule)
+
   pub row-in : (i : ℕ) → i < rowCount numbers → RowIn numbers i
   row-in i l = record { tables = h .tables; below = l }
 

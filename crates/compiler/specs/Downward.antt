@@ -16,7 +16,7 @@ use Rattle.laws.specs.Lists.{mem-cases, any-true}
 use Rattle.laws.specs.Orders.{keep-none}
 use Rattle.laws.specs.Ways.{from-parent, child-way}
 use Rattle.accepted.specs.Tree.{Tree, low, climb-one, ancestor-low, anc-below, parent-plain}
-use Rattle.compiler.specs.Writing.{from-bounds, column-cong}
+use Rattle.chart.specs.Writing.{from-bounds, column-cong}
 
 -- from b, which is i or a later row, one step up leads to a
 unfoldable pub isStep : Chart → ℕ → ℕ → ℕ → Bool

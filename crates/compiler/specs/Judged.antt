@@ -17,14 +17,14 @@ use Rattle.laws.specs.Sets.{Ascends, ascends-ext, ascends-union, ascends-those,
 use Rattle.laws.specs.Lists.{any-true, any-mem, all-mem, mem-all, same-eq, same-self, empty-list}
 use Rattle.laws.specs.Loops.{each-below, below-each}
 use Rattle.laws.specs.Passes.{fold-keeps}
-use Rattle.laws.specs.Ways.{Way, Below, eq-way, below-way, below-trans, way-cases, way-le, child-way, from-parent}
+use Rattle.laws.specs.Ways.{Below, eq-way, below-way, below-trans, way-cases, way-le, child-way, from-parent}
 use Rattle.accepted.specs.Tree.{Tree, low, climb-one, below-anc, under-below, under-plain, below-under, child-of, child-facts, children-mem, mem-children}
 use Rattle.rowset.specs.Member.{rowsOf}
 use Rattle.rowset.specs.Rows.{ascends-rows}
 use Rattle.chart.specs.Ready.{setAt}
 use Rattle.rules3.specs.Parents.{TreeIn}
+use Rattle.rules3.specs.Ancestry.{insert-union}
 use Rattle.compiler.specs.Compilable.{Compilable}
-use Rattle.compiler.specs.Upward.{insert-union}
 use Rattle.compiler.specs.Downward.{ancestor-plain}
 
 -- the rows of set i of a column

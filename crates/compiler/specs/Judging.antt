@@ -12,7 +12,7 @@ use Rattle.definition.specs.Chart.{Chart, kind, parent, isHistory}
 use Rattle.definition.specs.Tables.{rowCount, chartOf}
 use Rattle.definition.specs.Tree.{isChild, children, isDomainKind, defaultTargets, anchors}
 use Rattle.laws.specs.Bools.{and-left}
-use Rattle.laws.specs.Lists.{all-mem, empty-list}
+use Rattle.laws.specs.Lists.{empty-list}
 use Rattle.rowset.specs.declared.RowSet.{RowSet}
 use Rattle.rowset.specs.Member.{rowsOf}
 use Rattle.tables.specs.Ranges.{HasParent}

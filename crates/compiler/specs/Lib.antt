@@ -1,4 +1,3 @@
-pub mod Writing
 pub mod Upward
 pub mod Downward
 pub mod Compilable

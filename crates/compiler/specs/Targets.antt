@@ -2,21 +2,18 @@
 use mathlib.Core.Path.{_≡_, refl, sym, _∙_}
 use mathlib.Core.Bool.{true, false}
 use mathlib.Core.List.{List, [], _∷_, map}
-use Prim.Native.Nat.{ℕ, zero, suc, _<_}
+use Prim.Native.Nat.{ℕ, _<_}
 use native.Mathlib.Omega.{arith}
 use lib.ListN.{length}
 use Rattle.definition.specs.Rows.{fold, isEmpty, firstOf, insert, with, union}
-use Rattle.definition.specs.Chart.{Chart, kind, parent, isHistory}
-use Rattle.definition.specs.Tables.{rowCount, transitionCount, kindAt, chartOf}
+use Rattle.definition.specs.Chart.{Chart}
+use Rattle.definition.specs.Tables.{rowCount, transitionCount, chartOf}
 use Rattle.definition.specs.Tree.{children, isDomainKind, listed, defaultTargets, anchor, anchors}
-use Rattle.laws.specs.Bools.{clash}
 use Rattle.laws.specs.Orders.{union-none}
-use Rattle.accepted.specs.Tree.{root-kind}
-use Rattle.tables.specs.Ranges.{HasParent}
 use Rattle.rowset.specs.declared.RowSet.{RowSet}
 use Rattle.rowset.specs.Member.{rowsOf}
-use Rattle.kinds.specs.Stands.{root-no-history}
-use Rattle.compiler.specs.Compilable.{Compilable, has-parent}
+use Rattle.chart.specs.Ready.{RowWith}
+use Rattle.compiler.specs.Compilable.{Compilable, row-in}
 
 -- a row of numbers that keep the rules, and its children
 pub record WithChildren (numbers : List ℕ) (i : ℕ) (kids : RowSet) : Type 0 where
@@ -24,9 +21,8 @@ pub record WithChildren (numbers : List ℕ) (i : ℕ) (kids : RowSet) : Type 0 
   pub inside : i < rowCount numbers
   pub are : rowsOf kids ≡ children (chartOf numbers) i
 
-pub record RowKept (numbers : List ℕ) (i : ℕ) : Type 0 where
-  pub numbersKeep : Compilable numbers
-  pub inside : i < rowCount numbers
+pub with-in : (numbers : List ℕ) (i : ℕ) (kids : RowSet) → WithChildren numbers i kids → RowWith numbers i kids
+with-in numbers i kids h = record { row = row-in numbers (h .numbersKeep) i (h .inside); are = h .are }
 
 pub record TransitionKept (numbers : List ℕ) (t : ℕ) : Type 0 where
   pub numbersKeep : Compilable numbers
@@ -74,20 +70,7 @@ module _ (c : Chart) (i : ℕ) (s : RowSet) where
 unfoldable pub withAnchor : Chart → List ℕ → ℕ → List ℕ
 withAnchor c set x = insert (anchor c x) set
 
--- a history has a parent
-pub history-parent : (numbers : List ℕ) (i : ℕ) → Compilable numbers → i < rowCount numbers → isHistory (kindAt numbers i) ≡ true → HasParent numbers i
-history-parent numbers zero h l y = absurd (clash _ y (root-no-history (kindAt numbers 0) (root-kind (chartOf numbers) (h .sound .tree))))
-history-parent numbers (suc i) h l y = has-parent numbers h (suc i) l (omega arith)
-
 module _ (c : Chart) where
-  pub anchor-history : (i p : ℕ) → isHistory (kind c i) ≡ true → p ≡ parent c i → p ≡ anchor c i
-  unfolding anchor
-  anchor-history i p y e = rw y e
-
-  pub anchor-other : (i : ℕ) → isHistory (kind c i) ≡ false → i ≡ anchor c i
-  unfolding anchor
-  anchor-other i y = rw y
-
   -- one more target was read
   pub anchor-turn : (set next : List ℕ) (a r x : ℕ) → r ≡ x → a ≡ anchor c r → next ≡ insert a set → next ≡ withAnchor c set x
   unfolding withAnchor

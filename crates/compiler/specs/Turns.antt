@@ -8,9 +8,8 @@ use lib.ListN.{length, drop, length-append, length-drop}
 use Rattle.definition.specs.Rows.{insert, union, nothingAt}
 use Rattle.definition.specs.Chart.{Chart, isHistory}
 use Rattle.definition.specs.Tables.{rowCount, parentAt, kindAt, chartOf}
-use Rattle.definition.specs.Tree.{ancestors, descendants, isChild, children, defaultTargets}
+use Rattle.definition.specs.Tree.{descendants, isChild, children, defaultTargets}
 use Rattle.definition.specs.Compiled.{words, column}
-use Rattle.accepted.specs.Tree.{ancestor-low}
 use Rattle.laws.specs.Sets.{ascends-those}
 use Rattle.laws.specs.Orders.{union-none}
 use Rattle.rowset.specs.declared.RowSet.{RowSet}
@@ -18,8 +17,8 @@ use Rattle.rowset.specs.Member.{rowsOf}
 use Rattle.chart.specs.Ready.{setAt}
 use Rattle.chart.specs.Columns.{length-column}
 use Rattle.chart.specs.Inside.{child-inside}
-use Rattle.compiler.specs.Writing.{putAt, columnOver, over-begin, put-next, read-set, words-set, length-over, column-cong, over-read, over-cong, Filling, Changing, filling-turn, filling-end, changing-turn, changing-cong, ready-over, ready-filling, ready-changing}
-use Rattle.compiler.specs.Upward.{no-ancestors, ancestor-words, childrenBelow, children-begin, children-skip, children-end, child-words, other-children, child-low}
+use Rattle.chart.specs.Writing.{putAt, columnOver, over-begin, put-next, read-set, words-set, length-over, column-cong, over-read, over-cong, Changing, changing-turn, changing-cong, ready-over, ready-filling, ready-changing}
+use Rattle.compiler.specs.Upward.{childrenBelow, children-begin, children-skip, children-end, child-words, other-children, child-low}
 use Rattle.compiler.specs.Downward.{gathered, gathered-begin, gathered-end, gathered-skip, gathered-other, gathered-words, gathered-low}
 use Rattle.compiler.specs.Compilable.{Compilable, TargetRoom, parent-low}
 
@@ -45,27 +44,6 @@ module _ (numbers : List ℕ) (k : Compilable numbers) where
 
   cleared : (m : ℕ) (place ready : List ℕ) → m ≡ n → ready ≡ columnOver nothingAt m place → ready ≡ columnOver nothingAt n place
   cleared m place ready q e = e ∙ ap (λ (j : ℕ). columnOver nothingAt j place) q
-
-  -- ---- ancestors
-
-  -- the root's are written: none
-  pub ancestors-begin : (place ready : List ℕ) → n * 4 ≤ length place → ready ≡ columnOver nothingAt 1 place → Filling (ancestors c) n 1 ready ready
-  ancestors-begin place ready l e =
-      ready-filling nothingAt 1 n place ready l some e (ancestors c)
-      (column-cong nothingAt (ancestors c) 1 (λ a b. let z : 0 ≡ a = omega arith in rw (← z) (no-ancestors c (k .sound .tree))))
-
-  pub ancestors-end : (i : ℕ) (place ready sets : List ℕ) → n * 4 ≤ length place → ready ≡ columnOver nothingAt 1 place → Filling (ancestors c) n i ready sets → n ≤ i →
-      sets ≡ columnOver (ancestors c) n place
-  ancestors-end i place ready sets l e h g = filling-end (ancestors c) n i ready sets h g ∙ ready-over nothingAt 1 n place ready l some e (ancestors c)
-
-  pub ancestors-turn : (i p : ℕ) (sets₀ sets next : List ℕ) (above s : RowSet) → Filling (ancestors c) n i sets₀ sets → 0 < i → i < n → p ≡ parentAt numbers i →
-      above ≡ setAt sets (p * 4) → rowsOf s ≡ insert p (rowsOf above) → next ≡ putAt sets (i * 4) (rowsOf s) → Filling (ancestors c) n (i + 1) sets₀ next
-  ancestors-turn i p sets₀ sets next above s h z l e f g q =
-      let b = parent-low numbers k i z in
-      let m = few in
-      filling-turn (ancestors c) n i sets₀ sets next (rowsOf s) h l
-      (ancestor-words c (k .sound .tree) i p (rowsOf above) (rowsOf s) z e
-      (over-read (ancestors c) i p sets₀ sets (p * 4) above (h .is) (omega arith) refl (λ x y. omega (arith, ancestor-low c p x y)) f) g) q
 
   -- ---- children
 

@@ -1,41 +1,20 @@
--- One pass over the rows in document order gives each row's ancestors from its parent's, and each row's children.
+-- One pass over the rows in document order gives each row's children.
 use mathlib.Core.Path.{_≡_, refl, sym, ap, _∙_}
 use mathlib.Core.Bool.{true, false}
-use mathlib.Core.List.{List, [], _∷_}
+use mathlib.Core.List.{List, []}
 use Prim.Native.Nat.{ℕ, zero, suc, _+_, _<_}
 use native.Mathlib.Omega.{arith}
 use borrow.Author.Tests.{le-ltb, ne-eqb}
 use Rattle.definition.specs.Rows.{from, mem, those, insert, union, nothingAt}
 use Rattle.definition.specs.Chart.{Chart, kind, parent, isHistory}
-use Rattle.definition.specs.Tree.{ancestors, isChild, children}
+use Rattle.definition.specs.Tree.{isChild, children}
 use Rattle.definition.specs.Compiled.{words, column}
 use Rattle.laws.specs.Bools.{and-false, no}
-use Rattle.laws.specs.Sets.{ascends-ext, ascends-insert, ascends-union, ascends-those, mem-insert, mem-union, those-low}
+use Rattle.laws.specs.Sets.{ascends-those, those-low}
 use Rattle.laws.specs.Orders.{union-none}
 use Rattle.laws.specs.Loops.{those-insert, those-skip}
-use Rattle.accepted.specs.Tree.{Tree, climb-one, child-of}
-use Rattle.compiler.specs.Writing.{words-set, column-cong}
-
--- ---- ancestors
-
-pub insert-union : (x : ℕ) (xs : List ℕ) → insert x (union [] xs) ≡ union [] (x ∷ xs)
-insert-union x xs =
-    ascends-ext 0 0 (insert x (union [] xs)) (union [] (x ∷ xs)) (ascends-insert x (union [] xs) (ascends-union [] xs tt)) (ascends-union [] (x ∷ xs) tt)
-    (λ a. rw (mem-insert a x (union [] xs), mem-union a [] xs, mem-union a [] (x ∷ xs)) (unfold mem in refl))
-
-module _ (c : Chart) (t : Tree c) where
-  -- the root has none
-  pub no-ancestors : words [] ≡ words (ancestors c 0)
-  unfolding ancestors
-  no-ancestors = refl
-
-  -- the parent, and the parent's
-  pub ancestor-words : (i p : ℕ) (xs ys : List ℕ) → 0 < i → p ≡ parent c i → xs ≡ union [] (ancestors c p) → ys ≡ insert p xs → words ys ≡ words (ancestors c i)
-  ancestor-words zero p xs ys l e f g = absurd (omega arith)
-  ancestor-words (suc i) p xs ys l e f g =
-      rw (g, f, insert-union p (ancestors c p), words-set (p ∷ ancestors c p), climb-one c t i, e)
-
--- ---- children
+use Rattle.accepted.specs.Tree.{Tree, child-of}
+use Rattle.chart.specs.Writing.{column-cong}
 
 -- the children of a among the rows below i
 unfoldable pub childrenBelow : Chart → ℕ → ℕ → List ℕ

@@ -11,7 +11,7 @@ use Rattle.definition.specs.Tree.{ancestors, descendants, children, defaultTarg
 use Rattle.definition.specs.Compiled.{column, columns}
 use Rattle.laws.specs.Passes.{drop-end}
 use Rattle.chart.specs.Columns.{length-column}
-use Rattle.compiler.specs.Writing.{columnOver, over-over, length-over}
+use Rattle.chart.specs.Writing.{columnOver, over-over, length-over}
 use Rattle.compiler.specs.Compilable.{TargetRoom, PairRoom}
 
 -- the part from a on that is lent, and the whole when it is back

@@ -1,16 +1,18 @@
-// Rule 3: every row under its parent, in document order, and a child for each row that needs one; and what rule 4 reads of such a tree, the
-// ancestors of each row.
+// Rule 3: every row under its parent, in document order, and a child for each row that needs one; and what rule 4 and the compiler read of
+// such a tree, the ancestors and the anchor of each row.
 ghost use mathlib.Core.Path.{_≡_};
 ghost use mathlib.Core.List.{_∷_};
 ghost use Prim.Native.Nat.{_+_, _*_, _≤_};
 ghost use lib.ListN.{length};
 ghost use Rattle.definition.specs.Rows.{all, from, mem};
 ghost use Rattle.definition.specs.Tables.{rowCount, chartOf};
-ghost use Rattle.definition.specs.Tree.{ancestors, isChild};
+ghost use Rattle.definition.specs.Tree.{ancestors, isChild, anchor};
 ghost use Rattle.definition.specs.Rules.{parentFits, isHistoryOf, rule3};
 ghost use Rattle.tables.specs.Ranges.{InTables, RowIn};
+ghost use Rattle.tables.specs.Parts.{RowOf};
+ghost use Rattle.chart.specs.Writing.{columnOver};
 ghost use Rattle.rules3.specs.Parents.{TreeIn, Marks, isFilled};
-ghost use Rattle.rules3.specs.Ancestry.{setOf, Put, Ancestry};
+ghost use Rattle.rules3.specs.Ancestry.{setOf, Ancestry};
 use numbers::Row;
 use rowset::RowSet;
 use tables::columns::SET_WIDTH;
@@ -141,6 +143,17 @@ pub fn keeps_tree(numbers: &[u64]) -> bool
     are_filled(numbers)
 }
 
+// The anchor of a history is its parent, of another row itself.
+pub fn anchor_of(numbers: &[u64], r: Row) -> Row
+    requires { ⌜ TreeIn (now numbers) × RowIn (now numbers) (r .0) ⌝ }
+    ensures { λ a. ⌜ RowOf (now (numbers .entry)) (anchor (chartOf (now (numbers .entry))) (r .0)) (a .0) ⌝ }
+{
+    if tables::is_history(tables::kind_of(numbers, r)) {
+        return tables::parent_row(numbers, r);
+    }
+    r
+}
+
 // ---- the ancestors of every row, as sets
 
 pub fn set_of(sets: &[u64], r: Row) -> RowSet
@@ -150,30 +163,26 @@ pub fn set_of(sets: &[u64], r: Row) -> RowSet
     tables::set_at(sets, r.0 as usize * SET_WIDTH)
 }
 
-fn put_set(sets: &mut [u64], r: Row, s: RowSet)
-    requires { ⌜ r .0 * 4 + 4 ≤ length (now sets) ⌝ }
-    ensures { λ _. ⌜ Put (now (sets .entry)) (r .0) s (now (sets .exit)) ⌝ }
+// A parent stands before its children: its ancestors are there when theirs are made.
+pub fn write_ancestors(numbers: &[u64], sets: &mut [u64])
+    requires { ⌜ TreeIn (now numbers) × (rowCount (now numbers) * 4 ≤ length (now sets)) ⌝ }
+    ensures { λ _. ⌜ now (sets .exit) ≡ columnOver (ancestors (chartOf (now (numbers .entry)))) (rowCount (now (numbers .entry))) (now (sets .entry)) ⌝ }
 {
-    let at = r.0 as usize * SET_WIDTH;
-    sets[at] = s.w0;
-    sets[at + 1] = s.w1;
-    sets[at + 2] = s.w2;
-    sets[at + 3] = s.w3;
+    let n = tables::row_count(numbers) as usize;
+    tables::put_set(sets, 0, RowSet::empty());
+    let mut i = 1;
+    while i < n {
+        let p = tables::parent_row(numbers, Row(i as u8));
+        let above = set_of(sets, p);
+        tables::put_set(sets, i * SET_WIDTH, above.with(p));
+        i += 1;
+    }
 }
 
-// A parent stands before its children: its ancestors are there when theirs are made.
+// The same, as rule 4 reads them.
 pub fn put_ancestors(numbers: &[u64], sets: &mut [u64])
     requires { ⌜ TreeIn (now numbers) × (rowCount (now numbers) * 4 ≤ length (now sets)) ⌝ }
     ensures { λ _. ⌜ Ancestry (now (numbers .entry)) (rowCount (now (numbers .entry))) (now (sets .exit)) ⌝ }
 {
-    let n = tables::row_count(numbers);
-    put_set(sets, Row(0), RowSet::empty());
-    let mut i = 1;
-    while i < n {
-        let r = Row(i as u8);
-        let p = tables::parent_row(numbers, r);
-        let above = set_of(sets, p);
-        put_set(sets, r, above.with(p));
-        i += 1;
-    }
+    write_ancestors(numbers, sets);
 }
