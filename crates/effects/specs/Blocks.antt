@@ -193,6 +193,14 @@ module _ (meant : List ℕ) (xs : List Action) (old new : Places) (t r : Tally) 
     rest-wrote newer s v =
         subst (Wrote old newer t s) (sym (performed-split meant xs)) (wrote-both old new newer t r s (plainEffects xs) (performedFrom meant Live (drop (plainCount xs) xs)) w (rw (h, e) at v))
 
+-- the rest of one, where the rows that are meant are worked out
+module _ (active meant : List ℕ) (xs : List Action) (h : active ≡ meant) where
+  pub meant-room : (t : Tally) → Room t (performedFrom meant Live xs) → Room t (performedFrom active Live xs)
+  meant-room t m = rw h m
+
+  pub meant-wrote : (old new : Places) (t r : Tally) → Wrote old new t r (performedFrom active Live xs) → Wrote old new t r (performedFrom meant Live xs)
+  meant-wrote old new t r w = rw h at w
+
 -- a block that was read from the tables, for the actions xs
 module _ (active numbers : List ℕ) (xs : List Action) (b : List ℕ) (h : BlockOf numbers xs b) where
   pub block-asked : (t : Tally) → InTables numbers → Room t (performed active xs) → ActionsFit b × Room t (performed active (actionsOf b))

@@ -1,8 +1,10 @@
 // Entries: "entry block; initial block, if its child came by default; default block, if a history of this row fell to its
 // default list", then the done events.
+ghost use lib.ListN.{drop};
+ghost use Rattle.definition.specs.declared.Reach.the-variants.{Live};
 ghost use Rattle.definition.specs.Rows.{flat};
 ghost use Rattle.definition.specs.Tables.{rowCount, chartOf};
-ghost use Rattle.follower.specs.Blocks.{performed};
+ghost use Rattle.follower.specs.Blocks.{performedFrom, performed};
 ghost use Rattle.follower.specs.Microstep.{initialBlock, activeAt, defaultEffects, entering};
 ghost use Rattle.tables.specs.Ranges.{RowIn};
 ghost use Rattle.tables.specs.Parts.{actionsOf};
@@ -29,7 +31,25 @@ use tables::actions_in;
 use tables::entry_block_of;
 use tables::list_block_of;
 
-// A block in the entry of row r. The rows that are active then are worked out for ifs and done events alone.
+// The actions of a block from that one on, in the entry of row r. The rows that are active then are worked out for ifs and done events alone.
+fn rest_entering(
+    block: &[u64],
+    start: usize,
+    stay: RowSet,
+    set: RowSet,
+    r: Row,
+    trace: &mut [u32],
+    joins: &mut [u32],
+    tally: Tally,
+) -> Tally
+    requires { ⌜ ActionsFit (now block) × Room tally (performedFrom (activeAt (rowsOf stay) (rowsOf set) (r .0)) Live (drop start (actionsOf (now block)))) ⌝ }
+    ensures { λ s. ⌜ Wrote (places (now (trace .entry)) (now (joins .entry))) (places (now (trace .exit)) (now (joins .exit))) tally s (performedFrom (activeAt (rowsOf stay) (rowsOf set) (r .0)) Live (drop start (actionsOf (now (block .entry))))) ⌝ }
+{
+    let active = active_at(stay, set, r);
+    perform_rest(block, start, active, trace, joins, tally)
+}
+
+// The block of a list, in the entry of row r.
 fn perform_entering(
     block: &[u64],
     stay: RowSet,
@@ -48,8 +68,29 @@ fn perform_entering(
     if k == actions_in(block) {
         return sum;
     }
-    let active = active_at(stay, set, r);
-    perform_rest(block, k, active, trace, joins, sum)
+    rest_entering(block, k, stay, set, r, trace, joins, sum)
+}
+
+// The entry block of row r. It is performed for every row that is entered, so it has a function of its own, which a compiler can put in line.
+fn perform_entry(
+    block: &[u64],
+    stay: RowSet,
+    set: RowSet,
+    r: Row,
+    trace: &mut [u32],
+    joins: &mut [u32],
+    tally: Tally,
+) -> Tally
+    requires { ⌜ ActionsFit (now block) × Room tally (performed (activeAt (rowsOf stay) (rowsOf set) (r .0)) (actionsOf (now block))) ⌝ }
+    ensures { λ s. ⌜ Wrote (places (now (trace .entry)) (now (joins .entry))) (places (now (trace .exit)) (now (joins .exit))) tally s (performed (activeAt (rowsOf stay) (rowsOf set) (r .0)) (actionsOf (now (block .entry)))) ⌝ }
+{
+    let plain = perform_plain(block, trace, joins, tally);
+    let sum = plain.tally;
+    let k = plain.actions;
+    if k == actions_in(block) {
+        return sum;
+    }
+    rest_entering(block, k, stay, set, r, trace, joins, sum)
 }
 
 fn initial_block(
@@ -141,7 +182,7 @@ fn enter_row(
 {
     let s1 = emit(trace, tally, ENTERED, r.0 as u32);
     let block = entry_block_of(chart, r);
-    let s2 = perform_entering(block, stay, set, r, trace, joins, s1);
+    let s2 = perform_entry(block, stay, set, r, trace, joins, s1);
     let s3 = initial_block(chart, stay, set, defaults, r, trace, joins, s2);
     default_blocks(chart, stay, set, r, fallen, trace, joins, s3)
 }

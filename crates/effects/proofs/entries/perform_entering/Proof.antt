@@ -1,4 +1,4 @@
-use mathlib.Core.Path.{_∙_}
+use mathlib.Core.Path.{_∙_, refl}
 use borrow.Author.Needs.{needs}
 use Rattle.effects.specs.Blocks.{plain-room, all-plain, rest-room, rest-wrote}
 use Rattle.effects.proofs.entries.perform_entering.Statement.{statement}
@@ -19,11 +19,8 @@ same-length-2 c = search needs
 returns : tie.Need-returns
 returns c = all-plain _ _ _ _ _ _ _ (c .before .before .before .before .before .before .before .perform-plain .ensures .0) (c .before .before .before .before .before .before .before .perform-plain .ensures .1) (c .if1 .taken ∙ c .before .actions-in .ensures)
 
-active-at-requires : tie.Need-active-at-requires
-active-at-requires c κs = search needs
-
-perform-rest-requires : tie.Need-perform-rest-requires
-perform-rest-requires c κs = (c .before .before .before .before .before .before .before .before .before .before .before .before .before .before .before .before .pre .0, rest-room _ _ _ _ _ _ _ (c .before .before .before .before .before .before .before .before .before .before .perform-plain .ensures .0) (c .before .before .before .before .before .before .before .before .before .before .perform-plain .ensures .1) _ (c .before .before .active-at .ensures) (c .before .before .before .before .before .before .before .before .before .before .before .before .before .before .before .before .pre .1))
+rest-entering-requires : tie.Need-rest-entering-requires
+rest-entering-requires c κs = (c .before .before .before .before .before .before .before .before .before .before .before .before .before .before .before .pre .0, rest-room _ _ _ _ _ _ _ (c .before .before .before .before .before .before .before .before .before .perform-plain .ensures .0) (c .before .before .before .before .before .before .before .before .before .perform-plain .ensures .1) _ refl (c .before .before .before .before .before .before .before .before .before .before .before .before .before .before .before .pre .1))
 
 same-length-3 : tie.Need-same-length-3
 same-length-3 c = search needs
@@ -32,7 +29,7 @@ same-length-4 : tie.Need-same-length-4
 same-length-4 c = search needs
 
 returns-2 : tie.Need-returns-2
-returns-2 c = rest-wrote _ _ _ _ _ _ _ (c .before .before .before .before .before .before .before .before .before .before .before .before .before .before .before .perform-plain .ensures .0) (c .before .before .before .before .before .before .before .before .before .before .before .before .before .before .before .perform-plain .ensures .1) _ (c .before .before .before .before .before .before .before .active-at .ensures) _ _ (c .before .before .before .before .perform-rest .ensures)
+returns-2 c = rest-wrote _ _ _ _ _ _ _ (c .before .before .before .before .before .before .before .before .before .before .before .before .before .before .perform-plain .ensures .0) (c .before .before .before .before .before .before .before .before .before .before .before .before .before .before .perform-plain .ensures .1) _ refl _ _ (c .before .before .before .before .rest-entering .ensures)
 
 pub perform-entering-spec : {M : Type 1} → statement M
 perform-entering-spec =
@@ -43,8 +40,7 @@ perform-entering-spec =
     same-length
     same-length-2
     returns
-    active-at-requires
-    perform-rest-requires
+    rest-entering-requires
     same-length-3
     same-length-4
     returns-2)
