@@ -33,7 +33,7 @@ pub fn checks() -> Vec<Check> {
         Check::new("input: 512 transitions are accepted", most_transitions),
         Check::new("input: 768 slots are accepted", most_slots),
         Check::new("input: full tables are accepted", full_tables),
-        Check::new("input: eight targets and eight actions are accepted", most_targets),
+        Check::new("input: eight targets and 32 actions are accepted", most_targets),
         Check::new("input: a list of all rows but two is accepted", longest_list),
         Check::new("input: every byte of every place of an id's slot", every_byte_of_a_slot),
         Check::new("input: every pair of kinds", every_pair_of_kinds),
