@@ -2,19 +2,25 @@
 use mathlib.Core.Path.{_≡_, refl, ap, sym, _∙_, subst}
 use mathlib.Core.Bool.{Bool, true, false, not, _&&_}
 use mathlib.Core.List.{List, []}
-use Prim.Native.Nat.{ℕ, _+_, _<_}
+use mathlib.Core.Logic.{⊎-elim}
+use Prim.Native.Nat.{ℕ, suc, _+_, _<_}
 use native.Mathlib.Omega.{arith}
 use lib.Dec.{eqb, ltb}
 use borrow.Author.Tests.{eqb-true, not-true}
 use Rattle.definition.specs.declared.Kind.{Kind}
-use Rattle.definition.specs.Rows.{mem, isEmpty, insert, union, meets}
-use Rattle.definition.specs.Chart.{Chart, kindNo, kind, isState, isParallel, isFinal}
-use Rattle.definition.specs.Tree.{children, isCompound, isAtomic}
+use Rattle.definition.specs.Rows.{from, mem, isEmpty, insert, union, subset, meets}
+use Rattle.definition.specs.Chart.{Chart, kindNo, kind, parent, isState, isParallel, isFinal}
+use Rattle.definition.specs.Tree.{isChild, children, isCompound, isAtomic, defaultTargets}
+use Rattle.follower.specs.Selection.{History, initialTargets}
 use Rattle.follower.specs.Microstep.{pathsBelow, Entry, hasNoChildIn, complete, entrySet}
-use Rattle.laws.specs.Bools.{no, clash, not-so, and-left, and-right, or-elim}
-use Rattle.laws.specs.Sets.{mem-those}
-use Rattle.laws.specs.Passes.{Counted, count-begin}
-use Rattle.theory.specs.Entry.{asksFor, mem-complete, asked-inside, aimedAt}
+use Rattle.laws.specs.Bools.{no, clash, not-so, and-left, and-right, or-elim, both-ways, bool-case}
+use Rattle.laws.specs.Sets.{Ascends, ascends-ext, ascends-union, mem-those}
+use Rattle.laws.specs.Lists.{subset-mem}
+use Rattle.laws.specs.Passes.{Counted, count-begin, fold-keeps}
+use Rattle.laws.specs.Ways.{Way, here, Below, eq-way, way-cases, way-below-no}
+use Rattle.accepted.specs.Tree.{low, under-below, below-under, child-facts, mem-children}
+use Rattle.accepted.specs.Sound.{Sound}
+use Rattle.theory.specs.Entry.{down-facts, down-intro, ascends-paths, asksFor, mem-complete, asked-inside, aimedAt}
 use Rattle.numbers.specs.declared.Row.{Row}
 use Rattle.rowset.specs.declared.Found.{Found}
 use Rattle.rowset.specs.declared.Found.the-variants.{At, Nothing}
@@ -24,6 +30,7 @@ use Rattle.chart.specs.Within.{Within}
 use Rattle.matching.specs.Chosen.{atomicRows}
 use Rattle.effects.specs.Entering.{entryIs}
 use Rattle.microstep.specs.declared.Entered.{Entered}
+use Rattle.microstep.specs.Initial.{plain-initial}
 
 -- the definition's record
 abbrev pub enteredAs : Entered → Entry
@@ -90,6 +97,52 @@ pub complete-leaf : (c : Chart) (targets : ℕ → List ℕ) (set byDefault atom
     record { set = set; byDefault = byDefault } ≡ complete c targets (record { set = set; byDefault = byDefault }) i
 complete-leaf c targets set byDefault atoms i h a m =
     complete-atomic c targets set byDefault i (children c i) refl m (atomic-apart c i (h .at i a)) (atomic-simple c i (h .at i a))
+
+-- rows that are all atomic ask for nothing more
+pub atomic-aim : (c : Chart) (targets : ℕ → List ℕ) (aim none atoms : List ℕ) → AllAtomic c atoms → subset aim atoms ≡ true → none ≡ [] → record { set = aim; byDefault = none } ≡ entrySet c targets aim
+unfolding entrySet
+atomic-aim c targets aim none atoms h s e =
+    rw e (sym (fold-keeps (complete c targets) (λ (x : Entry). x ≡ aimedAt aim) (from (c .rows) 0) (aimedAt aim) step refl))
+  where
+    step : (i : ℕ) (b : Entry) → mem i (from (c .rows) 0) ≡ true → b ≡ aimedAt aim → complete c targets b i ≡ aimedAt aim
+    step i b m q =
+        ap (λ (x : Entry). complete c targets x i) q ∙
+        bool-case (mem i aim) (λ y. sym (complete-leaf c targets aim [] atoms i h (subset-mem aim atoms s i y) y)) (complete-out c targets aim [] i)
+
+-- ---- default entry targets that are children
+
+module _ (c : Chart) (g : Sound c) (i : ℕ) (to kids : List ℕ) (e : to ≡ union [] (defaultTargets c i)) (k : kids ≡ children c i) (s : subset to kids ≡ true) where
+  to-child : (x : ℕ) → mem x to ≡ true → (x < c .rows) × (isChild c i x ≡ true)
+  to-child x m = mem-children c (g .tree) i x (sym (ap (mem x) k) ∙ subset-mem to kids s x m)
+
+  -- each is its own path
+  own-path : (j : ℕ) → mem j to ≡ true → mem j (pathsBelow c i to) ≡ true
+  own-path j m =
+      let f = child-facts c (g .tree) i j (to-child j m .1) in
+      down-intro c (g .tree) i to j j (to-child j m .0)
+      (rw (f .1) (below-under c (g .tree) i (suc (f .0)) (f .3) (eq-way (parent c) (sym (f .2))))) m here
+
+  -- and no other row is on one
+  only-path : (j : ℕ) → mem j (pathsBelow c i to) ≡ true → mem j to ≡ true
+  only-path j m =
+      let f = down-facts c (g .tree) i to j m in
+      let x = child-facts c (g .tree) i (f .1 .0) (to-child (f .1 .0) (f .1 .1) .1) in
+      ⊎-elim (λ (q : j ≡ f .1 .0). ap (λ (y : ℕ). mem y to) q ∙ f .1 .1)
+      (λ (q : Below (parent c) j (f .1 .0)).
+      absurd (way-below-no (parent c) (low c (g .tree)) j i (subst (Way (parent c) j) (x .2) (subst (Below (parent c) j) (x .1) q)) (under-below c (g .tree) i j (f .0))))
+      (way-cases (parent c) (f .1 .2))
+
+  child-paths : to ≡ pathsBelow c i to
+  child-paths =
+      ascends-ext 0 0 to (pathsBelow c i to) (subst (Ascends 0) (sym e) (ascends-union [] (defaultTargets c i) tt)) (ascends-paths c i to)
+      (λ j. both-ways (mem j to) (mem j (pathsBelow c i to)) (own-path j) (only-path j))
+
+  -- no history is among them, so nothing stands in
+  pub initial-children : (hist : History) → to ≡ pathsBelow c i (initialTargets c hist i)
+  initial-children hist =
+      child-paths ∙
+      ap (pathsBelow c i)
+      (plain-initial c g i hist to e (λ x m. let f = child-facts c (g .tree) i x (to-child x m .1) in rw (f .1) (f .3)))
 
 -- ---- the pass
 

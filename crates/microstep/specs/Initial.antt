@@ -112,17 +112,26 @@ module _ (c : Chart) (g : Sound c) (i : ℕ) where
   pub listed-row : (listed : List ℕ) (x : ℕ) → listed ≡ listedHistories c i → mem x listed ≡ true → x < c .rows
   listed-row listed x e m = default-below c g i x (and-left (mem x (defaultTargets c i)) _ (sym (mem-listed c i x) ∙ sym (ap (mem x) e) ∙ m)) .0
 
+  mem-defaults : (x : ℕ) → mem x (union [] (defaultTargets c i)) ≡ mem x (defaultTargets c i)
+  unfolding mem
+  mem-defaults x = mem-union x [] (defaultTargets c i)
+
   -- none: the default entry targets stand for themselves
+  pub plain-initial : (hist : History) (targets : List ℕ) → targets ≡ union [] (defaultTargets c i) → ((x : ℕ) → mem x targets ≡ true → isHistory (kind c x) ≡ false) → targets ≡ initialTargets c hist i
+  unfolding initialTargets resolved addStandIns standIns union with fold
+  plain-initial hist targets e plain =
+      e ∙ sym (fold-same (addStandIns c hist) with (defaultTargets c i) [] (λ x set m. rw (plain x (ap (mem x) e ∙ mem-defaults x ∙ m))))
+
   pub initial-plain : (hist : History) (targets listed : List ℕ) → targets ≡ union [] (defaultTargets c i) → listed ≡ listedHistories c i → isEmpty listed ≡ true → targets ≡ initialTargets c hist i
-  unfolding initialTargets resolved addStandIns standIns union with fold isHistoryRow
-  initial-plain hist targets listed e f n =
-      e ∙ sym (fold-same (addStandIns c hist) with (defaultTargets c i) [] (λ x set m. rw (plain x m)))
+  unfolding isHistoryRow
+  initial-plain hist targets listed e f n = plain-initial hist targets e plain
     where
-      plain : (x : ℕ) → mem x (defaultTargets c i) ≡ true → isHistory (kind c x) ≡ false
+      plain : (x : ℕ) → mem x targets ≡ true → isHistory (kind c x) ≡ false
       plain x m =
           not-so (isHistory (kind c x))
           (λ h. clash (isEmpty (listedHistories c i)) (ap isEmpty (sym f) ∙ n)
-          (empty-some (listedHistories c i) x (mem-listed c i x ∙ and-true (mem x (defaultTargets c i)) (isHistoryRow c x) m h)))
+          (empty-some (listedHistories c i) x
+          (mem-listed c i x ∙ and-true (mem x (defaultTargets c i)) (isHistoryRow c x) (sym (mem-defaults x) ∙ sym (ap (mem x) e) ∙ m) h)))
 
 -- what stands in lies inside the chart
 pub initial-within : (chart history : List ℕ) (atoms conf out : RowSet) → RoundReady chart history atoms conf → (i : ℕ) (to : List ℕ) →
@@ -242,12 +251,12 @@ zeros-nothing = zeros-stored (replicate 1024 0) (λ v l. getD-replicate 1024 v 0
 pub empty-within : (n : ℕ) (xs : List ℕ) → xs ≡ [] → Within n xs
 empty-within n xs e = rw e (within-none n)
 
-pub start-ready : (chart : List ℕ) (atoms conf : RowSet) → Ready chart → rowsOf atoms ≡ atomicRows (chartOf chart) → rowsOf conf ≡ [] → RoundReady chart (replicate 1024 0) atoms conf
-start-ready chart atoms conf g a e = record {
+pub start-ready : (chart history : List ℕ) (atoms conf : RowSet) → Ready chart → history ≡ replicate 1024 0 → rowsOf atoms ≡ atomicRows (chartOf chart) → rowsOf conf ≡ [] → RoundReady chart history atoms conf
+start-ready chart history atoms conf g z a e = rw z (record {
   store = record { ready = g; atomic = a; inside = empty-within (rowCount chart) (rowsOf conf) e };
   room = length-replicate {A = ℕ} 1024 0;
   kept = λ h l. let few : rowCount chart ≤ 256 = g .tables .sized .counts .rows in empty-within (rowCount chart) (storedAt (replicate 1024 0) h) (zeros-nothing h (omega arith));
-}
+})
 
 kept-where : (b : Bool) (xs ys : List ℕ) → b ≡ false → cond b xs ys ≡ ys
 kept-where b xs ys e = rw e

@@ -1,10 +1,12 @@
 -- The plan of a round: what stays, what is left, what is entered; and that its effects are the definition's.
-use mathlib.Core.Path.{_≡_, ap, sym, _∙_}
+use mathlib.Core.Path.{_≡_, refl, ap, sym, _∙_}
 use mathlib.Core.Bool.{Bool, true, false, cond}
 use mathlib.Core.List.{List, [], _∷_, _++_}
 use Prim.Native.Nat.{ℕ, _^_, _<_, _≤_}
 use native.Mathlib.Omega.{arith}
+use lib.Dec.{ltb}
 use lib.ListN.{replicate}
+use borrow.Author.Tests.{lt-ltb}
 use Rattle.definition.specs.Rows.{nothingAt, keep, mem, isEmpty, flat, union, minus, intersection}
 use Rattle.definition.specs.Chart.{Chart, isHistory}
 use Rattle.definition.specs.Tables.{rowCount, transitionCount, kindAt, chartOf}
@@ -13,8 +15,8 @@ use Rattle.follower.specs.Selection.{History, effectiveTargets, initialTargets,
 use Rattle.follower.specs.Blocks.{Effect}
 use Rattle.follower.specs.Microstep.{stored, addExits, exits, historyAfter, storedIn, staying, exiting, transitionEffects, pathsBelow, addTargets, targeted, Entry, entrySet, entryOf, fellToDefault, addFallen, fallen, withInitial, fallenOf, entering, configurationAfter, effects}
 use Rattle.follower.specs.Follower.{firstEntry, firstFallen, firstEffects}
-use Rattle.laws.specs.Bools.{no, and-left, or-elim}
-use Rattle.laws.specs.Sets.{mem-union, mem-intersection, mem-minus}
+use Rattle.laws.specs.Bools.{no, clash, and-left, and-true, or-elim}
+use Rattle.laws.specs.Sets.{mem-those, mem-head, mem-union, mem-intersection, mem-minus, empty-some}
 use Rattle.laws.specs.Lists.{keep-mem}
 use Rattle.laws.specs.Passes.{fold-keeps}
 use Rattle.accepted.specs.Sound.{Sound}
@@ -30,6 +32,7 @@ use Rattle.effects.specs.Entering.{entryIs, HistoryRows}
 use Rattle.effects.specs.Bounds.{round-room, entering-room}
 use Rattle.microstep.specs.declared.Plan.{Plan}
 use Rattle.microstep.specs.Stored.{after-stored}
+use Rattle.microstep.specs.Words.{isHistoryRow, historyRows}
 use Rattle.microstep.specs.Targets.{targeted-same, fallen-same}
 use Rattle.microstep.specs.Initial.{initial-same, with-initial-same, defaults-within, start-stored}
 
@@ -131,6 +134,21 @@ fallen-histories chart g after ts fell w e = record {
         let f = keep-mem (fellToDefault (chartOf chart) after) ((chartOf chart .transition) t .targets) h n in
         (g .sound .targetInside t (w .at t m) h (f .0), unfold fellToDefault in and-left (isHistory (kindAt chart h)) _ (f .1))
 
+pub fallen-then : (c : Chart) (after : History) (ts aimed fell rows : List ℕ) → aimed ≡ fallen c after ts → fell ≡ withInitial c after aimed rows → fell ≡ withInitial c after (fallen c after ts) rows
+fallen-then c after ts aimed fell rows e f = f ∙ ap (λ (xs : List ℕ). withInitial c after xs rows) e
+
+-- a chart without histories has none that fall
+pub none-fall : (chart : List ℕ) (histories fell none : List ℕ) → histories ≡ historyRows (chartOf chart) → isEmpty histories ≡ true → HistoryRows chart fell → none ≡ [] → none ≡ fell
+unfolding historyRows
+none-fall chart histories fell none e n h q =
+    q ∙ sym (no-member fell (λ x m.
+    clash (isEmpty histories) n
+    (empty-some histories x (ap (mem x) e ∙ mem-those (rowCount chart) (isHistoryRow (chartOf chart)) x ∙ and-true (ltb x (rowCount chart)) _ (lt-ltb x (rowCount chart) (h .at x m .0)) (h .at x m .1)))))
+  where
+    no-member : (xs : List ℕ) → ((x : ℕ) → mem x xs ≡ true → ⊥) → xs ≡ []
+    no-member [] f = refl
+    no-member (x ∷ xs) f = absurd (f x (mem-head x xs))
+
 -- ---- effects
 
 -- what is written for a plan; by says which row chose a transition
@@ -188,12 +206,13 @@ first-is c g hist n aim i e f =
     e ∙ ap (entrySet c (initialTargets c hist)) f ∙ ap (λ (targets : ℕ → List ℕ). entrySet c targets (pathsBelow c 0 (targets 0))) (initial-same c g hist nothingAt n)
 
 -- by zeros, where nothing is exited
-pub first-by-zeros : (chart : List ℕ) → Ready chart → (conf out : RowSet) → rowsOf out ≡ [] → (aim : List ℕ) (i : Entry) →
-    i ≡ entrySet (chartOf chart) (initialTargets (chartOf chart) (stored (chartOf chart) (rowsOf conf) (storedAt (replicate 1024 0)) (rowsOf out))) aim →
-    aim ≡ pathsBelow (chartOf chart) 0 (initialTargets (chartOf chart) (stored (chartOf chart) (rowsOf conf) (storedAt (replicate 1024 0)) (rowsOf out)) 0) → i ≡ firstEntry (chartOf chart)
-first-by-zeros chart g conf out e =
-    first-is (chartOf chart) (g .sound) (stored (chartOf chart) (rowsOf conf) (storedAt (replicate 1024 0)) (rowsOf out))
-    (start-stored (chartOf chart) (rowsOf conf) (rowsOf out) (g .tables .sized .counts .rows) e)
+pub first-by-zeros : (chart : List ℕ) → Ready chart → (history : List ℕ) → history ≡ replicate 1024 0 → (conf out : RowSet) → rowsOf out ≡ [] → (aim : List ℕ) (i : Entry) →
+    i ≡ entrySet (chartOf chart) (initialTargets (chartOf chart) (stored (chartOf chart) (rowsOf conf) (storedAt history) (rowsOf out))) aim →
+    (to : List ℕ) → aim ≡ pathsBelow (chartOf chart) 0 to → to ≡ initialTargets (chartOf chart) (stored (chartOf chart) (rowsOf conf) (storedAt history) (rowsOf out)) 0 → i ≡ firstEntry (chartOf chart)
+first-by-zeros chart g history z conf out e aim i f to p q =
+    first-is (chartOf chart) (g .sound) (stored (chartOf chart) (rowsOf conf) (storedAt history) (rowsOf out))
+    (λ h l. ap (λ (xs : List ℕ). stored (chartOf chart) (rowsOf conf) (storedAt xs) (rowsOf out) h) z ∙ start-stored (chartOf chart) (rowsOf conf) (rowsOf out) (g .tables .sized .counts .rows) e h l)
+    aim i f (p ∙ ap (pathsBelow (chartOf chart) 0) q)
 
 pub first-defaults : (c : Chart) (i : Entry) → i ≡ firstEntry c → Within (c .rows) (i .byDefault)
 unfolding firstEntry

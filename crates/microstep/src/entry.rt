@@ -2,6 +2,7 @@
 ghost use mathlib.Core.Path.{_≡_};
 ghost use mathlib.Core.Bool.{true};
 ghost use Prim.Native.Nat.{_<_};
+ghost use lib.ListN.{replicate};
 ghost use Rattle.definition.specs.Rows.{mem};
 ghost use Rattle.definition.specs.Tables.{rowCount, chartOf};
 ghost use Rattle.follower.specs.Selection.{initialTargets};
@@ -15,7 +16,9 @@ ghost use Rattle.microstep.specs.Stored.{RoundReady};
 ghost use Rattle.microstep.specs.Entry.{enteredAs};
 use crate::Entered;
 use crate::initial::initial_targets;
+use crate::initial::resolve;
 use chart::children_of;
+use chart::default_targets_of;
 use chart::is_compound;
 use kinds::is_parallel;
 use matching::atomic_rows;
@@ -45,7 +48,7 @@ fn initial_paths(
     )
 }
 
-// What row r of the set asks for is added.
+// What row r of the set asks for is added. Default entry targets that are all children of it are their own paths, with no history among them.
 fn complete_row(
     chart: &[u64],
     atoms: RowSet,
@@ -76,14 +79,21 @@ fn complete_row(
     if kids.meets(set) {
         return e;
     }
+    let targets = default_targets_of(chart, r);
+    if targets.subset(kids) {
+        return Entered {
+            set: set.union(targets),
+            by_default: by_default.with(r),
+        };
+    }
     Entered {
         set: set.union(initial_paths(chart, atoms, conf, history, out, r)),
         by_default: by_default.with(r),
     }
 }
 
-// The entry set for what is aimed at: from member to member in document order, since what a row adds stands after it. Initial lists go by
-// the history as the exits left it.
+// The entry set for what is aimed at: from member to member in document order, since what a row adds stands after it. Atomic rows
+// ask for nothing, and most rounds aim at such rows alone. Initial lists go by the history as the exits left it.
 pub fn entry_set(
     chart: &[u64],
     atoms: RowSet,
@@ -95,9 +105,16 @@ pub fn entry_set(
     requires { ⌜ RoundReady (now chart) (now history) atoms conf × Within (rowCount (now chart)) (rowsOf aim) ⌝ }
     ensures { λ e. ⌜ enteredAs e ≡ entrySet (chartOf (now (chart .entry))) (initialTargets (chartOf (now (chart .entry))) (stored (chartOf (now (chart .entry))) (rowsOf conf) (storedAt (now (history .entry))) (rowsOf out))) (rowsOf aim) ⌝ }
 {
+    let none = RowSet::empty();
+    if aim.subset(atoms) {
+        return Entered {
+            set: aim,
+            by_default: none,
+        };
+    }
     let mut e = Entered {
         set: aim,
-        by_default: RowSet::empty(),
+        by_default: none,
     };
     let mut k: u16 = 0;
     loop {
@@ -114,14 +131,15 @@ pub fn entry_set(
     }
 }
 
-// "Start enters the root's initial targets"; nothing is stored.
-pub fn first_entry(chart: &[u64]) -> Entered
-    requires { ⌜ Ready (now chart) ⌝ }
+// "Start enters the root's initial targets"; nothing is stored yet: the history that is lent says so.
+pub fn first_entry(chart: &[u64], nothing: &[u64]) -> Entered
+    requires { ⌜ Ready (now chart) × (now nothing ≡ replicate 1024 0) ⌝ }
     ensures { λ e. ⌜ (enteredAs e ≡ firstEntry (chartOf (now (chart .entry)))) × Within (rowCount (now (chart .entry))) (rowsOf (e .set)) ⌝ }
 {
-    let nothing = [0u64; 1024];
     let atoms = atomic_rows(chart);
     let none = RowSet::empty();
-    let aim = initial_paths(chart, atoms, none, &nothing, none, Row(0));
-    entry_set(chart, atoms, none, &nothing, none, aim)
+    let targets = default_targets_of(chart, Row(0));
+    let to = resolve(chart, atoms, none, nothing, none, targets);
+    let aim = paths_below(chart, Row(0), to);
+    entry_set(chart, atoms, none, nothing, none, aim)
 }

@@ -32,7 +32,7 @@ fn listed_histories(chart: &[u64], r: Row) -> RowSet
 }
 
 // The rows of the set, with what stands in for its histories by the history as the exits left it.
-fn resolve(
+pub fn resolve(
     chart: &[u64],
     atoms: RowSet,
     conf: RowSet,

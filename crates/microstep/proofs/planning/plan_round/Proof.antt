@@ -14,30 +14,27 @@ targeted-requires c κs = search needs
 entry-set-requires : tie.Need-entry-set-requires
 entry-set-requires c κs = (c .before .before .before .before .before .before .pre .1, targeted-within _ _ _ _ _ (c .targeted .ensures))
 
-fallen-of-requires : tie.Need-fallen-of-requires
-fallen-of-requires c κs = search needs
-
-with-initial-requires : tie.Need-with-initial-requires
-with-initial-requires c κs = (c .before .before .before .before .before .before .before .before .before .before .pre .1, defaults-within _ _ _ _ (c .before .before .before .entry-set .ensures))
+fallen-in-requires : tie.Need-fallen-in-requires
+fallen-in-requires c κs = (c .before .before .before .before .before .before .before .before .before .pre .0, c .before .before .before .before .before .before .before .before .before .pre .1, c .before .before .before .before .before .before .before .before .before .pre .2, c .before .before .before .before .before .before .before .before .before .pre .3, defaults-within _ _ _ _ (c .before .before .entry-set .ensures))
 
 returns : tie.Need-returns
 returns c =
-    let g = c .before .before .before .before .before .before .before .before .before .before .before .pre .1 .store .ready in
-    let w = c .before .before .before .before .before .before .before .before .before .before .before .pre .2 .inside in
-    let out = c .before .before .before .before .before .before .before .before .before .before .before .pre .3 in
-    let entry = plan-entry _ (g .sound) _ _ _ w _ out _ _ (c .before .before .before .before .entry-set .ensures) (c .before .before .before .before .before .targeted .ensures) in (
+    let g = c .before .before .before .before .before .before .before .before .before .before .pre .1 .store .ready in
+    let w = c .before .before .before .before .before .before .before .before .before .before .pre .3 .inside in
+    let out = c .before .before .before .before .before .before .before .before .before .before .pre .4 in
+    let entry = plan-entry _ (g .sound) _ _ _ w _ out _ _ (c .before .before .before .entry-set .ensures) (c .before .before .before .before .targeted .ensures) in (
       record {
         from = refl;
-        stay = plan-stay _ (g .sound) _ _ _ w _ out _ (c .before .before .before .before .before .before .minus .ensures);
+        stay = plan-stay _ (g .sound) _ _ _ w _ out _ (c .before .before .before .before .before .minus .ensures);
         out = out;
         entry = entry;
-        fallen = plan-fallen _ (g .sound) _ _ _ w _ out _ _ _ entry (c .before .fallen-of .ensures) (c .with-initial .ensures);
+        fallen = plan-fallen _ (g .sound) _ _ _ w _ out _ _ _ entry refl (c .fallen-in .ensures);
       },
       record {
         ready = g;
-        out = exits-within _ _ _ _ _ _ (c .before .before .before .before .before .before .before .before .before .before .before .pre .1 .store .inside) out;
-        set = entry-within _ _ _ _ (c .before .before .before .before .entry-set .ensures) (targeted-within _ _ _ _ _ (c .before .before .before .before .before .targeted .ensures));
-        fallen = initial-histories _ g _ _ _ _ (fallen-histories _ g _ _ _ w (c .before .fallen-of .ensures)) (c .with-initial .ensures);
+        out = exits-within _ _ _ _ _ _ (c .before .before .before .before .before .before .before .before .before .before .pre .1 .store .inside) out;
+        set = entry-within _ _ _ _ (c .before .before .before .entry-set .ensures) (targeted-within _ _ _ _ _ (c .before .before .before .before .targeted .ensures));
+        fallen = initial-histories _ g _ _ _ _ (fallen-histories _ g _ _ _ w refl) (c .fallen-in .ensures);
       },
     )
 
@@ -48,6 +45,5 @@ plan-round-spec =
     minus-requires
     targeted-requires
     entry-set-requires
-    fallen-of-requires
-    with-initial-requires
+    fallen-in-requires
     returns)

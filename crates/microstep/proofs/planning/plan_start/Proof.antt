@@ -12,7 +12,7 @@ first-entry-requires : tie.Need-first-entry-requires
 first-entry-requires c κs = search needs
 
 first-fallen-requires : tie.Need-first-fallen-requires
-first-fallen-requires c κs = (c .before .before .before .before .before .pre, first-defaults _ _ (c .before .before .first-entry .ensures .0))
+first-fallen-requires c κs = (c .before .before .before .before .before .before .pre .0, first-defaults _ _ (c .before .before .first-entry .ensures .0))
 
 returns : tie.Need-returns
 returns c = (
@@ -22,10 +22,10 @@ returns c = (
     fallen = first-fallen _ _ _ (c .before .before .before .first-entry .ensures .0) (c .first-fallen .ensures);
   },
   record {
-    ready = c .before .before .before .before .before .before .pre;
+    ready = c .before .before .before .before .before .before .before .pre .0;
     out = empty-within _ _ (c .before .before .before .before .empty .ensures);
     set = c .before .before .before .first-entry .ensures .1;
-    fallen = initial-histories _ (c .before .before .before .before .before .before .pre) _ _ _ _ (no-histories _ _ (c .before .before .before .before .before .before .pre) refl) (c .first-fallen .ensures);
+    fallen = initial-histories _ (c .before .before .before .before .before .before .before .pre .0) _ _ _ _ (no-histories _ _ (c .before .before .before .before .before .before .before .pre .0) refl) (c .first-fallen .ensures);
   },
 )
 
