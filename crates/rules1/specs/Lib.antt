@@ -3,7 +3,7 @@ pub mod Arguments
 pub mod Ids
 pub mod Keys
 pub mod Classes
-pub mod Buckets
+pub mod Chains
 pub mod Raises
 pub mod Verdicts
 pub mod Plain

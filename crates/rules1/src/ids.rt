@@ -7,24 +7,26 @@ ghost use Rattle.definition.specs.Tables.{rowCount};
 ghost use Rattle.definition.specs.Rules.{idFits};
 ghost use Rattle.rules1.specs.Ids.{Slots};
 ghost use Rattle.rules1.specs.Keys.{keyFrom, KeyOf};
-ghost use Rattle.rules1.specs.Buckets.{Turn, Placed};
+ghost use Rattle.rules1.specs.Chains.{Turn, Met};
 use crate::classes::ids_differ;
 use crate::spelling::is_id;
 use crate::spelling::is_id_of;
 use numbers::Row;
 use tables::limits;
 
-// The rows seen so far lie by the keys of their ids, up to four of one key; 0 is a place that is free, since the root has no id.
+// The rows seen so far are chained by the keys of their ids: the last row of each key, and for each row the one before it. 0 ends a chain, since the
+// root has no id.
 const KEYS: usize = 1024;
 
-const EACH: usize = 4;
+// So many rows of one key are compared with another; where there are more, all ids are told apart byte by byte.
+const MOST_OF_A_KEY: usize = 32;
 
-const PLACES: usize = 4096;
+// What the rows of a key say of an id: none has it, one has, there are too many.
+const NEW: u64 = 0;
 
-// What is found instead of a free place of a key.
-const FULL: usize = 4;
+const TWICE: u64 = 1;
 
-const TWICE: usize = 5;
+const MANY: u64 = 2;
 
 // Any function of the bytes serves: names of different keys differ.
 fn key_of(name: &[u8]) -> usize
@@ -56,30 +58,28 @@ fn id_key(numbers: &[u64], names: &[u8], r: Row) -> usize
     key_of(name)
 }
 
-// The first free place of a row's key, FULL where there is none, or TWICE where a row before it has the same id. Slots that end in zeros are equal if their names are.
-fn place_of(numbers: &[u64], names: &[u8], seen: &[u8], r: Row, key: usize) -> usize
-    requires { ⌜ Turn (now numbers) (now names) (now seen) (r .0) key ⌝ }
-    ensures { λ e. ⌜ Placed (now (numbers .entry)) (now (names .entry)) (now (seen .entry)) (r .0) key e ⌝ }
+// Slots that end in zeros are equal if their names are.
+fn met(numbers: &[u64], names: &[u8], heads: &[u8], links: &[u8], r: Row, key: usize) -> u64
+    requires { ⌜ Turn (now numbers) (now names) (now heads) (now links) (r .0) key ⌝ }
+    ensures { λ e. ⌜ Met (now (numbers .entry)) (now (names .entry)) (r .0) e ⌝ }
 {
+    let mut x = heads[key];
     let mut e = 0;
-    while e < EACH {
-        let other = seen[key * EACH + e];
-        if other == 0 {
-            return e;
+    while e < MOST_OF_A_KEY {
+        if x == 0 {
+            return NEW;
         }
         let own = tables::slot_of(names, tables::id_of(numbers, r));
-        if names::equal(
-            own,
-            tables::slot_of(names, tables::id_of(numbers, Row(other))),
-        ) {
+        if names::equal(own, tables::slot_of(names, tables::id_of(numbers, Row(x)))) {
             return TWICE;
         }
+        x = links[x as usize];
         e += 1;
     }
-    FULL
+    MANY
 }
 
-// Ids of different keys differ, and few have one key; where more have, all are told apart by their bytes.
+// Ids of different keys differ, and few have one key.
 pub fn ids_fit(numbers: &[u64], names: &[u8]) -> bool
     requires { ⌜ Slots (now numbers) (now names) ⌝ }
     ensures { λ b. ⌜ b ≡ all (idFits (now (numbers .entry)) (now (names .entry))) (from (rowCount (now (numbers .entry))) 0) ⌝ }
@@ -88,7 +88,8 @@ pub fn ids_fit(numbers: &[u64], names: &[u8]) -> bool
     if !is_id_of(numbers, names, Row(0)) {
         return false;
     }
-    let mut seen = [0u8; PLACES];
+    let mut heads = [0u8; KEYS];
+    let mut links = [0u8; 256];
     let mut i = 1;
     while i < n {
         let r = Row(i as u8);
@@ -96,14 +97,15 @@ pub fn ids_fit(numbers: &[u64], names: &[u8]) -> bool
         if key == KEYS {
             return false;
         }
-        let e = place_of(numbers, names, &seen, r, key);
-        if e == TWICE {
+        let found = met(numbers, names, &heads, &links, r, key);
+        if found == TWICE {
             return false;
         }
-        if e == FULL {
+        if found == MANY {
             return ids_differ(numbers, names);
         }
-        seen[key * EACH + e] = r.0;
+        links[i as usize] = heads[key];
+        heads[key] = r.0;
         i += 1;
     }
     true

@@ -1,21 +1,21 @@
 use borrow.Author.Needs.{needs}
 use mathlib.Core.Path.{_≡_, refl, sym}
 use mathlib.Core.Bool.{true, false}
-use Prim.Native.Nat.{_+_, _*_, _-_, _≤_, _<_}
+use Prim.Native.Nat.{_+_, _-_, _≤_, _<_}
 use native.Mathlib.Omega.{arith}
 use Rattle.definition.specs.Rows.{all, from}
 use Rattle.laws.specs.Loops.{all-begin, all-turn, said-not-yes, said-not-no}
 use Rattle.rules1.specs.Ids.{isNewId, id-turn, ids-leave, ids-done, new-no, new-root}
 use Rattle.rules1.specs.Keys.{key-found}
-use Rattle.rules1.specs.Buckets.{Seen, Turn, seen-begin, seen-turn}
+use Rattle.rules1.specs.Chains.{Seen, Turn, seen-begin, seen-turn}
 use Rattle.rules1.proofs.ids.ids_fit.Statement.{statement}
 use Rattle.rules1.proofs.ids.ids_fit.Tie as tie
 
 abbrev Inv-loop : tie.InvT-loop
-Inv-loop numbers names n seen₀ i₀ seen i = (1 ≤ i) × (i ≤ n) × (all (isNewId numbers names) (from i 0) ≡ true) × Seen numbers names seen i
+Inv-loop numbers names n heads₀ links₀ i₀ heads links i = (1 ≤ i) × (i ≤ n) × (all (isNewId numbers names) (from i 0) ≡ true) × Seen numbers names heads links i
 
 abbrev μ-loop : tie.MeasureT-loop
-μ-loop numbers names n seen₀ i₀ seen i = n - i
+μ-loop numbers names n heads₀ links₀ i₀ heads links i = n - i
 
 row-count-requires : tie.Need-row-count-requires Inv-loop μ-loop
 row-count-requires c κs = search needs
@@ -29,8 +29,8 @@ returns c = let n = c .before .before .row-count .result in let q = c .before .b
 loop-holds : tie.Need-loop-holds Inv-loop μ-loop
 loop-holds c = let n = c .before .before .row-count .result in let q = c .before .before .row-count .ensures in let some = c .before .before .before .before .before .pre .tables .sized .counts .some in (omega arith, omega (arith, q, some), all-turn _ 0 (all-begin _) (sym (new-root _ _ 0 refl (said-not-no _ _ (c .before .is-id-of .ensures) (c .if1 .left)))), seen-begin _ _)
 
-cast-t13 : tie.Need-cast-t13 Inv-loop μ-loop
-cast-t13 c = search needs
+cast-links : tie.Need-cast-links Inv-loop μ-loop
+cast-links c = search needs
 
 id-key-requires : tie.Need-id-key-requires Inv-loop μ-loop
 id-key-requires c κs = let n = c .before .before .before .before .row-count .result in let q = c .before .before .before .before .row-count .ensures in let some = c .before .before .before .before .before .before .before .pre .tables .sized .counts .some in let i = c .before .loop .i in let l : i < n = omega arith in (c .before .before .before .before .before .before .before .pre, omega (arith, q, l), omega arith)
@@ -38,29 +38,32 @@ id-key-requires c κs = let n = c .before .before .before .before .row-count .re
 returns-2 : tie.Need-returns-2 Inv-loop μ-loop
 returns-2 c = let n = c .before .before .before .before .before .before .row-count .result in let q = c .before .before .before .before .before .before .row-count .ensures in let some = c .before .before .before .before .before .before .before .before .before .pre .tables .sized .counts .some in let i = c .before .before .before .loop .i in let l : i < n = omega arith in ids-leave _ _ i n l q (sym (new-no _ _ i (c .before .id-key .ensures .none (c .if2 .taken))))
 
-slice-aggregate-place-of : tie.Need-slice-aggregate-place-of Inv-loop μ-loop
-slice-aggregate-place-of c = search needs
+slice-aggregate-met : tie.Need-slice-aggregate-met Inv-loop μ-loop
+slice-aggregate-met c = search needs
 
-place-of-requires : tie.Need-place-of-requires Inv-loop μ-loop
-place-of-requires c κs = let n = c .before .before .before .before .before .before .before .row-count .result in let q = c .before .before .before .before .before .before .before .row-count .ensures in let some = c .before .before .before .before .before .before .before .before .before .before .pre .tables .sized .counts .some in let i = c .before .before .before .before .loop .i in let l : i < n = omega arith in let f = key-found _ _ _ _ (c .before .before .id-key .ensures) (c .before .if2 .left) in record { turn = id-turn _ _ i n (c .before .before .before .before .before .before .before .before .before .before .pre) l q (c .before .before .before .before .loop .inv .2); positive = omega arith; own = f .1; is = f .2; low = f .0; so-far = c .before .before .before .before .loop .inv .3 }
+slice-aggregate-met-2 : tie.Need-slice-aggregate-met-2 Inv-loop μ-loop
+slice-aggregate-met-2 c = search needs
+
+met-requires : tie.Need-met-requires Inv-loop μ-loop
+met-requires c κs = let n = c .before .before .before .before .before .before .before .before .row-count .result in let q = c .before .before .before .before .before .before .before .before .row-count .ensures in let some = c .before .before .before .before .before .before .before .before .before .before .before .pre .tables .sized .counts .some in let i = c .before .before .before .before .before .loop .i in let l : i < n = omega arith in let f = key-found _ _ _ _ (c .before .before .before .id-key .ensures) (c .before .before .if2 .left) in record { turn = id-turn _ _ i n (c .before .before .before .before .before .before .before .before .before .before .before .pre) l q (c .before .before .before .before .before .loop .inv .2); positive = omega arith; own = f .1; is = f .2; low = f .0; so-far = c .before .before .before .before .before .loop .inv .3 }
 
 returns-3 : tie.Need-returns-3 Inv-loop μ-loop
-returns-3 c = let n = c .before .before .before .before .before .before .before .before .before .row-count .result in let q = c .before .before .before .before .before .before .before .before .before .row-count .ensures in let some = c .before .before .before .before .before .before .before .before .before .before .before .before .pre .tables .sized .counts .some in let i = c .before .before .before .before .before .before .loop .i in let l : i < n = omega arith in ids-leave _ _ i n l q (c .before .place-of .ensures .twice (c .if3 .taken))
+returns-3 c = let n = c .before .before .before .before .before .before .before .before .before .before .row-count .result in let q = c .before .before .before .before .before .before .before .before .before .before .row-count .ensures in let some = c .before .before .before .before .before .before .before .before .before .before .before .before .before .pre .tables .sized .counts .some in let i = c .before .before .before .before .before .before .before .loop .i in let l : i < n = omega arith in ids-leave _ _ i n l q (c .before .met .ensures .twice (c .if3 .taken))
 
 ids-differ-requires : tie.Need-ids-differ-requires Inv-loop μ-loop
-ids-differ-requires c κs = c .before .before .before .before .before .before .before .before .before .before .before .before .before .pre
+ids-differ-requires c κs = c .before .before .before .before .before .before .before .before .before .before .before .before .before .before .pre
 
 returns-4 : tie.Need-returns-4 Inv-loop μ-loop
 returns-4 c = c .ids-differ .ensures
 
-mul-seen : tie.Need-mul-seen Inv-loop μ-loop
-mul-seen c = let n = c .before .before .before .before .before .before .before .before .before .before .row-count .result in let q = c .before .before .before .before .before .before .before .before .before .before .row-count .ensures in let some = c .before .before .before .before .before .before .before .before .before .before .before .before .before .pre .tables .sized .counts .some in let i = c .before .before .before .before .before .before .before .loop .i in let l : i < n = omega arith in let f = key-found _ _ _ _ (c .before .before .before .before .before .id-key .ensures) (c .before .before .before .before .if2 .left) in let k = f .0 in omega arith
+array-read-links : tie.Need-array-read-links Inv-loop μ-loop
+array-read-links c = let n = c .before .before .before .before .before .before .before .before .before .before .before .row-count .result in let q = c .before .before .before .before .before .before .before .before .before .before .before .row-count .ensures in let some = c .before .before .before .before .before .before .before .before .before .before .before .before .before .before .pre .tables .sized .counts .some in let i = c .before .before .before .before .before .before .before .before .loop .i in let l : i < n = omega arith in let f = key-found _ _ _ _ (c .before .before .before .before .before .before .id-key .ensures) (c .before .before .before .before .before .if2 .left) in let k = f .0 in let s = c .before .before .before .before .before .before .before .before .loop .inv .3 .room in omega (arith, k, s)
 
-add-seen : tie.Need-add-seen Inv-loop μ-loop
-add-seen c = let n = c .before .before .before .before .before .before .before .before .before .before .row-count .result in let q = c .before .before .before .before .before .before .before .before .before .before .row-count .ensures in let some = c .before .before .before .before .before .before .before .before .before .before .before .before .before .pre .tables .sized .counts .some in let i = c .before .before .before .before .before .before .before .loop .i in let l : i < n = omega arith in let f = key-found _ _ _ _ (c .before .before .before .before .before .id-key .ensures) (c .before .before .before .before .if2 .left) in let e = c .before .before .place-of .result in let p = c .before .before .place-of .ensures in let h = p .low in let m : e < 4 = omega (arith, h, c .before .if3 .left, c .if4 .left) in let k = f .0 in omega (arith, k, m)
+array-write-links : tie.Need-array-write-links Inv-loop μ-loop
+array-write-links c = let n = c .before .before .before .before .before .before .before .before .before .before .before .row-count .result in let q = c .before .before .before .before .before .before .before .before .before .before .before .row-count .ensures in let some = c .before .before .before .before .before .before .before .before .before .before .before .before .before .before .pre .tables .sized .counts .some in let i = c .before .before .before .before .before .before .before .before .loop .i in let l : i < n = omega arith in let f = key-found _ _ _ _ (c .before .before .before .before .before .before .id-key .ensures) (c .before .before .before .before .before .if2 .left) in let m = c .before .before .met .ensures in let z : c .before .before .met .result ≡ 0 = let h = m .low in omega (arith, h, c .before .if3 .left, c .if4 .left) in let few = c .before .before .before .before .before .before .before .before .before .before .before .before .before .before .pre .tables .sized .counts .rows in let s = c .before .before .before .before .before .before .before .before .loop .inv .3 .size in omega (arith, q, few, l, s)
 
-array-write-seen : tie.Need-array-write-seen Inv-loop μ-loop
-array-write-seen c = let n = c .before .before .before .before .before .before .before .before .before .before .row-count .result in let q = c .before .before .before .before .before .before .before .before .before .before .row-count .ensures in let some = c .before .before .before .before .before .before .before .before .before .before .before .before .before .pre .tables .sized .counts .some in let i = c .before .before .before .before .before .before .before .loop .i in let l : i < n = omega arith in let f = key-found _ _ _ _ (c .before .before .before .before .before .id-key .ensures) (c .before .before .before .before .if2 .left) in let e = c .before .before .place-of .result in let p = c .before .before .place-of .ensures in let h = p .low in let m : e < 4 = omega (arith, h, c .before .if3 .left, c .if4 .left) in let k = f .0 in let s = c .before .before .before .before .before .before .before .loop .inv .3 .size in omega (arith, k, m, s)
+array-write-heads : tie.Need-array-write-heads Inv-loop μ-loop
+array-write-heads c = let n = c .before .before .before .before .before .before .before .before .before .before .before .row-count .result in let q = c .before .before .before .before .before .before .before .before .before .before .before .row-count .ensures in let some = c .before .before .before .before .before .before .before .before .before .before .before .before .before .before .pre .tables .sized .counts .some in let i = c .before .before .before .before .before .before .before .before .loop .i in let l : i < n = omega arith in let f = key-found _ _ _ _ (c .before .before .before .before .before .before .id-key .ensures) (c .before .before .before .before .before .if2 .left) in let k = f .0 in let s = c .before .before .before .before .before .before .before .before .loop .inv .3 .room in omega (arith, k, s)
 
 add-i : tie.Need-add-i Inv-loop μ-loop
 add-i c = search needs
@@ -69,7 +72,7 @@ loop-less : tie.Need-loop-less Inv-loop μ-loop
 loop-less c = omega arith
 
 loop-again : tie.Need-loop-again Inv-loop μ-loop
-loop-again c = let n = c .before .before .before .before .before .before .before .before .before .before .row-count .result in let q = c .before .before .before .before .before .before .before .before .before .before .row-count .ensures in let some = c .before .before .before .before .before .before .before .before .before .before .before .before .before .pre .tables .sized .counts .some in let i = c .before .before .before .before .before .before .before .loop .i in let l : i < n = omega arith in let f = key-found _ _ _ _ (c .before .before .before .before .before .id-key .ensures) (c .before .before .before .before .if2 .left) in let e = c .before .before .place-of .result in let p = c .before .before .place-of .ensures in let h = p .low in let m : e < 4 = omega (arith, h, c .before .if3 .left, c .if4 .left) in let t : Turn _ _ _ i _ = record { turn = id-turn _ _ i n (c .before .before .before .before .before .before .before .before .before .before .before .before .before .pre) l q (c .before .before .before .before .before .before .before .loop .inv .2); positive = omega arith; own = f .1; is = f .2; low = f .0; so-far = c .before .before .before .before .before .before .before .loop .inv .3 } in (omega arith, omega arith, all-turn _ i (c .before .before .before .before .before .before .before .loop .inv .2) (p .free m .0), seen-turn _ _ _ i _ t e p m)
+loop-again c = let n = c .before .before .before .before .before .before .before .before .before .before .before .row-count .result in let q = c .before .before .before .before .before .before .before .before .before .before .before .row-count .ensures in let some = c .before .before .before .before .before .before .before .before .before .before .before .before .before .before .pre .tables .sized .counts .some in let i = c .before .before .before .before .before .before .before .before .loop .i in let l : i < n = omega arith in let f = key-found _ _ _ _ (c .before .before .before .before .before .before .id-key .ensures) (c .before .before .before .before .before .if2 .left) in let m = c .before .before .met .ensures in let z : c .before .before .met .result ≡ 0 = let h = m .low in omega (arith, h, c .before .if3 .left, c .if4 .left) in let few = c .before .before .before .before .before .before .before .before .before .before .before .before .before .before .pre .tables .sized .counts .rows in let t : Turn _ _ _ _ i _ = record { turn = id-turn _ _ i n (c .before .before .before .before .before .before .before .before .before .before .before .before .before .before .pre) l q (c .before .before .before .before .before .before .before .before .loop .inv .2); positive = omega arith; own = f .1; is = f .2; low = f .0; so-far = c .before .before .before .before .before .before .before .before .loop .inv .3 } in (omega arith, omega arith, all-turn _ i (c .before .before .before .before .before .before .before .before .loop .inv .2) (m .new z), seen-turn _ _ _ _ i _ t (omega (arith, q, few, l)))
 
 returns-5 : tie.Need-returns-5 Inv-loop μ-loop
 returns-5 c = let n = c .before .before .before .before .row-count .result in let q = c .before .before .before .before .row-count .ensures in let some = c .before .before .before .before .before .before .before .pre .tables .sized .counts .some in ids-done _ _ (c .before .loop .i) n (c .before .loop .inv .1) (omega arith) q (c .before .loop .inv .2)
@@ -84,17 +87,18 @@ ids-fit-spec =
     is-id-of-requires
     returns
     loop-holds
-    cast-t13
+    cast-links
     id-key-requires
     returns-2
-    slice-aggregate-place-of
-    place-of-requires
+    slice-aggregate-met
+    slice-aggregate-met-2
+    met-requires
     returns-3
     ids-differ-requires
     returns-4
-    mul-seen
-    add-seen
-    array-write-seen
+    array-read-links
+    array-write-links
+    array-write-heads
     add-i
     loop-less
     loop-again
