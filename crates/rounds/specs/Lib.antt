@@ -3,6 +3,7 @@ pub mod Turns
 pub mod Traces
 pub mod Judging
 pub mod Taking
+pub mod Committing
 pub mod Deciding
 pub mod Closing
 pub mod Resting

@@ -3,7 +3,8 @@ use mathlib.Core.Path.{refl, sym, _∙_}
 use native.Mathlib.Omega.{arith}
 use Rattle.state.specs.Numbers.{back-length}
 use Rattle.state.specs.Places.{numbers-size, history-size}
-use Rattle.rounds.specs.Taking.{internal-leaves, external-leaves, event-waits, names-join, stores-ready, next-ready, committed}
+use Rattle.rounds.specs.Taking.{internal-leaves, external-leaves, event-waits, stores-ready, next-ready}
+use Rattle.rounds.specs.Committing.{names-join, committed}
 use Rattle.rounds.proofs.taking.commit.Statement.{statement}
 use Rattle.rounds.proofs.taking.commit.Tie as tie
 

@@ -1,6 +1,6 @@
 use borrow.Author.Needs.{needs}
 use mathlib.Core.Path.{sym, _∙_}
-use Rattle.rounds.specs.Taking.{mode-closing, mode-running}
+use Rattle.rounds.specs.Committing.{mode-closing, mode-running}
 use Rattle.rounds.proofs.taking.mode_of.Statement.{statement}
 use Rattle.rounds.proofs.taking.mode_of.Tie as tie
 
