@@ -22,6 +22,7 @@ use Rattle.selection.specs.Ready.{Selects}
 use Rattle.effects.specs.declared.Tally.{Tally}
 use Rattle.effects.specs.Trace.{queues-all}
 use Rattle.microstep.specs.declared.Plan.{Plan}
+use Rattle.microstep.specs.Words.{historyRows}
 use Rattle.microstep.specs.Stored.{RoundReady}
 use Rattle.microstep.specs.Plan.{Planned, PlanReady, planEffects}
 use Rattle.lookup.specs.declared.RowKinds.{RowKinds}
@@ -64,11 +65,12 @@ module _ (chart names index : List ℕ) (kinds : RowKinds) (numbers internal ext
       (ch .is ∙ ap (λ (source : Source). roundBy source (chartOf chart) (nameAt names) f (byIn items) ts) e)
 
   pub plan-asks : IndexOf (chartOf chart) index × (length numbers ≡ 1031) × RoundReady chart (historyIn numbers) (kinds .atomic) (configurationIn numbers) ×
-      Selects (chartOf chart) (rowsOf (configurationIn numbers)) (storedAt (historyIn numbers)) items (choice .selected)
+      (rowsOf (kinds .histories) ≡ historyRows (chartOf chart)) × Selects (chartOf chart) (rowsOf (configurationIn numbers)) (storedAt (historyIn numbers)) items (choice .selected)
   plan-asks = (
     g .indexed,
     numbers-size f numbers internal external (h .spells),
     round-ready chart names (g .compiled) f numbers internal external h (kinds .atomic) (g .rows .atomic),
+    g .rows .histories,
     subst (λ (conf : List ℕ). Selects (chartOf chart) conf (storedAt (historyIn numbers)) items (choice .selected)) (sym (conf-read chart names (g .compiled) f numbers internal external h)) (ch .selected),
   )
 

@@ -6,7 +6,7 @@ use Prim.Native.Nat.{ℕ, _+_, _≤_}
 use native.Mathlib.Nat.{zero-add}
 use native.Mathlib.Omega.{arith}
 use lib.Dec.{ltb}
-use lib.ListN.{length, take, replicate}
+use lib.ListN.{length, take, replicate, length-replicate}
 use Rattle.definition.specs.declared.Answer.{Answer}
 use Rattle.definition.specs.declared.Answer.the-variants.{Done}
 use Rattle.definition.specs.declared.Mode.{Mode}
@@ -44,6 +44,12 @@ use Rattle.rounds.specs.Judging.{Counted, refusal-judged}
 pub zeros-none : (c : Chart) → replicate 1024 0 ≡ historyWords (noHistory c)
 unfolding noHistory
 zeros-none c = history-none (c .rows)
+
+pub zeros-length : (numbers : List ℕ) → numbers ≡ replicate 1031 0 → length numbers ≡ 1031
+zeros-length numbers e = ap length e ∙ length-replicate {A = ℕ} 1031 0
+
+pub zeros-history : (numbers : List ℕ) → numbers ≡ replicate 1031 0 → historyIn numbers ≡ replicate 1024 0
+zeros-history numbers e = ap historyIn e
 
 -- zeros are the numbers of an ended session
 zeros-ended : (c : Chart) → replicate 1031 0 ≡ numbersOf (words []) (historyWords (noHistory c)) 0 0 (modeNo Ended)

@@ -11,6 +11,7 @@ ghost use Rattle.matching.specs.Chosen.{listOf, ChosenIn};
 ghost use Rattle.selection.specs.History.{storedAt};
 ghost use Rattle.selection.specs.Ready.{Selects};
 ghost use Rattle.effects.specs.Trace.{places, Wrote};
+ghost use Rattle.microstep.specs.Words.{historyRows};
 ghost use Rattle.microstep.specs.Stored.{RoundReady};
 ghost use Rattle.microstep.specs.Plan.{Planned, PlanReady, planEffects};
 ghost use Rattle.legality.specs.Rows.{RowsReady};
@@ -217,7 +218,7 @@ fn plan_step(
     choice: Choice,
     items: &[u16],
 ) -> Step
-    requires { ⌜ IndexOf (chartOf (now chart)) (now index) × (length (now numbers) ≡ 1031) × RoundReady (now chart) (historyIn (now numbers)) (kinds .atomic) (configurationIn (now numbers)) × Selects (chartOf (now chart)) (rowsOf (configurationIn (now numbers))) (storedAt (historyIn (now numbers))) (now items) (choice .selected) ⌝ }
+    requires { ⌜ IndexOf (chartOf (now chart)) (now index) × (length (now numbers) ≡ 1031) × RoundReady (now chart) (historyIn (now numbers)) (kinds .atomic) (configurationIn (now numbers)) × (rowsOf (kinds .histories) ≡ historyRows (chartOf (now chart))) × Selects (chartOf (now chart)) (rowsOf (configurationIn (now numbers))) (storedAt (historyIn (now numbers))) (now items) (choice .selected) ⌝ }
     ensures { λ s. ⌜ (s .source ≡ choice .source) × (s .len ≡ choice .selected .len) × Planned (chartOf (now (chart .entry))) (rowsOf (configurationIn (now (numbers .entry)))) (storedAt (historyIn (now (numbers .entry)))) (listOf (now (items .entry)) (choice .selected .len)) (s .plan) × PlanReady (now (chart .entry)) (s .plan) ⌝ }
 {
     let selected = choice.selected;
@@ -225,6 +226,7 @@ fn plan_step(
     let n = selected.len;
     let out = selected.exits;
     let atomic = kinds.atomic;
+    let histories = kinds.histories;
     let conf = chart::set_at(numbers, 0);
     let domains = &index[lookup::STARTS..lookup::INDEX];
     let stored = &numbers[state::HISTORY..state::INTERNAL];
@@ -232,7 +234,7 @@ fn plan_step(
     Step {
         source: source,
         len: n,
-        plan: microstep::plan_round(chart, domains, atomic, conf, stored, chosen, out),
+        plan: microstep::plan_round(chart, domains, atomic, histories, conf, stored, chosen, out),
     }
 }
 

@@ -8,21 +8,21 @@ use Rattle.rounds.proofs.taking.plan_step.Statement.{statement}
 use Rattle.rounds.proofs.taking.plan_step.Tie as tie
 
 set-at-requires : tie.Need-set-at-requires
-set-at-requires c κs = set-inside _ (c .before .before .before .before .before .before .before .pre .1)
+set-at-requires c κs = set-inside _ (c .before .before .before .before .before .before .before .before .pre .1)
 
 part-domains-end : tie.Need-part-domains-end
-part-domains-end c = let e = c .before .before .before .before .before .before .before .before .pre .0 .size in search needs
+part-domains-end c = let e = c .before .before .before .before .before .before .before .before .before .pre .0 .size in search needs
 
 part-stored-end : tie.Need-part-stored-end
-part-stored-end c = let e = c .before .before .before .before .before .before .before .before .before .pre .1 in search needs
+part-stored-end c = let e = c .before .before .before .before .before .before .before .before .before .before .pre .1 in search needs
 
 slice-aggregate-chosen : tie.Need-slice-aggregate-chosen
 unfolding listOf
-slice-aggregate-chosen c = sym (list-length _ _ (let r = c .before .before .before .before .before .before .before .before .before .before .before .pre .3 .fits .room in let m = c .before .before .before .before .before .before .before .before .before .before .before .pre .3 .fits .most in omega arith))
+slice-aggregate-chosen c = sym (list-length _ _ (let r = c .before .before .before .before .before .before .before .before .before .before .before .before .pre .4 .fits .room in let m = c .before .before .before .before .before .before .before .before .before .before .before .before .pre .4 .fits .most in omega arith))
 
 plan-round-requires : tie.Need-plan-round-requires
 unfolding listOf
-plan-round-requires c κs = rw (c .before .before .before .set-at .ensures) (c .before .before .before .before .before .before .before .before .before .before .before .pre .0 .domains, c .before .before .before .before .before .before .before .before .before .before .before .pre .2, chosen-fit _ _ _ _ _ (c .before .before .before .before .before .before .before .before .before .before .before .pre .3), c .before .before .before .before .before .before .before .before .before .before .before .pre .3 .exits)
+plan-round-requires c κs = rw (c .before .before .before .set-at .ensures) (c .before .before .before .before .before .before .before .before .before .before .before .before .pre .0 .domains, c .before .before .before .before .before .before .before .before .before .before .before .before .pre .2, c .before .before .before .before .before .before .before .before .before .before .before .before .pre .3, chosen-fit _ _ _ _ _ (c .before .before .before .before .before .before .before .before .before .before .before .before .pre .4), c .before .before .before .before .before .before .before .before .before .before .before .before .pre .4 .exits)
 
 returns : tie.Need-returns
 unfolding listOf
