@@ -79,7 +79,7 @@ linked: lib
 	@$(CARGO) --release $(LINKED) --bin linked
 
 # Two ways to match four descriptors, for the benchmark alone.
-build/libmatch_bench.a: crates.txt $(shell find crates/match_bench crates/onepass crates/names -name '*.rt' -o -name '*.antt')
+build/libmatch_bench.a: crates.txt $(shell find crates/match_bench crates/onepass crates/names crates/places -name '*.rt' -o -name '*.antt')
 	@rt staticlib match_bench
 	@mkdir -p build
 	@cp target/staticlib/libmatch_bench.a build/libmatch_bench.a

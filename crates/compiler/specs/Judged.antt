@@ -12,7 +12,7 @@ use Rattle.definition.specs.Rows.{from, all, any, mem, isEmpty, same, insert, u
 use Rattle.definition.specs.Chart.{Chart, kind, parent, isHistory}
 use Rattle.definition.specs.Tables.{rowCount, chartOf}
 use Rattle.definition.specs.Tree.{ancestors, isDescendant, isChild, descendants, children, defaultTargets, anchors}
-use Rattle.laws.specs.Bools.{no, or-false, both-ways, bool-case, and-left, and-right, and-true, or-left, or-right, or-elim}
+use Rattle.laws.specs.Bools.{or-false, both-ways, bool-case, and-left, and-right, and-true, or-left, or-right, or-elim}
 use Rattle.laws.specs.Sets.{Ascends, ascends-ext, ascends-union, ascends-those, mem-insert, mem-union, mem-those}
 use Rattle.laws.specs.Lists.{any-true, any-mem, all-mem, mem-all, same-eq, same-self, empty-list}
 use Rattle.laws.specs.Loops.{each-below, below-each}

@@ -3,7 +3,6 @@ pub mod Downward
 pub mod Compilable
 pub mod Targets
 pub mod Turns
-pub mod Copies
 pub mod Whole
 pub mod Judged
 pub mod Judging

@@ -9,7 +9,7 @@ use Rattle.definition.specs.Rows.{from, mem, those, insert, union, nothingAt}
 use Rattle.definition.specs.Chart.{Chart, kind, parent, isHistory}
 use Rattle.definition.specs.Tree.{isChild, children}
 use Rattle.definition.specs.Compiled.{words, column}
-use Rattle.laws.specs.Bools.{and-false, no}
+use Rattle.laws.specs.Bools.{and-false}
 use Rattle.laws.specs.Sets.{ascends-those, those-low}
 use Rattle.laws.specs.Orders.{union-none}
 use Rattle.laws.specs.Loops.{those-insert, those-skip}

@@ -1,9 +1,7 @@
 // A chart's numbers into a compiled chart: the sets that the rows give, behind the numbers.
 ghost use mathlib.Core.Path.{_≡_};
 ghost use mathlib.Core.Bool.{cond};
-ghost use mathlib.Core.List.{_++_};
-ghost use Prim.Native.Nat.{_*_, _≤_};
-ghost use lib.ListN.{length, drop};
+ghost use Prim.Native.Nat.{_*_};
 ghost use Rattle.definition.specs.Tables.{nameCount, slotSize};
 ghost use Rattle.definition.specs.Compiled.{isCompiled};
 ghost use Rattle.definition.specs.Rules.{countsFit, compiledSize};
@@ -12,6 +10,8 @@ use crate::columns::write_columns;
 use crate::judging::ancestors_hold;
 use crate::judging::has_columns;
 use definition::Answer;
+use places::copy_u8;
+use places::copy_u64;
 use tables::limits;
 
 mod columns;
@@ -36,29 +36,6 @@ pub fn names_size(numbers: &[u64]) -> usize
     tables::name_count(numbers) as usize * limits::SLOT_SIZE
 }
 
-// The numbers over the beginning of the place.
-fn copy_numbers(numbers: &[u64], place: &mut [u64])
-    requires { ⌜ length (now numbers) ≤ length (now place) ⌝ }
-    ensures { λ _. ⌜ now (place .exit) ≡ now (numbers .entry) ++ drop (length (now (numbers .entry))) (now (place .entry)) ⌝ }
-{
-    let mut i = 0;
-    while i < numbers.len() {
-        place[i] = numbers[i];
-        i += 1;
-    }
-}
-
-fn copy_names(names: &[u8], place: &mut [u8])
-    requires { ⌜ length (now names) ≤ length (now place) ⌝ }
-    ensures { λ _. ⌜ now (place .exit) ≡ now (names .entry) ++ drop (length (now (names .entry))) (now (place .entry)) ⌝ }
-{
-    let mut i = 0;
-    while i < names.len() {
-        place[i] = names[i];
-        i += 1;
-    }
-}
-
 // Compile a chart into two lent places. Answers 1 to 5 leave them as they were.
 pub fn compile(numbers: &[u64], names: &[u8], place: &mut [u64], name_place: &mut [u8]) -> Answer
     ensures { λ a. ⌜ Compiles (now (numbers .entry)) (now (names .entry)) (now (place .entry)) (now («name_place» .entry)) a (now (place .exit)) (now («name_place» .exit)) ⌝ }
@@ -68,9 +45,9 @@ pub fn compile(numbers: &[u64], names: &[u8], place: &mut [u64], name_place: &mu
         return answer;
     };
     let size = numbers.len();
-    copy_numbers(numbers, place);
+    copy_u64(numbers, place);
     write_columns(numbers, &mut place[size..]);
-    copy_names(names, name_place);
+    copy_u8(names, name_place);
     Answer::Done
 }
 

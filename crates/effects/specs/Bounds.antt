@@ -19,7 +19,7 @@ use Rattle.rowset.specs.Member.{rowsOf}
 use Rattle.rowset.specs.Rows.{ascends-rows, rows-low}
 use Rattle.tables.specs.Ranges.{InTables, row-fits, transition-fits}
 use Rattle.chart.specs.Within.{Within}
-use Rattle.theory.specs.Branches.{performed-few}
+use Rattle.paths.specs.Lengths.{performed-few}
 use Rattle.paths.specs.Lengths.{done-few}
 use Rattle.effects.specs.declared.Tally.{Tally}
 use Rattle.effects.specs.Trace.{Room, room-few}

@@ -21,7 +21,7 @@ use Rattle.laws.specs.Lists.{mem-subset, subset-mem, keep-cong, empty-list}
 use Rattle.laws.specs.Folds.{keep-backwards}
 use Rattle.laws.specs.Ways.{Way, here, below-way}
 use Rattle.accepted.specs.Tree.{Tree, mem-children, child-facts, root-kind, under-below, below-under}
-use Rattle.theory.specs.Entry.{compound-kind}
+use Rattle.accepted.specs.Tree.{compound-kind}
 use Rattle.rowset.specs.declared.RowSet.{RowSet}
 use Rattle.rowset.specs.Member.{rowsOf}
 use Rattle.rowset.specs.Search.{restFrom, rest-all}

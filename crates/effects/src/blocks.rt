@@ -1,7 +1,6 @@
 // A block: each of its actions, in order. Which rows are active is asked by ifs alone, and it costs more than a short block does: the actions ahead
 // of the first if are performed without it, and a block that has none needs no more.
 ghost use mathlib.Core.Path.{_≡_};
-ghost use mathlib.Core.List.{[], _∷_};
 ghost use lib.ListN.{drop};
 ghost use Rattle.follower.specs.Blocks.{perform, performIf, performedFrom, performed};
 ghost use Rattle.tables.specs.Parts.{actionsOf};

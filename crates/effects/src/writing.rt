@@ -6,6 +6,9 @@ ghost use Rattle.effects.specs.Trace.{places, queues, Wrote, Shown, Room
 ghost use Rattle.effects.specs.Kinds.{effectOf, InEntry};
 use crate::Tally;
 
+// "kind × 65,536 + index"
+pub const KIND: u32 = 65536;
+
 // The kinds of an entry.
 pub const EXITED: u32 = 1;
 
@@ -36,7 +39,7 @@ pub fn emit(trace: &mut [u32], tally: Tally, kind: u32, index: u32) -> Tally
     requires { ⌜ InEntry kind index × (queues (effectOf kind index) ≡ 0) × Room tally (effectOf kind index ∷ []) ⌝ }
     ensures { λ r. ⌜ Shown (now (trace .entry)) (now (trace .exit)) tally r (effectOf kind index) ⌝ }
 {
-    put(trace, tally.entries, kind * 65536 + index);
+    put(trace, tally.entries, kind * KIND + index);
     Tally {
         entries: tally.entries + 1,
         names: tally.names,
@@ -48,7 +51,7 @@ pub fn emit_join(trace: &mut [u32], joins: &mut [u32], tally: Tally, kind: u32, 
     requires { ⌜ InEntry kind index × (queues (effectOf kind index) ≡ 1) × Room tally (effectOf kind index ∷ []) ⌝ }
     ensures { λ r. ⌜ Wrote (places (now (trace .entry)) (now (joins .entry))) (places (now (trace .exit)) (now (joins .exit))) tally r (effectOf kind index ∷ []) ⌝ }
 {
-    let number = kind * 65536 + index;
+    let number = kind * KIND + index;
     put(trace, tally.entries, number);
     put(joins, tally.names, number);
     Tally {

@@ -11,7 +11,7 @@ use Rattle.definition.specs.declared.Action.the-variants.{Raise, Host, If, Else
 use Rattle.definition.specs.declared.Reach.{Reach}
 use Rattle.definition.specs.declared.Reach.the-variants.{Live, Waiting, Past}
 use Rattle.definition.specs.declared.Kind.{Kind}
-use Rattle.definition.specs.Rows.{nothingAt, from, keep, minus, mem, all, flat, backwards}
+use Rattle.definition.specs.Rows.{nothingAt, from, mem, all, flat, backwards}
 use Rattle.definition.specs.Names.{Name, isId}
 use Rattle.definition.specs.Chart.{Chart, Names, kindNo, kind, parent, isRoot, isParallel, isFinal}
 use Rattle.definition.specs.Tables.{noNumber, rowCount, transitionCount, actionCount, nameCount, rowCell, transitionCell, actionAt, blockAt, entryAt, exitAt, idAt, listBlockAt, transitionBlockAt, nameAt, chartOf}

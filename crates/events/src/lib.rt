@@ -14,6 +14,9 @@ ghost use mathlib.Core.Option.{none};
 ghost use Rattle.queue.specs.Queues.{queueBytes, queueOf};
 ghost use Rattle.state.specs.State.{historyIn, stateAt, HoldsAt};
 ghost use Rattle.events.specs.Rounds.{EventReady, Found, Chooses, internalBytes, externalBytes, Waits, effectAt, queuedNames, isKnown, JoinsIn, Joins};
+use effects::writing::DONE;
+use effects::writing::KIND;
+use effects::writing::RAISED;
 use lookup::RowKinds;
 use numbers::NameNumber;
 use numbers::Row;
@@ -145,14 +148,6 @@ pub fn take_event(
         Source::External => queue::take_oldest(external, external_count),
     }
 }
-
-// "kind × 65,536 + index"
-const KIND: u32 = 65536;
-
-// The kinds that join: a raised name, a done event.
-const RAISED: u32 = 5;
-
-const DONE: u32 = 6;
 
 // One join of a round: a raised name, or the done name of a row, behind the count names of the internal queue.
 fn queue_join(chart: &[u64], names: &[u8], join: u32, internal: &mut [u8], count: u64) -> u64

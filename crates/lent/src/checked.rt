@@ -1,7 +1,7 @@
 // The calls, chart and session once checked: every call keeps a session well formed, so one check serves for a list of them.
 ghost use mathlib.Core.Path.{_≡_};
 ghost use mathlib.Core.Bool.{true};
-ghost use lib.ListN.{length, replicate};
+ghost use lib.ListN.{length};
 ghost use Rattle.definition.specs.Compiled.{isCompiled};
 ghost use Rattle.state.specs.State.{traceWith};
 ghost use Rattle.session.specs.Sessions.{posted, postOf, startOf, startEffects, runOf, runEffects};
@@ -12,18 +12,7 @@ use crate::RanIn;
 use crate::StartedIn;
 use definition::Answer;
 use definition::Status;
-
-const ENDED: u64 = 0;
-
-fn clear(place: &mut [u64])
-    ensures { λ _. ⌜ now (place .exit) ≡ replicate (length (now (place .entry))) 0 ⌝ }
-{
-    let mut i = 0;
-    while i < place.len() {
-        place[i] = 0;
-        i += 1;
-    }
-}
+use state::ENDED;
 
 pub fn start_checked(
     good: bool,
@@ -37,7 +26,7 @@ pub fn start_checked(
     requires { ⌜ (good ≡ isCompiled (now chart) (now names)) × (lengthsFit (length (now numbers)) (length (now internal)) (length (now external)) ≡ true) ⌝ }
     ensures { λ r. ⌜ (startedIn (sessionIn (now (numbers .exit)) (now (internal .exit)) (now (external .exit))) r ≡ startOf (now (chart .entry)) (now (names .entry)) (length (now (trace .entry)))) × (now (trace .exit) ≡ traceWith (now (trace .entry)) (startEffects (now (chart .entry)) (now (names .entry)) (length (now (trace .entry))))) ⌝ }
 {
-    clear(numbers);
+    places::clear_u64(numbers);
     queue::clear(internal);
     queue::clear(external);
     if !good {

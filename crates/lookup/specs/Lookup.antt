@@ -1,10 +1,10 @@
 -- What is worked out of a chart once, for all rounds of a run.
 use mathlib.Core.Path.{_≡_, sym, ap, subst, _∙_}
 use mathlib.Core.List.{List, [], _++_, append-nil}
-use Prim.Native.Nat.{ℕ, _+_, _≤_}
+use Prim.Native.Nat.{ℕ, _+_}
 use native.Mathlib.Omega.{arith}
 use lib.ListN.{length, take, drop, length-append, length-drop}
-use lib.Seq.{take-at, drop-at, drop-drop, length-take-le}
+use lib.Seq.{take-at, drop-at, drop-drop}
 use Rattle.definition.specs.Chart.{Chart}
 use Rattle.definition.specs.Tables.{chartOf}
 use Rattle.laws.specs.Passes.{drop-end}
@@ -15,7 +15,7 @@ use Rattle.matching.specs.Eventless.{eventlessRows}
 use Rattle.matching.specs.Sources.{Indexed}
 use Rattle.matching.specs.Ready.{Prepared}
 use Rattle.selection.specs.FixedDomains.{DomainsFixed}
-use Rattle.microstep.specs.Words.{historyRows}
+use Rattle.matching.specs.Histories.{historyRows}
 use Rattle.lookup.specs.declared.RowKinds.{RowKinds}
 
 pub record KindsOf (c : Chart) (kinds : RowKinds) : Type 0 where

@@ -5,6 +5,7 @@ ghost use lib.ListN.{length};
 ghost use Rattle.definition.specs.Tables.{chartOf};
 ghost use Rattle.chart.specs.Ready.{Ready};
 ghost use Rattle.lookup.specs.Lookup.{IndexOf, KindsOf};
+use places::copy_u16;
 use rowset::RowSet;
 
 // The index of a chart: 257 starts, then 512 fixed domains.
@@ -26,18 +27,7 @@ pub fn row_kinds(chart: &[u64]) -> RowKinds
     RowKinds {
         atomic: matching::atomic_rows(chart),
         eventless: matching::eventless_rows(chart),
-        histories: microstep::history_rows(chart),
-    }
-}
-
-fn copy(from: &[u16], place: &mut [u16])
-    requires { ⌜ length (now place) ≡ length (now from) ⌝ }
-    ensures { λ _. ⌜ now (place .exit) ≡ now (from .entry) ⌝ }
-{
-    let mut i = 0;
-    while i < from.len() {
-        place[i] = from[i];
-        i += 1;
+        histories: matching::history_rows(chart),
     }
 }
 
@@ -47,6 +37,6 @@ pub fn put_index(chart: &[u64], index: &mut [u16])
 {
     let by_source = matching::index_of(chart);
     let fixed = selection::fixed_domains(chart);
-    copy(&by_source.starts, &mut index[..STARTS]);
-    copy(&fixed.domains, &mut index[STARTS..INDEX]);
+    copy_u16(&by_source.starts, &mut index[..STARTS]);
+    copy_u16(&fixed.domains, &mut index[STARTS..INDEX]);
 }

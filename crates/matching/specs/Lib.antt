@@ -7,3 +7,4 @@ pub mod Ready
 pub mod Descriptors
 pub mod Seen
 pub mod Choosers
+pub mod Histories

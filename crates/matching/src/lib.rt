@@ -7,15 +7,13 @@ ghost use Rattle.follower.specs.Selection.{matchesAt, isTriggered, isTrue, isMa
 ghost use Rattle.tables.specs.Ranges.{SlotIn, NameInList};
 ghost use Rattle.tables.specs.Parts.{conditionOf};
 ghost use Rattle.rowset.specs.Member.{rowsOf};
-ghost use Rattle.chart.specs.Ready.{Ready, TransitionReady};
+ghost use Rattle.chart.specs.Ready.{Ready};
 ghost use Rattle.matching.specs.Events.{eventOf};
 ghost use Rattle.matching.specs.Descriptors.{PlaceOf, SomeDescriptors};
 ghost use Rattle.matching.specs.Sources.{startsBefore, Indexed};
 ghost use Rattle.matching.specs.Climb.{choiceOf};
 ghost use Rattle.chart.specs.Within.{Within};
-ghost use Rattle.matching.specs.Chosen.{atomicRows};
 ghost use Rattle.matching.specs.Choosers.{AreChosenBy};
-ghost use Rattle.matching.specs.Eventless.{addEventless, eventlessRows};
 ghost use Rattle.matching.specs.Ready.{TransitionWith, ClimbReady, Prepared};
 ghost use Rattle.matching.specs.Seen.{OnceReady, OnceDone};
 pub use choosers::CHOOSERS;
@@ -25,12 +23,16 @@ use numbers::NameNumber;
 use numbers::Row;
 use numbers::Transition;
 use onepass::Places;
+pub use rows::atomic_rows;
+pub use rows::eventless_rows;
+pub use rows::history_rows;
 use rowset::Found;
 use rowset::RowSet;
 use tables::Condition;
 use tables::limits;
 
 pub mod choosers;
+pub mod rows;
 
 // ---- one transition against the event and the configuration
 
@@ -187,23 +189,6 @@ pub fn choice_of(
 
 // ---- the candidates
 
-// The atomic rows of the chart, active or not.
-pub fn atomic_rows(chart: &[u64]) -> RowSet
-    requires { ⌜ Ready (now chart) ⌝ }
-    ensures { λ s. ⌜ rowsOf s ≡ atomicRows (chartOf (now (chart .entry))) ⌝ }
-{
-    let rows = tables::row_count(chart) as u16;
-    let mut set = RowSet::empty();
-    let mut i: u16 = 0;
-    while i < rows {
-        if chart::is_atomic(chart, Row(i as u8)) {
-            set = set.with(Row(i as u8));
-        }
-        i += 1;
-    }
-    set
-}
-
 // The first len items, and the sources of the transitions among them. Every climb finds the same first match of a row, so that a transition is among them exactly if its source is.
 struct Kept {
     len: usize,
@@ -270,33 +255,4 @@ pub fn candidates(
         kept = next;
         k = i.0 as u16 + 1;
     }
-}
-
-// ---- where an eventless transition can be chosen
-
-// The set with the rows at and below the source of transition t, if t is eventless.
-fn add_eventless(chart: &[u64], set: RowSet, t: Transition) -> RowSet
-    requires { ⌜ TransitionReady (now chart) (t .0) ⌝ }
-    ensures { λ s. ⌜ rowsOf s ≡ addEventless (chartOf (now (chart .entry))) (rowsOf set) (t .0) ⌝ }
-{
-    if 0 < tables::descriptors_of(chart, t).len() {
-        return set;
-    }
-    let source = tables::source_of(chart, t);
-    set.with(source).union(chart::descendants_of(chart, source))
-}
-
-// The rows at and below the sources of all eventless transitions. Where none of them is active, an eventless round selects nothing.
-pub fn eventless_rows(chart: &[u64]) -> RowSet
-    requires { ⌜ Ready (now chart) ⌝ }
-    ensures { λ s. ⌜ rowsOf s ≡ eventlessRows (chartOf (now (chart .entry))) ⌝ }
-{
-    let n = tables::transition_count(chart) as u16;
-    let mut set = RowSet::empty();
-    let mut t: u16 = 0;
-    while t < n {
-        set = add_eventless(chart, set, Transition(t));
-        t += 1;
-    }
-    set
 }

@@ -30,7 +30,7 @@ use Rattle.chart.specs.Ready.{Ready, setAt}
 use Rattle.chart.specs.Within.{Within, within-none}
 use Rattle.paths.specs.History.{storedAt}
 use Rattle.matching.specs.Chosen.{atomicRows}
-use Rattle.selection.specs.FixedDomains.{isHistoryRow}
+use Rattle.matching.specs.Histories.{isHistoryRow}
 use Rattle.effects.specs.Entering.{HistoryRows}
 use Rattle.microstep.specs.Stored.{RoundReady, stored-within}
 use Rattle.microstep.specs.Targets.{addFell, stand-ins-within}

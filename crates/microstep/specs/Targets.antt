@@ -2,7 +2,7 @@
 use mathlib.Core.Path.{_≡_, refl, ap, sym, _∙_}
 use mathlib.Core.Bool.{Bool, true, false, not, _&&_, _||_, cond}
 use mathlib.Core.List.{List, [], _∷_}
-use Prim.Native.Nat.{ℕ, zero, suc, _<_, _≤_}
+use Prim.Native.Nat.{ℕ, zero, suc, _<_}
 use native.Mathlib.Omega.{arith}
 use borrow.Author.Tests.{eqb-true, eq-eqb}
 use lib.Dec.{eqb}
@@ -23,7 +23,8 @@ use Rattle.theory.specs.Domain.{effective-of}
 use Rattle.theory.specs.Entry.{isOnPath, mem-paths, ascends-paths}
 use Rattle.chart.specs.Inside.{default-inside, anchors-inside}
 use Rattle.chart.specs.Within.{Within}
-use Rattle.selection.specs.FixedDomains.{hasFixedTargets, isHistoryRow, FixedDomain, none-history, anchors-stand, fixed-targets, fixed-is-domain}
+use Rattle.matching.specs.Histories.{isHistoryRow}
+use Rattle.selection.specs.FixedDomains.{hasFixedTargets, FixedDomain, none-history, anchors-stand, fixed-targets, fixed-is-domain}
 
 -- the order of the list does not matter
 pub paths-same : (c : Chart) (d : ℕ) (xs ys : List ℕ) → ((a : ℕ) → mem a xs ≡ mem a ys) → pathsBelow c d xs ≡ pathsBelow c d ys

@@ -9,8 +9,8 @@ use lib.Dec.{ltb}
 use lib.ListN.{length, getD, set, take, drop, length-set}
 use lib.Seq.{getD-set-same, getD-set-other, sets-eq}
 use borrow.Author.Tests.{lt-ltb, ltb-true, ltb-false}
-use Rattle.definition.specs.Rows.{those, mem}
-use Rattle.definition.specs.Chart.{Chart, kind, isHistory}
+use Rattle.definition.specs.Rows.{mem}
+use Rattle.definition.specs.Chart.{Chart, isHistory}
 use Rattle.definition.specs.Tables.{rowCount, kindAt, parentAt, chartOf}
 use Rattle.definition.specs.Compiled.{words}
 use Rattle.follower.specs.Selection.{History}
@@ -30,16 +30,10 @@ use Rattle.tables.specs.Sets.{putAt}
 use Rattle.chart.specs.Ready.{Ready, setAt}
 use Rattle.chart.specs.Columns.{setOf, rows-set-of}
 use Rattle.paths.specs.History.{storedAt}
+use Rattle.matching.specs.Histories.{isHistoryRow, historyRows}
 use Rattle.effects.specs.Entering.{HistoryRow}
 use Rattle.chart.specs.Within.{Within}
 use Rattle.microstep.specs.Stored.{RoundReady, after-stored, stored-within, stored-new, stored-old, stored-plain}
-
--- the histories of the chart
-abbrev pub isHistoryRow : Chart → ℕ → Bool
-isHistoryRow c h = isHistory (kind c h)
-
-unfoldable pub historyRows : Chart → List ℕ
-historyRows c = those (c .rows) (isHistoryRow c)
 
 -- row h stores where the rows out are left
 unfoldable pub isStoring : List ℕ → List ℕ → ℕ → Bool
@@ -182,14 +176,14 @@ storing-begin chart conf out old = record { room = refl; done = λ h l m. absurd
 module _ (chart conf out old new : List ℕ) (histories : RowSet) (all : rowsOf histories ≡ historyRows (chartOf chart)) (k : ℕ) (o : Found) (e : o ≡ nextIn (rowsOf histories) k) (g : Storing chart conf out old new k) where
   -- a row that is no history keeps its words
   plain : (h : ℕ) → k ≤ h → h < rowCount chart → mem h (rowsOf histories) ≡ false → storedAt new h ≡ stored (chartOf chart) conf (storedAt old) out h
-  unfolding historyRows
+  unfolding historyRows isHistoryRow
   plain h l u n =
       stored-same old new h (λ v a b. g .later v (omega arith)) ∙
       stored-plain (chartOf chart) conf (storedAt old) out h (not-so _ (λ q. clash (mem h (rowsOf histories))
       (ap (mem h) all ∙ mem-those (rowCount chart) (isHistoryRow (chartOf chart)) h ∙ and-true (ltb h (rowCount chart)) _ (lt-ltb h (rowCount chart) u) q) n))
 
   pub storing-row : Ready chart → (r : Row) → o ≡ At r → HistoryRow chart (r .0)
-  unfolding historyRows
+  unfolding historyRows isHistoryRow
   storing-row w r h =
       let q = sym (ap (mem (r .0)) all ∙ mem-those (rowCount chart) (isHistoryRow (chartOf chart)) (r .0)) ∙ found-next histories k o e r h .here in
       record { row = record { ready = w; inside = ltb-true (r .0) (rowCount chart) (and-left (ltb (r .0) (rowCount chart)) _ q) }; history = and-right (ltb (r .0) (rowCount chart)) _ q }

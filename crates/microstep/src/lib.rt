@@ -6,7 +6,6 @@ pub use planning::plan_effects;
 pub use planning::plan_round;
 pub use planning::plan_start;
 use rowset::RowSet;
-pub use storing::history_rows;
 pub use storing::store;
 
 pub mod entry;

@@ -5,11 +5,11 @@ ghost use lib.ListN.{length};
 ghost use Rattle.definition.specs.Tables.{rowCount, chartOf};
 ghost use Rattle.follower.specs.Microstep.{wouldStore, stored};
 ghost use Rattle.rowset.specs.Member.{rowsOf};
-ghost use Rattle.chart.specs.Ready.{Ready};
 ghost use Rattle.paths.specs.History.{storedAt};
 ghost use Rattle.effects.specs.Entering.{HistoryRow};
 ghost use Rattle.microstep.specs.Stored.{StoreReady, RoundReady, StoredIs};
-ghost use Rattle.microstep.specs.Words.{historyRows, RowStored, HistoryStored};
+ghost use Rattle.matching.specs.Histories.{historyRows};
+ghost use Rattle.microstep.specs.Words.{RowStored, HistoryStored};
 use chart::children_of;
 use chart::descendants_of;
 use chart::parent_row;
@@ -25,7 +25,6 @@ use selection::as_stored;
 use selection::stored_at;
 use tables::kind_of;
 use tables::put_set;
-use tables::row_count;
 
 // What history h would store of the configuration: "shallow, its active children; deep, its active atomic descendants".
 fn would_store(chart: &[u64], atoms: RowSet, conf: RowSet, h: Row) -> RowSet
@@ -59,23 +58,6 @@ pub fn stored_after(
         return as_stored(would_store(chart, atoms, conf, h));
     }
     stored_at(history, h)
-}
-
-// The histories of the chart.
-pub fn history_rows(chart: &[u64]) -> RowSet
-    requires { ⌜ Ready (now chart) ⌝ }
-    ensures { λ s. ⌜ rowsOf s ≡ historyRows (chartOf (now (chart .entry))) ⌝ }
-{
-    let rows = row_count(chart) as u16;
-    let mut set = RowSet::empty();
-    let mut i: u16 = 0;
-    while i < rows {
-        if is_history(kind_of(chart, Row(i as u8))) {
-            set = set.with(Row(i as u8));
-        }
-        i += 1;
-    }
-    set
 }
 
 // History h stores, if its parent is left.

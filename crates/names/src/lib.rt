@@ -4,7 +4,7 @@ ghost use mathlib.Core.Path.{_≡_};
 ghost use mathlib.Core.Bool.{_&&_, cond};
 ghost use Prim.Native.Nat.{min};
 ghost use lib.Dec.{eqb};
-ghost use lib.ListN.{length, replicate};
+ghost use lib.ListN.{length};
 ghost use Rattle.definition.specs.Rows.{all, same};
 ghost use Rattle.definition.specs.Names.{between, isLetter, isNameByte, isName, bare, isDescriptor, begins, tokens, matches, doneName, isId, beforeZero, zerosAfter};
 ghost use Rattle.definition.specs.Tables.{slotOf};
@@ -316,21 +316,11 @@ fn lay(place: &mut [u8], at: usize, bytes: &[u8])
     }
 }
 
-fn clear(place: &mut [u8])
-    ensures { λ _. ⌜ now (place .exit) ≡ replicate (length (now (place .entry))) 0 ⌝ }
-{
-    let mut i = 0;
-    while i < place.len() {
-        place[i] = 0;
-        i += 1;
-    }
-}
-
 // The name into a lent slot of any size, cut where the slot ends, and zeros to its end.
 pub fn put_name(slot: &mut [u8], name: &[u8])
     ensures { λ _. ⌜ now (slot .exit) ≡ padded (length (now (slot .entry))) (now (name .entry)) ⌝ }
 {
-    clear(slot);
+    places::clear_u8(slot);
     lay(slot, 0, name);
 }
 
@@ -338,7 +328,7 @@ pub fn put_name(slot: &mut [u8], name: &[u8])
 pub fn put_done_name(slot: &mut [u8], id: &[u8])
     ensures { λ _. ⌜ now (slot .exit) ≡ padded (length (now (slot .entry))) (doneName (now (id .entry))) ⌝ }
 {
-    clear(slot);
+    places::clear_u8(slot);
     lay(slot, 0, b"done.state.");
     lay(slot, DONE_BYTES, id);
 }

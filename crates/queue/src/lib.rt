@@ -87,7 +87,7 @@ pub fn take_oldest(queue: &mut [u8], count: u64)
 pub fn clear(queue: &mut [u8])
     ensures { λ _. ⌜ now (queue .exit) ≡ replicate (length (now (queue .entry))) 0 ⌝ }
 {
-    names::put_name(queue, b"");
+    places::clear_u8(queue);
 }
 
 // Whether the bytes are those of a queue of count names: at most 32, each a name and zeros to its slot's end, and zeros in every unused slot.

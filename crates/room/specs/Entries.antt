@@ -30,7 +30,7 @@ use Rattle.accepted.specs.Sound.{mem-descendants}
 use Rattle.theory.specs.Disjoint.{candidate-of, selected-once, selected-candidate, no-twice-subsequence, subsequence-keep}
 use Rattle.theory.specs.Round.{exits-ascends}
 use Rattle.theory.specs.Runs.{round-cases}
-use Rattle.theory.specs.Branches.{performed-few}
+use Rattle.paths.specs.Lengths.{performed-few}
 use Rattle.paths.specs.Lengths.{done-few}
 use Rattle.room.specs.Sums.{total, fold-total, total-zero, total-more, total-add, total-app, length-flat, total-keep, total-below, no-twice-both, total-backwards, total-one}
 use Rattle.room.specs.Room.{rowRoom, transitionRoom, addRow, addTransition, rowsRoom, transitionsRoom, roomFor}

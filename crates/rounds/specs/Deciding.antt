@@ -22,7 +22,7 @@ use Rattle.selection.specs.Ready.{Selects}
 use Rattle.effects.specs.declared.Tally.{Tally}
 use Rattle.effects.specs.Trace.{queues-all}
 use Rattle.microstep.specs.declared.Plan.{Plan}
-use Rattle.microstep.specs.Words.{historyRows}
+use Rattle.matching.specs.Histories.{historyRows}
 use Rattle.microstep.specs.Stored.{RoundReady}
 use Rattle.microstep.specs.Plan.{Planned, PlanReady, planEffects}
 use Rattle.lookup.specs.declared.RowKinds.{RowKinds}

@@ -7,7 +7,7 @@ use Prim.Native.Nat.{ℕ, _≤_, _<_}
 use native.Mathlib.Omega.{arith}
 use lib.Dec.{ltb}
 use lib.ListN.{length}
-use borrow.Author.Tests.{lt-ltb, le-ltb}
+use borrow.Author.Tests.{lt-ltb}
 use Rattle.definition.specs.declared.Mode.{Mode}
 use Rattle.definition.specs.declared.Mode.the-variants.{Running, Closing, Ended}
 use Rattle.definition.specs.declared.Status.{Status}
@@ -21,7 +21,7 @@ use Rattle.follower.specs.Microstep.{storedIn}
 use Rattle.follower.specs.Follower.{Follower, taking, selectedBy, byExternal, byInternal, byEventless, closingRound, roundIn, round, restStatus}
 use Rattle.rowset.specs.Member.{rowsOf}
 use Rattle.chart.specs.Ready.{CompiledWith}
-use Rattle.matching.specs.Chosen.{listOf, chosen-length}
+use Rattle.matching.specs.Chosen.{chosen-length}
 use Rattle.selection.specs.declared.Selected.{Selected}
 use Rattle.selection.specs.History.{storedAt}
 use Rattle.selection.specs.Ready.{IsSelected}

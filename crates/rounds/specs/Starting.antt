@@ -1,6 +1,6 @@
 -- A start: what is judged and written is the definition's.
 use mathlib.Core.Path.{_≡_, refl, sym, ap, ap₂, subst, _∙_}
-use mathlib.Core.List.{List, [], _∷_, _++_, map}
+use mathlib.Core.List.{List, [], _∷_, _++_}
 use mathlib.Core.Option.{Option, none, some}
 use Prim.Native.Nat.{ℕ, _+_, _≤_}
 use native.Mathlib.Nat.{zero-add}
@@ -14,8 +14,8 @@ use Rattle.definition.specs.declared.Mode.the-variants.{Ended}
 use Rattle.definition.specs.Rows.{from, flat}
 use Rattle.definition.specs.Names.{Name}
 use Rattle.definition.specs.Chart.{Chart}
-use Rattle.definition.specs.Tables.{rowCount, nameAt, chartOf}
-use Rattle.follower.specs.Blocks.{Effect, traceNo, queued}
+use Rattle.definition.specs.Tables.{nameAt, chartOf}
+use Rattle.follower.specs.Blocks.{Effect, queued}
 use Rattle.follower.specs.Microstep.{Entry}
 use Rattle.definition.specs.Answers.{modeNo}
 use Rattle.definition.specs.Compiled.{words}

@@ -34,7 +34,8 @@ use Rattle.lookup.specs.Lookup.{KindsOf}
 use Rattle.microstep.specs.declared.Plan.{Plan}
 use Rattle.microstep.specs.Stored.{StoreReady, RoundReady}
 use Rattle.microstep.specs.Plan.{Planned, PlanReady, planEffects, plan-effects, next-within}
-use Rattle.microstep.specs.Words.{historyRows, isStoring, HistoryStored, words-after}
+use Rattle.matching.specs.Histories.{historyRows}
+use Rattle.microstep.specs.Words.{isStoring, HistoryStored, words-after}
 use Rattle.legality.specs.Rows.{RowsReady}
 use Rattle.queue.specs.Queues.{queue-waits}
 use Rattle.state.specs.State.{historyWords, configurationIn, historyIn, internalIn, externalIn, Spells, Holds, stateAt, HoldsAt}

@@ -1,11 +1,11 @@
 -- The trace after effects were written: into it from its beginning, or into the part behind the entries that are there.
 use mathlib.Core.Path.{_≡_, sym, ap, _∙_}
-use mathlib.Core.List.{List, [], _∷_, _++_, map, map-append, append-assoc, append-nil}
-use Prim.Native.Nat.{ℕ, suc, _+_, _-_, _≤_, _<_}
+use mathlib.Core.List.{List, _++_, map, map-append, append-assoc, append-nil}
+use Prim.Native.Nat.{ℕ, _+_, _-_, _≤_}
 use native.Mathlib.Nat.{zero-add}
 use native.Mathlib.Omega.{arith}
-use lib.ListN.{length, getD, take, drop, set, length-append, length-map, length-drop}
-use lib.Seq.{take-at, take-all, take-suc, drop-cons, set-at, drop-at, drop-drop, drop-length, length-take-le}
+use lib.ListN.{length, take, drop, length-append, length-map, length-drop}
+use lib.Seq.{take-at, take-all, drop-at, drop-drop, drop-length, length-take-le}
 use Rattle.follower.specs.Blocks.{Effect, traceNo}
 use Rattle.effects.specs.declared.Tally.{Tally}
 use Rattle.effects.specs.Trace.{allQueues, joinsOf, joins-length, overwrite, overwrite-length, overwrite-inside, Places, Wrote}
@@ -92,11 +92,6 @@ module _ (old new : Places) (t : Tally) (es : List Effect) (w : Wrote old new no
 -- written a second time, counted the first
 pub filled-again : (old new : Places) (t r : Tally) (es : List Effect) → Wrote old new nothing r es → t .entries ≡ 0 + length es → Filled (old .trace) (new .trace) t es
 filled-again old new t r es w e = record { trace = w .trace; entries = e }
-
--- n entries are there, and find room
-pub record EntriesFit (draft : List ℕ) (n : ℕ) (trace : List ℕ) : Type 0 where
-  pub there : n ≤ length draft
-  pub room : n ≤ length trace
 
 -- a draft that is whole is copied
 pub draft-copied : (draft old new : List ℕ) (t : Tally) (es : List Effect) → Drafted draft t es → t .entries ≤ length draft → t .entries ≤ length old →

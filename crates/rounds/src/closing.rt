@@ -1,5 +1,4 @@
 // The round of a closing session.
-ghost use mathlib.Core.Path.{_≡_};
 ghost use Rattle.definition.specs.Tables.{chartOf};
 ghost use Rattle.follower.specs.Follower.{closingRound};
 ghost use Rattle.chart.specs.Ready.{Ready};

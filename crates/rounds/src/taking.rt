@@ -1,8 +1,7 @@
 // A round of a running session: its transitions are chosen and planned, their effects drafted and judged, and then it is written.
 ghost use mathlib.Core.Path.{_≡_};
-ghost use mathlib.Core.List.{_++_};
 ghost use Prim.Native.Nat.{_≤_};
-ghost use lib.ListN.{length, take, drop};
+ghost use lib.ListN.{length, take};
 ghost use Rattle.definition.specs.declared.Mode.the-variants.{Running};
 ghost use Rattle.definition.specs.Tables.{transitionCount, nameAt, chartOf};
 ghost use Rattle.follower.specs.Follower.{modeOf, roundIn};
@@ -21,7 +20,7 @@ ghost use Rattle.events.specs.Left.{internalLeft, externalLeft};
 ghost use Rattle.rounds.specs.Turns.{Turned};
 ghost use Rattle.rounds.specs.Judging.{LeavesInternal, LeavesExternal};
 ghost use Rattle.rounds.specs.Taking.{stepTakes, byIn, StepReady, Decided, Commits};
-ghost use Rattle.rounds.specs.Traces.{nothing, Filled, Drafted, EntriesFit};
+ghost use Rattle.rounds.specs.Traces.{nothing, Filled, Drafted};
 use crate::JOINS;
 use crate::NOTHING;
 use crate::Outcome;
@@ -34,6 +33,7 @@ use effects::Tally;
 use events::Choice;
 use events::Source;
 use lookup::RowKinds;
+use places::copy_u32;
 use rowset::RowSet;
 use state::State;
 
@@ -73,18 +73,6 @@ pub fn mode_of(chart: &[u64], conf: RowSet) -> Mode
 
 // ---- what is shown: the trace
 
-// The first n entries of the draft, which are the round's, into the trace.
-fn copy_entries(draft: &[u32], n: usize, trace: &mut [u32])
-    requires { ⌜ EntriesFit (now draft) n (now trace) ⌝ }
-    ensures { λ _. ⌜ now (trace .exit) ≡ take n (now (draft .entry)) ++ drop n (now (trace .entry)) ⌝ }
-{
-    let mut i = 0;
-    while i < n {
-        trace[i] = draft[i];
-        i += 1;
-    }
-}
-
 // What the step does is written. Its transitions are the first of the items; the places behind those say which row chose each.
 fn step_effects(
     chart: &[u64],
@@ -121,7 +109,8 @@ fn show_plan(
         step_effects(chart, step, items, trace, &mut none);
         return;
     }
-    copy_entries(draft, n as usize, trace);
+    let end = n as usize;
+    copy_u32(&draft[..end], trace);
 }
 
 // ---- what is kept: queues, stored history, and the next state

@@ -7,16 +7,14 @@ use native.Mathlib.Omega.{arith}
 use lib.Dec.{ltb}
 use lib.ListN.{length, getD, set, length-set}
 use lib.Seq.{getD-set-same, getD-set-other}
-use borrow.Author.Tests.{not-true, lt-ltb, le-ltb}
+use borrow.Author.Tests.{not-true, lt-ltb}
 use Rattle.definition.specs.Rows.{fold, any, with, isEmpty, union, insert, intersection}
 use Rattle.definition.specs.declared.Kind.{Kind}
 use Rattle.definition.specs.Chart.{Chart, kind, isHistory}
 use Rattle.definition.specs.Tree.{descendants, anchor, anchors}
 use Rattle.follower.specs.Selection.{History, standIns, addStandIns, resolved, effectiveTargets, domainOf, domain, exitSet}
-use Rattle.laws.specs.Bools.{no, clash, and-left, and-right, bool-case, eq-case, not-so, or-left, or-right}
-
-unfoldable pub isHistoryRow : Chart → ℕ → Bool
-isHistoryRow c x = isHistory (kind c x)
+use Rattle.matching.specs.Histories.{isHistoryRow}
+use Rattle.laws.specs.Bools.{no, and-left, and-right, bool-case, eq-case, not-so, or-left, or-right}
 
 -- there are targets, and no history among them
 unfoldable pub hasFixedTargets : Chart → ℕ → Bool

@@ -9,15 +9,12 @@ ghost use Rattle.rowset.specs.Member.{rowsOf};
 ghost use Rattle.chart.specs.Ready.{Ready};
 ghost use Rattle.session.specs.Sessions.{session, isSession};
 ghost use Rattle.session.specs.Judged.{Lengths, holdsPlace, modeHolds};
-use crate::ENDED;
 use numbers::Row;
 use rowset::RowSet;
-
-const RUNNING: u64 = 1;
-
-const CLOSING: u64 = 2;
-
-const SET_WIDTH: usize = 4;
+use state::CLOSING;
+use state::ENDED;
+use state::RUNNING;
+use tables::columns::SET_WIDTH;
 
 // "is closing exactly if a final under root is active; is ended exactly if nothing is active, its queues then empty"; legal unless ended.
 pub fn mode_holds(chart: &[u64], conf: RowSet, internal: u64, external: u64, mode: u64) -> bool

@@ -15,6 +15,8 @@ use definition::Status;
 pub use judging::history_holds;
 pub use judging::mode_holds;
 use judging::parts_hold;
+use places::copy_u64;
+use state::ENDED;
 use state::State;
 
 mod judging;
@@ -51,19 +53,6 @@ pub struct Ran {
     pub count: usize,
 }
 
-const ENDED: u64 = 0;
-
-fn copy(from: &[u64], place: &mut [u64])
-    requires { ⌜ length (now place) ≡ length (now from) ⌝ }
-    ensures { λ _. ⌜ now (place .exit) ≡ now (from .entry) ⌝ }
-{
-    let mut i = 0;
-    while i < from.len() {
-        place[i] = from[i];
-        i += 1;
-    }
-}
-
 // The name into the slot behind the count names of a session's queue.
 fn put_name(queue: &mut [u8; 2048], count: u64, name: &[u8])
     requires { ⌜ (length (now queue) ≡ 2048) × (count < 32) ⌝ }
@@ -93,7 +82,7 @@ impl Session {
         ensures { λ s. ⌜ s ≡ sessionAt numbers internal external ⌝ }
     {
         let mut history = [0u64; 1024];
-        copy(&numbers[state::HISTORY..state::INTERNAL], &mut history);
+        copy_u64(&numbers[state::HISTORY..state::INTERNAL], &mut history);
         Session {
             configuration: [numbers[0], numbers[1], numbers[2], numbers[3]],
             history: history,
@@ -111,7 +100,7 @@ impl Session {
     {
         let state = self.state();
         let mut numbers = [0u64; state::NUMBERS];
-        copy(&self.history, &mut numbers[state::HISTORY..state::INTERNAL]);
+        copy_u64(&self.history, &mut numbers[state::HISTORY..state::INTERNAL]);
         state::put_state(&mut numbers, state);
         numbers
     }

@@ -7,6 +7,7 @@ use lib.ListN.{length, getD, take, drop, set, length-append, length-take, length
 use lib.Seq.{take-at, drop-at, drop-drop, getD-take, getD-drop, getD-append-add, take-append-add, length-take-le}
 use Rattle.definition.specs.declared.Mode.{Mode}
 use Rattle.definition.specs.Compiled.{words}
+use Rattle.tables.specs.Sets.{putAt}
 use Rattle.laws.specs.Passes.{drop-end}
 use Rattle.rowset.specs.declared.RowSet.{RowSet}
 use Rattle.chart.specs.Ready.{setAt}
@@ -81,14 +82,6 @@ numbers-parts numbers l =
 
 -- ---- written
 
-pub put-four : (old : List ℕ) (a b c d : ℕ) → length old ≡ 4 → set (set (set (set old 0 a) 1 b) 2 c) 3 d ≡ a ∷ b ∷ c ∷ d ∷ []
-put-four [] a b c d l = absurd (omega arith)
-put-four (x ∷ []) a b c d l = absurd (omega arith)
-put-four (x ∷ y ∷ []) a b c d l = absurd (omega arith)
-put-four (x ∷ y ∷ z ∷ []) a b c d l = absurd (omega arith)
-put-four (x ∷ y ∷ z ∷ w ∷ []) a b c d l = refl
-put-four (x ∷ y ∷ z ∷ w ∷ v ∷ old) a b c d l = absurd (omega arith)
-
 pub put-three : (old : List ℕ) (a b c : ℕ) → length old ≡ 3 → set (set (set old 0 a) 1 b) 2 c ≡ a ∷ b ∷ c ∷ []
 put-three [] a b c l = absurd (omega arith)
 put-three (x ∷ []) a b c l = absurd (omega arith)
@@ -112,10 +105,12 @@ module _ (numbers conf : List ℕ) (internal external mode : ℕ) (size : length
   unfolding numbersOf
   written tail e = rw (rest, append-nil {A = ℕ} tail, head, e) (append-assoc conf (historyIn numbers) (internal ∷ external ∷ mode ∷ []))
 
-pub state-written : (numbers conf tail xs : List ℕ) (internal external m n : ℕ) → length numbers ≡ 1031 → conf ≡ words xs → tail ≡ internal ∷ external ∷ m ∷ [] → m ≡ n →
-    take 1028 (conf ++ drop 4 numbers) ++ (tail ++ drop 3 (drop 1028 (conf ++ drop 4 numbers))) ≡ numbersOf (words xs) (historyIn numbers) internal external n
-state-written numbers conf tail xs internal external m n size p t e =
-    written numbers conf internal external m size (ap length p ∙ words-length xs) tail t ∙ (λ j. numbersOf (p j) (historyIn numbers) internal external (e j))
+pub state-written : (numbers next tail xs : List ℕ) (internal external m n : ℕ) → length numbers ≡ 1031 → next ≡ putAt numbers 0 xs → tail ≡ internal ∷ external ∷ m ∷ [] → m ≡ n →
+    take 1028 next ++ (tail ++ drop 3 (drop 1028 next)) ≡ numbersOf (words xs) (historyIn numbers) internal external n
+unfolding putAt
+state-written numbers next tail xs internal external m n size p t e =
+    ap (λ (ws : List ℕ). take 1028 ws ++ (tail ++ drop 3 (drop 1028 ws))) p ∙ written numbers (words xs) internal external m size (words-length xs) tail t ∙
+    ap (numbersOf (words xs) (historyIn numbers) internal external) e
 
 -- the history lent and put back
 module _ (numbers history : List ℕ) (size : length numbers ≡ 1031) (same : length history ≡ 1024) where

@@ -14,9 +14,9 @@ use Rattle.laws.specs.Maps.{map-reads}
 use Rattle.accepted.specs.Tree.{Tree}
 use Rattle.rowset.specs.Member.{rowsOf}
 use Rattle.chart.specs.Ready.{setAt}
-use Rattle.selection.specs.History.{storedAt}
+use Rattle.paths.specs.History.{storedAt}
 use Rattle.queue.specs.Queues.{queueOf, queue-length}
-use Rattle.state.specs.State.{historyWords, rowsAt, modeFrom, numbersOf, configurationIn, historyIn, internalIn, externalIn, modeIn, Spells, Holds, stateOf}
+use Rattle.state.specs.State.{historyWords, rowsAt, modeFrom, configurationIn, historyIn, internalIn, externalIn, modeIn, Spells, Holds, stateOf}
 use Rattle.state.specs.Words.{words-length, history-length}
 use Rattle.state.specs.Found.{mode-again, queue-again, history-reads, configuration-is}
 use Rattle.state.specs.Numbers.{numbers-length, numbers-words, numbers-history, numbers-internal, numbers-external, numbers-mode, first-set}

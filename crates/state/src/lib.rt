@@ -78,16 +78,6 @@ pub fn state_in(numbers: &[u64]) -> State
     }
 }
 
-fn put_set(place: &mut [u64], set: RowSet)
-    requires { ⌜ length (now place) ≡ 4 ⌝ }
-    ensures { λ _. ⌜ now (place .exit) ≡ words (rowsOf set) ⌝ }
-{
-    place[0] = set.w0;
-    place[1] = set.w1;
-    place[2] = set.w2;
-    place[3] = set.w3;
-}
-
 fn put_counts(place: &mut [u64], internal: u64, external: u64, mode: u64)
     requires { ⌜ length (now place) ≡ 3 ⌝ }
     ensures { λ _. ⌜ now (place .exit) ≡ internal ∷ external ∷ mode ∷ [] ⌝ }
@@ -106,7 +96,7 @@ pub fn put_state(numbers: &mut [u64], state: State)
     let internal = state.internal;
     let external = state.external;
     let mode = state.mode;
-    put_set(&mut numbers[..HISTORY], set);
+    tables::put_set(numbers, 0, set);
     put_counts(
         &mut numbers[INTERNAL..NUMBERS],
         internal,

@@ -1,12 +1,12 @@
--- What performing a block gives (R-5): of each if the branch taken; at most one effect for each action; and it depends on the configuration
--- by the rows alone that the block's tests name.
+-- What performing a block gives (R-5): of each if the branch taken; and it depends on the configuration by the rows alone that the block's
+-- tests name.
 use mathlib.Core.Path.{_≡_, refl, ap, sym, _∙_}
 use mathlib.Core.Bool.{Bool, true, false, cond}
 use mathlib.Core.List.{List, [], _∷_, _++_, append-nil, append-assoc}
 use mathlib.Core.Option.{Option, none, some}
 use Prim.Native.Nat.{ℕ, zero, suc, _+_, _≤_}
 use native.Mathlib.Omega.{arith}
-use lib.ListN.{length, getD, length-append}
+use lib.ListN.{getD}
 use Rattle.definition.specs.declared.Action.{Action}
 use Rattle.definition.specs.declared.Action.the-variants.{Raise, Host, If, ElseIf, Else, End}
 use Rattle.definition.specs.declared.Reach.{Reach}
@@ -234,32 +234,6 @@ module _ (conf : List ℕ) where
   pub nested-past : {xs : List Action} → Nested xs → (n : ℕ) (rest : List Action) → performedFrom conf (Past n) (xs ++ rest) ≡ performedFrom conf (Past n) rest
   unfolding isIdle
   nested-past {xs} v n rest = idle-app xs rest (contained v) (Past n) refl
-
--- ---- each action has at most one effect
-
-perform-few : (r : Reach) (a : Action) → length (performIf r a) ≤ 1
-unfolding performIf perform
-perform-few Live (Raise n) = omega arith
-perform-few Live (Host n) = omega arith
-perform-few Live (If i) = omega arith
-perform-few Live (ElseIf i) = omega arith
-perform-few Live Else = omega arith
-perform-few Live End = omega arith
-perform-few (Waiting n) a = omega arith
-perform-few (Past n) a = omega arith
-
-performed-from-few : (conf : List ℕ) (r : Reach) (block : List Action) → length (performedFrom conf r block) ≤ length block
-unfolding performedFrom
-performed-from-few conf r [] = omega arith
-performed-from-few conf r (a ∷ block) =
-    let p = perform-few r a in
-    let q = performed-from-few conf (after conf a r) block in
-    let s : length (performIf r a ++ performedFrom conf (after conf a r) block) ≡ length (performIf r a) + length (performedFrom conf (after conf a r) block) = length-append (performIf r a) _ in
-    omega arith
-
-pub performed-few : (conf : List ℕ) (block : List Action) → length (performed conf block) ≤ length block
-unfolding performed
-performed-few conf block = performed-from-few conf Live block
 
 -- ---- the rows that the tests of a block name
 

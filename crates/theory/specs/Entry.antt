@@ -7,10 +7,8 @@ use Prim.Native.Nat.{ℕ, zero, suc, _+_, _<_, _≤_}
 use native.Mathlib.Omega.{arith}
 use lib.Dec.{eqb, ltb}
 use borrow.Author.Tests.{eqb-true, eq-eqb, lt-ltb, ltb-true, ltb-false, not-true}
-use Rattle.definition.specs.declared.Kind.{Kind}
-use Rattle.definition.specs.declared.Kind.the-variants.{Root, State, Parallel, Final, Shallow, Deep}
 use Rattle.definition.specs.Rows.{fold, from, with, mem, any, insert, union, meets}
-use Rattle.definition.specs.Chart.{Chart, kind, parent, isRoot, isState, isParallel, isHistory}
+use Rattle.definition.specs.Chart.{Chart, kind, parent, isRoot, isParallel, isHistory}
 use Rattle.definition.specs.Tree.{ancestors, descendants, isDescendant, isChild, children, isCompound, isDomainKind}
 use Rattle.follower.specs.Microstep.{addPath, pathsBelow, Entry, hasNoChildIn, complete, entrySet}
 use Rattle.laws.specs.Bools.{no, clash, or-elim, or-left, or-right, or-false, bool-case, not-so, eq-case, and-left, and-right, and-true}
@@ -18,7 +16,7 @@ use Rattle.laws.specs.Sets.{Ascends, mem-those, those-low, mem-insert, mem-one,
 use Rattle.laws.specs.Lists.{any-true, any-mem, meets-none, none-meets, meets-some}
 use Rattle.laws.specs.Passes.{fold-keeps, count-keeps}
 use Rattle.laws.specs.Ways.{Way, here, eq-way, up, Below, way-cases, way-trans, below-way, way-le, below-lt, child-way}
-use Rattle.accepted.specs.Tree.{Tree, low, not-root, anc-below, below-anc, under-below, under-plain, below-under, child-of, child-facts, children-mem, mem-children, parent-plain}
+use Rattle.accepted.specs.Tree.{Tree, low, not-root, anc-below, below-anc, under-below, under-plain, below-under, child-of, child-facts, children-mem, mem-children, parent-plain, compound-kind}
 use Rattle.accepted.specs.Fork.{live, Partial, Legal, Forks, live-up}
 
 -- ---- the rows of a list and their ancestors
@@ -119,19 +117,6 @@ module _ (c : Chart) (t : Tree c) where
       rw (f .2) at (under-below c t d (suc (f .0)) (rw (f .1) at (path-descends c d xs j n)))
 
 -- ---- what a row asks for
-
--- a compound is no parallel
-pub compound-kind : (c : Chart) (i : ℕ) → isCompound c i ≡ true → isParallel (kind c i) ≡ false
-unfolding isCompound
-compound-kind c i h = go (kind c i) (and-left (isState (kind c i)) _ h)
-  where
-    go : (k : Kind) → isState k ≡ true → isParallel k ≡ false
-    go Root e = refl
-    go State e = refl
-    go Parallel e = absurd (no e)
-    go Final e = refl
-    go Shallow e = refl
-    go Deep e = refl
 
 pub bare-facts : (c : Chart) (set : List ℕ) (i : ℕ) → hasNoChildIn c set i ≡ true → (isCompound c i ≡ true) × (meets (children c i) set ≡ false)
 unfolding hasNoChildIn

@@ -1,5 +1,4 @@
-use borrow.Author.Needs.{needs}
-use mathlib.Core.Path.{_≡_, _∙_, sym}
+use mathlib.Core.Path.{_∙_, sym}
 use native.Mathlib.Omega.{arith}
 use Rattle.state.specs.Places.{numbers-size, internal-size, external-size}
 use Rattle.events.specs.Choosing.{event-ready, choose-eventless, choose-internal, choose-external, choose-nothing}

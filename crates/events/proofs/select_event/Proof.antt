@@ -1,7 +1,5 @@
 use borrow.Author.Needs.{needs}
 use mathlib.Core.Path.{sym, _∙_}
-use native.Mathlib.Omega.{arith}
-use lib.Seq.{length-take-le}
 use Rattle.lookup.specs.Lookup.{prepared}
 use Rattle.state.specs.Numbers.{set-inside, history-part}
 use Rattle.events.proofs.select_event.Statement.{statement}

@@ -4,8 +4,8 @@ use Rattle.names.specs.Slots.{done-laid}
 use Rattle.names.proofs.put_done_name.Statement.{statement}
 use Rattle.names.proofs.put_done_name.Tie as tie
 
-clear-requires : tie.Need-clear-requires
-clear-requires c κs = search needs
+clear-u8-requires : tie.Need-clear-u8-requires
+clear-u8-requires c κs = search needs
 
 slice-aggregate-lay : tie.Need-slice-aggregate-lay
 slice-aggregate-lay c = search needs
@@ -23,9 +23,9 @@ returns : tie.Need-returns
 returns c =
     let l = c .before .before .before .before .before .before in
     let z = l .before .before .before .before .before in
-    done-laid _ _ _ _ _ (z .clear .ensures) (l .lay .ensures) (c .before .before .lay2 .ensures)
+    done-laid _ _ _ _ _ (z .clear-u8 .ensures) (l .lay .ensures) (c .before .before .lay2 .ensures)
 
 pub put-done-name-spec : {M : Type 1} → statement M
 put-done-name-spec =
     tie.close
-    (tie.spec clear-requires slice-aggregate-lay lay-requires lay-requires-2 same-length returns)
+    (tie.spec clear-u8-requires slice-aggregate-lay lay-requires lay-requires-2 same-length returns)

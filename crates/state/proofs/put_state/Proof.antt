@@ -1,19 +1,10 @@
 use borrow.Author.Needs.{needs}
-use mathlib.Core.Path.{sym}
-use native.Mathlib.Omega.{arith}
-use lib.Seq.{length-take-le}
 use Rattle.state.specs.Numbers.{state-written}
 use Rattle.state.proofs.put_state.Statement.{statement}
 use Rattle.state.proofs.put_state.Tie as tie
 
-slice-relend-prefix-put-set : tie.Need-slice-relend-prefix-put-set
-slice-relend-prefix-put-set c = search needs
-
-slice-aggregate-put-set : tie.Need-slice-aggregate-put-set
-slice-aggregate-put-set c = sym (length-take-le 4 (c .before .before .before .args .numbers .now) (omega arith))
-
 put-set-requires : tie.Need-put-set-requires
-put-set-requires c κs = length-take-le 4 (c .before .before .before .args .numbers .now) (omega arith)
+put-set-requires c κs = search needs
 
 sub-put-counts : tie.Need-sub-put-counts
 sub-put-counts c = search needs
@@ -40,8 +31,6 @@ pub put-state-spec : {M : Type 1} → statement M
 put-state-spec =
     tie.close
     (tie.spec
-    slice-relend-prefix-put-set
-    slice-aggregate-put-set
     put-set-requires
     sub-put-counts
     part-put-counts-start

@@ -1,5 +1,5 @@
 use borrow.Author.Needs.{needs}
-use mathlib.Core.Path.{_≡_, sym, _∙_}
+use mathlib.Core.Path.{sym, _∙_}
 use native.Mathlib.Omega.{arith}
 use Rattle.rounds.specs.Resting.{rest-ended, rest-closing, rest-waits, rest-eventless, rest-idle}
 use Rattle.rounds.proofs.running.rest_status.Statement.{statement}

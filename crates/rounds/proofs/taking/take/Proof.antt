@@ -1,7 +1,6 @@
 use borrow.Author.Needs.{needs}
 use mathlib.Core.Path.{refl, sym, _∙_}
-use native.Mathlib.Omega.{arith}
-use Rattle.matching.specs.Chosen.{listOf, list-length}
+use Rattle.matching.specs.Chosen.{listOf}
 use Rattle.rounds.specs.Deciding.{taken-idle, plan-asks, step-ready}
 use Rattle.rounds.proofs.Tags.{not-nothing}
 use Rattle.rounds.proofs.taking.take.Statement.{statement}

@@ -1,11 +1,12 @@
 use borrow.Author.Needs.{needs}
-use mathlib.Core.Path.{_≡_, refl, sym}
+use mathlib.Core.Path.{refl}
 use Prim.Native.Nat.{_-_}
 use native.Mathlib.Omega.{arith}
 use lib.ListN.{length}
 use Rattle.definition.specs.Tables.{chartOf}
 use Rattle.laws.specs.Loops.{Failing, failing-begin, failing-read-turn, failing-read-leave, failing-done}
-use Rattle.selection.specs.FixedDomains.{isHistoryRow, targets-not, targets-if, history-row}
+use Rattle.matching.specs.Histories.{isHistoryRow}
+use Rattle.selection.specs.FixedDomains.{targets-not, targets-if, history-row}
 use Rattle.selection.proofs.domains.has_fixed_targets.Statement.{statement}
 use Rattle.selection.proofs.domains.has_fixed_targets.Tie as tie
 

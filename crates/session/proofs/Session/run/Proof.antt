@@ -1,5 +1,5 @@
 use borrow.Author.Needs.{needs}
-use mathlib.Core.Path.{refl, _∙_}
+use mathlib.Core.Path.{_∙_}
 use Rattle.laws.specs.Loops.{said-not-yes, said-not-no}
 use Rattle.chart.specs.Own.{compiled-ready}
 use Rattle.session.specs.Calling.{places-session, session-places, places-hold, run-is, run-trace, run-bad-chart, bad-chart-trace, run-bad-session, bad-session-trace}

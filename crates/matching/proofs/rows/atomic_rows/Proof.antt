@@ -9,8 +9,8 @@ use Rattle.definition.specs.Tables.{rowCount, chartOf}
 use Rattle.laws.specs.Loops.{those-begin, those-insert, those-skip, those-done}
 use Rattle.rowset.specs.Member.{rowsOf}
 use Rattle.matching.specs.Chosen.{atomicRows}
-use Rattle.matching.proofs.atomic_rows.Statement.{statement}
-use Rattle.matching.proofs.atomic_rows.Tie as tie
+use Rattle.matching.proofs.rows.atomic_rows.Statement.{statement}
+use Rattle.matching.proofs.rows.atomic_rows.Tie as tie
 
 abbrev Inv-loop : tie.InvT-loop
 Inv-loop chart rows set₀ i₀ set i = (i ≤ rows) × (rows ≤ 256) × (rows ≡ rowCount chart) × (rowsOf set ≡ those i (isAtomic (chartOf chart)))

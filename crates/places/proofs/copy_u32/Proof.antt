@@ -1,16 +1,16 @@
-use Rattle.compiler.specs.Copies.{Copying, copy-begin, copy-turn, copy-end}
+use Rattle.places.specs.Copies.{Copying, copy-begin, copy-turn, copy-end}
 use borrow.Author.Needs.{needs}
 use Prim.Native.Nat.{_-_}
 use native.Mathlib.Omega.{arith}
 use lib.ListN.{length}
-use Rattle.compiler.proofs.copy_numbers.Statement.{statement}
-use Rattle.compiler.proofs.copy_numbers.Tie as tie
+use Rattle.places.proofs.copy_u32.Statement.{statement}
+use Rattle.places.proofs.copy_u32.Tie as tie
 
 abbrev Inv-loop : tie.InvT-loop
-Inv-loop numbers place₀ i₀ place i = Copying numbers place₀ place i
+Inv-loop from place₀ i₀ place i = Copying from place₀ place i
 
 abbrev μ-loop : tie.MeasureT-loop
-μ-loop numbers place₀ i₀ place i = length numbers - i
+μ-loop from place₀ i₀ place i = length from - i
 
 loop-holds : tie.Need-loop-holds Inv-loop μ-loop
 loop-holds c = copy-begin _ _ (c .pre)
@@ -42,8 +42,8 @@ same-length c = c .before .loop .inv .size
 returns : tie.Need-returns Inv-loop μ-loop
 returns c = let l = c .before .loop in copy-end _ _ _ (l .i) (l .inv) (omega arith)
 
-pub copy-numbers-spec : {M : Type 1} → statement M
-copy-numbers-spec =
+pub copy-u32-spec : {M : Type 1} → statement M
+copy-u32-spec =
     tie.close
     (tie.spec
     Inv-loop

@@ -7,8 +7,8 @@ use Rattle.definition.specs.Tables.{transitionCount, chartOf}
 use Rattle.laws.specs.Passes.{Counted, count-begin, count-turn, count-end}
 use Rattle.rowset.specs.Member.{rowsOf}
 use Rattle.matching.specs.Eventless.{addEventless, eventlessRows}
-use Rattle.matching.proofs.eventless_rows.Statement.{statement}
-use Rattle.matching.proofs.eventless_rows.Tie as tie
+use Rattle.matching.proofs.rows.eventless_rows.Statement.{statement}
+use Rattle.matching.proofs.rows.eventless_rows.Tie as tie
 
 abbrev Inv-loop : tie.InvT-loop
 Inv-loop chart n set₀ t₀ set t = (n ≡ transitionCount chart) × Counted (addEventless (chartOf chart)) [] (rowsOf set) n t

@@ -1,8 +1,8 @@
 use borrow.Author.Needs.{needs}
 use native.Mathlib.Omega.{arith}
 use Rattle.matching.specs.Eventless.{eventless-skip, eventless-add}
-use Rattle.matching.proofs.add_eventless.Statement.{statement}
-use Rattle.matching.proofs.add_eventless.Tie as tie
+use Rattle.matching.proofs.rows.add_eventless.Statement.{statement}
+use Rattle.matching.proofs.rows.add_eventless.Tie as tie
 
 descriptors-of-requires : tie.Need-descriptors-of-requires
 descriptors-of-requires c κs = record { tables = c .before .pre .ready .tables; below = c .before .pre .inside }

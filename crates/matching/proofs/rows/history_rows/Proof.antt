@@ -8,9 +8,9 @@ use Rattle.definition.specs.Chart.{isHistory}
 use Rattle.definition.specs.Rows.{those}
 use Rattle.laws.specs.Loops.{those-begin, those-insert, those-skip, those-done, told}
 use Rattle.rowset.specs.Member.{rowsOf}
-use Rattle.microstep.specs.Words.{isHistoryRow, historyRows}
-use Rattle.microstep.proofs.storing.history_rows.Statement.{statement}
-use Rattle.microstep.proofs.storing.history_rows.Tie as tie
+use Rattle.matching.specs.Histories.{isHistoryRow, historyRows}
+use Rattle.matching.proofs.rows.history_rows.Statement.{statement}
+use Rattle.matching.proofs.rows.history_rows.Tie as tie
 
 abbrev Inv-loop : tie.InvT-loop
 Inv-loop chart rows set₀ i₀ set i = (i ≤ rows) × (rows ≤ 256) × (rows ≡ rowCount chart) × (rowsOf set ≡ those i (isHistoryRow (chartOf chart)))
@@ -52,6 +52,7 @@ loop-less : tie.Need-loop-less Inv-loop μ-loop
 loop-less c = search needs
 
 loop-again : tie.Need-loop-again Inv-loop μ-loop
+unfolding isHistoryRow
 loop-again c = let v = c .before .before .before .before .loop .inv in (search needs, v .1, v .2, ⊎-elim (λ w. ap rowsOf (w .2) ∙ those-insert _ _ _ _ (v .3) (w .1 .ensures) (told isHistory _ _ _ _ (c .before .before .kind-of .ensures) (c .before .is-history .ensures) (w .0 .taken))) (λ w. ap rowsOf (w .1) ∙ those-skip _ _ _ (v .3) (told isHistory _ _ _ _ (c .before .before .kind-of .ensures) (c .before .is-history .ensures) (w .0 .left))) (c .if1 .came))
 
 returns : tie.Need-returns Inv-loop μ-loop

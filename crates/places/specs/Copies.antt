@@ -1,11 +1,11 @@
 -- A copy to the beginning of a place, number by number.
 use mathlib.Core.Path.{_≡_, refl, sym, ap, _∙_}
-use mathlib.Core.List.{List, [], _∷_, _++_, append-assoc}
+use mathlib.Core.List.{List, [], _∷_, _++_, append-assoc, append-nil}
 use Prim.Native.Nat.{ℕ, suc, _+_, _≤_, _<_}
 use native.Mathlib.Numerals.{add-one}
 use native.Mathlib.Omega.{arith}
 use lib.ListN.{length, getD, take, drop, set, length-append, length-drop}
-use lib.Seq.{take-all, take-suc, drop-cons, set-at, length-take-le}
+use lib.Seq.{take-all, take-suc, drop-cons, drop-length, set-at, length-take-le}
 
 -- the first i numbers are copied
 pub record Copying (from place₀ place : List ℕ) (i : ℕ) : Type 0 where
@@ -41,3 +41,10 @@ module _ (from place₀ : List ℕ) where
       let m = h .most in
       let e : i ≡ length from = omega arith in
       h .is ∙ rw (take-all i from l, e)
+
+-- where the place has no more, or the copy is of the first n alone
+pub copy-whole : (from place : List ℕ) → length place ≡ length from → from ++ drop (length from) place ≡ from
+copy-whole from place e = ap (λ (k : ℕ). from ++ drop k place) (sym e) ∙ rw (drop-length place) (append-nil from)
+
+pub copy-first : (from place : List ℕ) (n : ℕ) → n ≤ length from → take n from ++ drop (length (take n from)) place ≡ take n from ++ drop n place
+copy-first from place n l = ap (λ (k : ℕ). take n from ++ drop k place) (length-take-le n from l)
