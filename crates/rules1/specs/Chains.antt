@@ -1,12 +1,12 @@
 -- The rows seen so far, chained by the keys of their ids: a key's head is the last row that has it, each row's link the one before it, and 0 ends a chain.
 use mathlib.Core.Path.{_≡_, refl, sym, ap, _∙_}
-use mathlib.Core.Bool.{Bool, true, false, not}
+use mathlib.Core.Bool.{true, false, not}
 use mathlib.Core.List.{List}
 use Prim.Native.Nat.{ℕ, zero, suc, _+_, _-_, _<_, _≤_}
 use native.Mathlib.Omega.{arith}
 use lib.ListN.{length, getD, set, length-set, replicate, length-replicate}
 use lib.Seq.{getD-set-same, getD-set-other}
-use Rattle.definition.specs.Rows.{all, from, same}
+use Rattle.definition.specs.Rows.{same}
 use Rattle.definition.specs.Tables.{idAt, nameAt}
 use Rattle.definition.specs.Rules.{idDiffers}
 use Rattle.laws.specs.Bools.{bool-case, eq-case}
@@ -15,7 +15,7 @@ use Rattle.laws.specs.Loops.{below-each}
 use Rattle.laws.specs.Orders.{lt-case}
 use Rattle.rules1.specs.Ids.{IdTurn, isIdOf, isNewId, new-done, new-leave, differs-root, differs-names}
 use Rattle.rules1.specs.Keys.{keyFrom, keyAt}
-use Rattle.rules1.specs.Classes.{zeros}
+use Rattle.rules1.specs.Splits.{zeros}
 
 -- the row so many links behind x
 unfoldable pub follow : List ℕ → ℕ → ℕ → ℕ

@@ -13,7 +13,7 @@ use Rattle.definition.specs.Tables.{noNumber, rowCount, nameCount, idAt, slotAt
 use Rattle.definition.specs.Rules.{slotFits, idDiffers, idFits}
 use Rattle.laws.specs.Bools.{both-ways, eq-case, and-false, and-left, and-right, and-true, or-left, or-right}
 use Rattle.laws.specs.Lists.{same-eq, same-self}
-use Rattle.laws.specs.Loops.{each-below, below-each, all-begin, all-turn, all-leave, all-done}
+use Rattle.laws.specs.Loops.{each-below, below-each, all-begin, all-leave, all-done}
 use Rattle.laws.specs.Orders.{lt-case}
 use Rattle.names.specs.Slots.{padded-before}
 use Rattle.tables.specs.Ranges.{InTables, SlotsIn, SlotIn, optional-below, slot-in, row-fits}
@@ -212,9 +212,6 @@ module _ (numbers names : List ℕ) where
   pub new-root : (i : ℕ) → i ≡ 0 → isIdOf numbers names i ≡ true → true ≡ isNewId numbers names i
   unfolding isNewId
   new-root i e h = sym (and-true (isIdOf numbers names i) _ h (rw e (all-begin (idDiffers numbers names 0))))
-
-  pub new-begin : (i : ℕ) → all (idDiffers numbers names i) (from 1 0) ≡ true
-  new-begin i = all-turn (idDiffers numbers names i) 0 (all-begin (idDiffers numbers names i)) (differs-root i)
 
   pub new-leave : (i j : ℕ) → j < i → idDiffers numbers names i j ≡ false → false ≡ isNewId numbers names i
   unfolding isNewId

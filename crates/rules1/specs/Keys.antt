@@ -1,26 +1,18 @@
 -- A key of an id: any function of its bytes serves, since names of different keys differ.
 use mathlib.Core.Path.{_≡_, refl, sym, ap, _∙_}
-use mathlib.Core.Bool.{Bool, true, false, not, _||_}
+use mathlib.Core.Bool.{true, false}
 use mathlib.Core.List.{List, [], _∷_}
-use Prim.Native.Nat.{ℕ, zero, suc, _+_, _*_, _/_, _%_, _^_, _<_, _≤_}
+use Prim.Native.Nat.{ℕ, zero, suc, _+_, _*_, _%_, _<_, _≤_}
 use native.Mathlib.Nat.{mod-lt, zero-lt-suc}
 use native.Mathlib.Omega.{arith}
-use borrow.Author.Tests.{eq-eqb}
-use lib.Bits.{bitOr}
-use lib.Dec.{eqb}
-use lib.ListN.{length, getD, drop, set, length-set}
-use lib.Seq.{drop-cons, getD-set-same, getD-set-other}
-use Rattle.definition.specs.Rows.{all, from, same}
+
+use lib.ListN.{length, getD, drop}
+use lib.Seq.{drop-cons}
 use Rattle.definition.specs.Names.{beforeZero}
 use Rattle.definition.specs.Tables.{idAt, nameAt}
-use Rattle.definition.specs.Rules.{idDiffers}
-use Rattle.laws.specs.Bools.{bool-case, eq-case, or-left, or-right, clash}
-use Rattle.laws.specs.Lists.{same-eq}
-use Rattle.laws.specs.Loops.{below-each}
-use Rattle.rowset.specs.Member.{bit}
-use Rattle.rowset.specs.Bits.{bit-or, bit-power, one-shl}
+
 use Rattle.tables.specs.Parts.{IdOf, SlotOf}
-use Rattle.rules1.specs.Ids.{isIdOf, isNewId, new-done, differs-root, differs-names}
+use Rattle.rules1.specs.Ids.{isIdOf}
 
 abbrev pub keys : ℕ
 keys = 1024

@@ -2,6 +2,7 @@ pub mod Inside
 pub mod Arguments
 pub mod Ids
 pub mod Keys
+pub mod Splits
 pub mod Classes
 pub mod Chains
 pub mod Raises

@@ -1,6 +1,5 @@
 // Rule 2 on ids: each is one, and no two rows have the same.
 ghost use mathlib.Core.Path.{_≡_};
-ghost use mathlib.Core.Bool.{true};
 ghost use Prim.Native.Nat.{_<_};
 ghost use Rattle.definition.specs.Rows.{all, from};
 ghost use Rattle.definition.specs.Tables.{rowCount};

@@ -1,5 +1,5 @@
 use borrow.Author.Needs.{needs}
-use Rattle.rules1.specs.Classes.{first-none, first-some}
+use Rattle.rules1.specs.Splits.{first-none, first-some}
 use Rattle.rules1.proofs.classes.first_of.Statement.{statement}
 use Rattle.rules1.proofs.classes.first_of.Tie as tie
 

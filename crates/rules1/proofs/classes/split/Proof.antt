@@ -1,7 +1,7 @@
 use borrow.Author.Needs.{needs}
 use Prim.Native.Nat.{_+_, _*_, _-_, _≤_, _<_}
 use native.Mathlib.Omega.{arith}
-use Rattle.rules1.specs.Classes.{Firsts, cellOf, firsts-begin, firsts-turn, firsts-done, cell-low}
+use Rattle.rules1.specs.Splits.{Firsts, cellOf, firsts-begin, firsts-turn, firsts-done, cell-low}
 use Rattle.rules1.proofs.classes.split.Statement.{statement}
 use Rattle.rules1.proofs.classes.split.Tie as tie
 
