@@ -5,12 +5,10 @@ use mathlib.Core.List.{List, [], _∷_}
 use Prim.Native.Nat.{ℕ, zero, suc, _+_, _*_, _%_, _<_, _≤_}
 use native.Mathlib.Nat.{mod-lt, zero-lt-suc}
 use native.Mathlib.Omega.{arith}
-
 use lib.ListN.{length, getD, drop}
 use lib.Seq.{drop-cons}
 use Rattle.definition.specs.Names.{beforeZero}
 use Rattle.definition.specs.Tables.{idAt, nameAt}
-
 use Rattle.tables.specs.Parts.{IdOf, SlotOf}
 use Rattle.rules1.specs.Ids.{isIdOf}
 
