@@ -14,23 +14,12 @@ use Rattle.definition.specs.Tree.{anchor}
 use Rattle.definition.specs.Rules.{isApart, areApart}
 use Rattle.laws.specs.Bools.{clash, and-left, and-right, and-true, bool-case}
 use Rattle.laws.specs.Loops.{all-append}
-use Rattle.tables.specs.Ranges.{RowIn}
-use Rattle.tables.specs.Parts.{RowOf}
 
 -- ---- one pair
 
 -- the later row first
 unfoldable pub isApartFrom : Chart → ℕ → ℕ → Bool
 isApartFrom c y x = isApart c x y
-
-module _ (numbers : List ℕ) (i : ℕ) (r : RowIn numbers i) where
-  pub anchor-self : isHistory (kindAt numbers i) ≡ false → RowOf numbers (anchor (chartOf numbers) i) i
-  unfolding anchor
-  anchor-self h = record { is = sym (rw h); row = r }
-
-  pub anchor-parent : (p : ℕ) → isHistory (kindAt numbers i) ≡ true → RowOf numbers (parentAt numbers i) p → RowOf numbers (anchor (chartOf numbers) i) p
-  unfolding anchor
-  anchor-parent p h q = record { is = q .is ∙ sym (rw h); row = q .row }
 
 -- ---- a list, from its start
 

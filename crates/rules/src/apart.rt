@@ -1,28 +1,15 @@
 // Rule 4: rows that stand apart, as those of every list do.
 ghost use mathlib.Core.Path.{_≡_};
 ghost use Rattle.definition.specs.Tables.{chartOf};
-ghost use Rattle.definition.specs.Tree.{anchor};
 ghost use Rattle.definition.specs.Rules.{areApart};
 ghost use Rattle.rowset.specs.Member.{rowsOf};
-ghost use Rattle.tables.specs.Ranges.{RowIn, RowsIn};
-ghost use Rattle.tables.specs.Parts.{RowOf};
-ghost use Rattle.rules3.specs.Parents.{TreeIn};
+ghost use Rattle.tables.specs.Ranges.{RowsIn};
 ghost use Rattle.rules3.specs.Ancestry.{Climbed};
 ghost use Rattle.rules.specs.Beside.{isBeside, UnderSet};
 ghost use Rattle.rules.specs.Nearest.{highest};
 use numbers::Row;
 use rowset::Found;
 use rowset::RowSet;
-
-fn anchor_of(numbers: &[u64], r: Row) -> Row
-    requires { ⌜ TreeIn (now numbers) × RowIn (now numbers) (r .0) ⌝ }
-    ensures { λ a. ⌜ RowOf (now (numbers .entry)) (anchor (chartOf (now (numbers .entry))) (r .0)) (a .0) ⌝ }
-{
-    if tables::is_history(tables::kind_of(numbers, r)) {
-        return tables::parent_row(numbers, r);
-    }
-    r
-}
 
 // The last row of both sets, and row 0 where there is none.
 fn highest_common(a: RowSet, b: RowSet) -> Row
@@ -65,7 +52,7 @@ pub fn are_apart(numbers: &[u64], sets: &[u64], list: &[u64]) -> bool
     let mut above = RowSet::empty();
     let mut k = 0;
     while k < list.len() {
-        let a = anchor_of(numbers, tables::row_at(numbers, list, k));
+        let a = rules3::anchor_of(numbers, tables::row_at(numbers, list, k));
         let over = rules3::set_of(sets, a);
         if !is_beside(numbers, anchors, above, over, a) {
             return false;
