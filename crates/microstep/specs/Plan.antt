@@ -32,7 +32,7 @@ use Rattle.effects.specs.Entering.{entryIs, HistoryRows}
 use Rattle.effects.specs.Bounds.{round-room, entering-room}
 use Rattle.microstep.specs.declared.Plan.{Plan}
 use Rattle.microstep.specs.Stored.{after-stored}
-use Rattle.microstep.specs.Words.{isHistoryRow, historyRows}
+use Rattle.matching.specs.Histories.{isHistoryRow, historyRows}
 use Rattle.microstep.specs.Targets.{targeted-same, fallen-same}
 use Rattle.microstep.specs.Initial.{initial-same, with-initial-same, defaults-within, start-stored}
 

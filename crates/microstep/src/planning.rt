@@ -11,7 +11,7 @@ ghost use Rattle.paths.specs.History.{storedAt};
 ghost use Rattle.selection.specs.FixedDomains.{DomainsFixed};
 ghost use Rattle.effects.specs.Trace.{places, Wrote};
 ghost use Rattle.effects.specs.Choosers.{chooserIn};
-ghost use Rattle.microstep.specs.Words.{historyRows};
+ghost use Rattle.matching.specs.Histories.{historyRows};
 ghost use Rattle.microstep.specs.Stored.{RoundReady};
 ghost use Rattle.microstep.specs.Plan.{Planned, PlanReady, StartPlanned, Small, planEffects, startEffects};
 use crate::Plan;

@@ -10,7 +10,7 @@ ghost use Rattle.matching.specs.Chosen.{listOf, ChosenIn};
 ghost use Rattle.selection.specs.History.{storedAt};
 ghost use Rattle.selection.specs.Ready.{Selects};
 ghost use Rattle.effects.specs.Trace.{places, Wrote};
-ghost use Rattle.microstep.specs.Words.{historyRows};
+ghost use Rattle.matching.specs.Histories.{historyRows};
 ghost use Rattle.microstep.specs.Stored.{RoundReady};
 ghost use Rattle.microstep.specs.Plan.{Planned, PlanReady, planEffects};
 ghost use Rattle.legality.specs.Rows.{RowsReady};
