@@ -3,7 +3,7 @@ use mathlib.Core.Path.{_≡_, refl, sym, ap, ap₂, _∙_}
 use mathlib.Core.Bool.{Bool, true, false, cond}
 use mathlib.Core.List.{List, [], _∷_, _++_, append-nil}
 use Prim.Native.Nat.{ℕ, zero, suc, _+_, _≤_, _<_}
-use native.Mathlib.Nat.{add-zero}
+use native.Mathlib.Nat.{add-zero, zero-add}
 use native.Mathlib.Omega.{arith}
 use lib.Dec.{eqb}
 use lib.ListN.{length, getD}
@@ -23,7 +23,7 @@ unfolding picked
 picked-low q m [] h = refl
 picked-low q m (l ∷ ls) h = rw (ne-eqb m q (λ e. omega arith)) (picked-low q (suc m) ls (omega arith))
 
-pub picked-at : {A : Type 0} (m k : ℕ) (ls : List (List A)) → picked (m + k) m ls ≡ getD ls k []
+picked-at : {A : Type 0} (m k : ℕ) (ls : List (List A)) → picked (m + k) m ls ≡ getD ls k []
 unfolding picked
 picked-at m k [] = refl
 picked-at {A} m zero (l ∷ ls) =
@@ -35,6 +35,9 @@ picked-at m (suc k) (l ∷ ls) =
   where
     shift : (a b : ℕ) → a + suc b ≡ suc a + b
     shift a b = omega arith
+
+pub picked-here : {A : Type 0} (k : ℕ) (ls : List (List A)) → picked k 0 ls ≡ getD ls k []
+picked-here k ls = ap (λ (q : ℕ). picked q 0 ls) (sym (zero-add k)) ∙ picked-at 0 k ls
 
 -- ---- rows
 
