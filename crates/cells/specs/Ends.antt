@@ -7,7 +7,7 @@ use native.Mathlib.Omega.{arith}
 use lib.Dec.{eqb}
 use lib.ListN.{length, getD}
 use borrow.Author.Tests.{eqb-true, eqb-false}
-use Rattle.cells.specs.Starts.{tableBase, PartRoom, startCell, countCell, PartLaid}
+use Rattle.cells.specs.Starts.{tableBase, PartRoom, entriesIn, PartLaid}
 use Rattle.cells.specs.Parts.{blocks, CellsRoom, part-room, moved}
 
 pub record TransitionRoom (out next : List ℕ) (n t r : ℕ) : Type 0 where
@@ -18,12 +18,12 @@ abbrev pub transitionAt : ℕ → ℕ → ℕ → ℕ
 transitionAt n r k = 6 + n * 11 + r * 9 + k
 
 pub record TransitionIn (out next : List ℕ) (n t r : ℕ) : Type 0 where
-  pub descriptor : getD out (transitionAt n r 1) 0 ≡ startCell (tableBase n t) next (n * 2 + t) (n * 2 + t + r) 1
-  pub descriptors : getD out (transitionAt n r 2) 0 ≡ countCell (tableBase n t) next (n * 2 + t + r) (n * 2 + t + r + 1) 1
-  pub target : getD out (transitionAt n r 5) 0 ≡ startCell (tableBase n t) next 0 (n * 2 + r) 1
-  pub targets : getD out (transitionAt n r 6) 0 ≡ countCell (tableBase n t) next (n * 2 + r) (n * 2 + r + 1) 1
-  pub block : getD out (transitionAt n r 7) 0 ≡ startCell (tableBase n t) next (blocks n t) (blocks n t + n * 3 + r) 4
-  pub many : getD out (transitionAt n r 8) 0 ≡ countCell (tableBase n t) next (blocks n t + n * 3 + r) (blocks n t + n * 3 + r + 1) 4
+  pub descriptor : getD out (transitionAt n r 1) 0 ≡ entriesIn (tableBase n t) next (n * 2 + t) (n * 2 + t + r) 1
+  pub descriptors : getD out (transitionAt n r 2) 0 ≡ entriesIn (tableBase n t) next (n * 2 + t + r) (n * 2 + t + r + 1) 1
+  pub target : getD out (transitionAt n r 5) 0 ≡ entriesIn (tableBase n t) next 0 (n * 2 + r) 1
+  pub targets : getD out (transitionAt n r 6) 0 ≡ entriesIn (tableBase n t) next (n * 2 + r) (n * 2 + r + 1) 1
+  pub block : getD out (transitionAt n r 7) 0 ≡ entriesIn (tableBase n t) next (blocks n t) (blocks n t + n * 3 + r) 4
+  pub many : getD out (transitionAt n r 8) 0 ≡ entriesIn (tableBase n t) next (blocks n t + n * 3 + r) (blocks n t + n * 3 + r + 1) 4
 
 -- source, condition and type stand as they stood
 pub record OwnKept (out out' : List ℕ) (n r : ℕ) : Type 0 where
@@ -93,7 +93,7 @@ module _ (out next : List ℕ) (n t r : ℕ) (p : TransitionRoom out next n t r)
           middle k l m = later k m ∙ a .others (transitionAt n r k) (λ q. omega arith) (λ q. omega arith)
 
 -- the cells of another transition keep
-transition-kept : (out out' next : List ℕ) (n t r : ℕ) → TransitionIn out next n t r → ((k : ℕ) → k < 9 → getD out' (transitionAt n r k) 0 ≡ getD out (transitionAt n r k) 0) →
+pub transition-kept : (out out' next : List ℕ) (n t r : ℕ) → TransitionIn out next n t r → ((k : ℕ) → k < 9 → getD out' (transitionAt n r k) 0 ≡ getD out (transitionAt n r k) 0) →
     TransitionIn out' next n t r
 transition-kept out out' next n t r i f =
     record {
@@ -135,10 +135,10 @@ transitions-begin out next n t c =
       behind = λ j l. refl;
     }
 
-own-after : (o o' o'' : List ℕ) (n q : ℕ) → OwnKept o' o'' n q → OwnKept o o' n q → OwnKept o o'' n q
+pub own-after : (o o' o'' : List ℕ) (n q : ℕ) → OwnKept o' o'' n q → OwnKept o o' n q → OwnKept o o'' n q
 own-after o o' o'' n q a b = record { source = a .source ∙ b .source; condition = a .condition ∙ b .condition; type = a .type ∙ b .type }
 
-own-by : (o o' : List ℕ) (n q : ℕ) → ((k : ℕ) → k < 9 → getD o' (transitionAt n q k) 0 ≡ getD o (transitionAt n q k) 0) → OwnKept o o' n q
+pub own-by : (o o' : List ℕ) (n q : ℕ) → ((k : ℕ) → k < 9 → getD o' (transitionAt n q k) 0 ≡ getD o (transitionAt n q k) 0) → OwnKept o o' n q
 own-by o o' n q f = record { source = f 0 (omega arith); condition = f 3 (omega arith); type = f 4 (omega arith) }
 
 module _ (out₀ next : List ℕ) (n t : ℕ) (out : List ℕ) (r : ℕ) (w : TransitionsLaying out₀ next n t out r) where

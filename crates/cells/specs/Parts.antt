@@ -7,7 +7,7 @@ use native.Mathlib.Omega.{arith}
 use lib.Dec.{eqb}
 use lib.ListN.{length, getD}
 use borrow.Author.Tests.{eqb-true, eqb-false}
-use Rattle.cells.specs.Starts.{Few, tableBase, startIn, Rising, PartRoom, startCell, countCell, PartLaid}
+use Rattle.cells.specs.Starts.{Few, tableBase, startIn, Rising, PartRoom, entriesIn, PartLaid}
 
 -- the bins of n rows and t transitions
 abbrev pub bins : ℕ → ℕ → ℕ
@@ -32,14 +32,14 @@ abbrev pub blocks : ℕ → ℕ → ℕ
 blocks n t = n * 2 + t + t
 
 pub record RowIn (out next : List ℕ) (n t i : ℕ) : Type 0 where
-  pub entry : getD out (rowAt i 3) 0 ≡ startCell (tableBase n t) next (blocks n t) (blocks n t + i * 3) 4
-  pub entries : getD out (rowAt i 4) 0 ≡ countCell (tableBase n t) next (blocks n t + i * 3) (blocks n t + i * 3 + 1) 4
-  pub exit : getD out (rowAt i 5) 0 ≡ startCell (tableBase n t) next (blocks n t) (blocks n t + i * 3 + 1) 4
-  pub exits : getD out (rowAt i 6) 0 ≡ countCell (tableBase n t) next (blocks n t + i * 3 + 1) (blocks n t + i * 3 + 2) 4
-  pub list : getD out (rowAt i 7) 0 ≡ startCell (tableBase n t) next 0 (i * 2) 1
-  pub lists : getD out (rowAt i 8) 0 ≡ countCell (tableBase n t) next (i * 2) (i * 2 + 2) 1
-  pub block : getD out (rowAt i 9) 0 ≡ startCell (tableBase n t) next (blocks n t) (blocks n t + i * 3 + 2) 4
-  pub many : getD out (rowAt i 10) 0 ≡ countCell (tableBase n t) next (blocks n t + i * 3 + 2) (blocks n t + i * 3 + 3) 4
+  pub entry : getD out (rowAt i 3) 0 ≡ entriesIn (tableBase n t) next (blocks n t) (blocks n t + i * 3) 4
+  pub entries : getD out (rowAt i 4) 0 ≡ entriesIn (tableBase n t) next (blocks n t + i * 3) (blocks n t + i * 3 + 1) 4
+  pub exit : getD out (rowAt i 5) 0 ≡ entriesIn (tableBase n t) next (blocks n t) (blocks n t + i * 3 + 1) 4
+  pub exits : getD out (rowAt i 6) 0 ≡ entriesIn (tableBase n t) next (blocks n t + i * 3 + 1) (blocks n t + i * 3 + 2) 4
+  pub list : getD out (rowAt i 7) 0 ≡ entriesIn (tableBase n t) next 0 (i * 2) 1
+  pub lists : getD out (rowAt i 8) 0 ≡ entriesIn (tableBase n t) next (i * 2) (i * 2 + 2) 1
+  pub block : getD out (rowAt i 9) 0 ≡ entriesIn (tableBase n t) next (blocks n t) (blocks n t + i * 3 + 2) 4
+  pub many : getD out (rowAt i 10) 0 ≡ entriesIn (tableBase n t) next (blocks n t + i * 3 + 2) (blocks n t + i * 3 + 3) 4
 
 pub record RowLaid (out out' next : List ℕ) (n t i : ℕ) : Type 0 where
   pub size : length out' ≡ length out
@@ -122,7 +122,7 @@ module _ (out next : List ℕ) (n t i : ℕ) (p : RowRoom out next n t i) where
             late k l = later k (omega arith) ∙ b .others (rowAt i k) (λ q. omega arith) (λ q. omega arith)
 
 -- the cells of another row keep
-row-kept : (out out' next : List ℕ) (n t i : ℕ) → RowIn out next n t i → ((k : ℕ) → k < 11 → getD out' (rowAt i k) 0 ≡ getD out (rowAt i k) 0) → RowIn out' next n t i
+pub row-kept : (out out' next : List ℕ) (n t i : ℕ) → RowIn out next n t i → ((k : ℕ) → k < 11 → getD out' (rowAt i k) 0 ≡ getD out (rowAt i k) 0) → RowIn out' next n t i
 row-kept out out' next n t i r f =
     record {
       entry = f 3 (omega arith) ∙ r .entry;

@@ -53,6 +53,28 @@ starts-rise base next bins r a b h l =
 
 -- ---- a part of a table
 
+-- how many entries, of so many cells each, stand in the bins from one up to another
+abbrev pub entriesIn : ℕ → List ℕ → ℕ → ℕ → ℕ → ℕ
+entriesIn base next from to width = (startIn base next to - startIn base next from) / width
+
+pub record EntriesRoom (next : List ℕ) (base from to width : ℕ) : Type 0 where
+  pub rising : Rising base next to
+  pub before : from ≤ to
+  pub some : 0 < width
+
+module _ (next : List ℕ) (base from to width : ℕ) (p : EntriesRoom next base from to width) where
+  pub entries-from : from ≤ length next
+  entries-from = let b = p .before in let l = p .rising .there in omega arith
+
+  pub entries-before : (x y : ℕ) → x ≡ startIn base next from → y ≡ startIn base next to → x ≤ y
+  entries-before x y a b = let g = starts-rise base next to (p .rising) from to (p .before) (to-itself to) in omega arith
+    where
+      to-itself : (k : ℕ) → k ≤ k
+      to-itself k = omega arith
+
+  pub entries-are : (x y : ℕ) → x ≡ startIn base next from → y ≡ startIn base next to → (y - x) / width ≡ entriesIn base next from to width
+  entries-are x y a b = ap (λ (k : ℕ). (k - x) / width) b ∙ ap (λ (k : ℕ). (startIn base next to - k) / width) a
+
 pub record PartRoom (out next : List ℕ) (base at first from to width : ℕ) : Type 0 where
   pub room : at + 1 < length out
   pub small : at < 4294967296
@@ -61,49 +83,31 @@ pub record PartRoom (out next : List ℕ) (base at first from to width : ℕ) : 
   pub before : from ≤ to
   pub some : 0 < width
 
-abbrev pub startCell : ℕ → List ℕ → ℕ → ℕ → ℕ → ℕ
-startCell base next first from width = (startIn base next from - startIn base next first) / width
-
-abbrev pub countCell : ℕ → List ℕ → ℕ → ℕ → ℕ → ℕ
-countCell base next from to width = (startIn base next to - startIn base next from) / width
-
 pub record PartLaid (out out' next : List ℕ) (base at first from to width : ℕ) : Type 0 where
   pub size : length out' ≡ length out
-  pub start : getD out' at 0 ≡ startCell base next first from width
-  pub count : getD out' (at + 1) 0 ≡ countCell base next from to width
+  pub start : getD out' at 0 ≡ entriesIn base next first from width
+  pub count : getD out' (at + 1) 0 ≡ entriesIn base next from to width
   pub others : (j : ℕ) → (j ≡ at → ⊥) → (j ≡ at + 1 → ⊥) → getD out' j 0 ≡ getD out j 0
 
+-- fewer bins stand one behind the other too
+pub rising-less : (base : ℕ) (next : List ℕ) (a b : ℕ) → Rising base next b → a ≤ b → Rising base next a
+rising-less base next a b r h = let l = r .there in record { there = omega arith; up = λ k i. r .up k (omega arith) }
+
 module _ (out next : List ℕ) (base at first from to width : ℕ) (p : PartRoom out next base at first from to width) where
-  pub part-first : first ≤ length next
-  part-first = let a = p .behind in let b = p .before in let l = p .rising .there in omega arith
+  pub part-start : EntriesRoom next base first from width
+  part-start = record { rising = rising-less base next from to (p .rising) (p .before); before = p .behind; some = p .some }
 
-  pub part-from : from ≤ length next
-  part-from = let b = p .before in let l = p .rising .there in omega arith
+  pub part-count : EntriesRoom next base from to width
+  part-count = record { rising = p .rising; before = p .before; some = p .some }
 
-  pub part-to : to ≤ length next
-  part-to = p .rising .there
-
-  pub part-behind : (x y : ℕ) → x ≡ startIn base next first → y ≡ startIn base next from → x ≤ y
-  part-behind x y a b = let g = starts-rise base next to (p .rising) first from (p .behind) (p .before) in omega arith
-
-  pub part-before : (x y : ℕ) → x ≡ startIn base next from → y ≡ startIn base next to → x ≤ y
-  part-before x y a b = let g = starts-rise base next to (p .rising) from to (p .before) (to-itself to) in omega arith
-    where
-      to-itself : (k : ℕ) → k ≤ k
-      to-itself k = omega arith
-
-  pub part-laid : (x y z : ℕ) → x ≡ startIn base next first → y ≡ startIn base next from → z ≡ startIn base next to →
-      PartLaid out (set (set out at ((y - x) / width)) (at + 1) ((z - y) / width)) next base at first from to width
-  part-laid x y z a b c =
+  pub part-laid : (x y : ℕ) → x ≡ entriesIn base next first from width → y ≡ entriesIn base next from to width →
+      PartLaid out (set (set out at x) (at + 1) y) next base at first from to width
+  part-laid x y a b =
       let r = p .room in
-      let one = set out at ((y - x) / width) in
-      let l = length-set out at ((y - x) / width) in
+      let l = length-set out at x in
       record {
-        size = length-set one (at + 1) ((z - y) / width) ∙ l;
-        start =
-            getD-set-other one (at + 1) at ((z - y) / width) 0 (λ q. omega arith) ∙ getD-set-same out at ((y - x) / width) 0 (omega arith) ∙
-            ap (λ (k : ℕ). (k - x) / width) b ∙ ap (λ (k : ℕ). (startIn base next from - k) / width) a;
-        count =
-            getD-set-same one (at + 1) ((z - y) / width) 0 (omega arith) ∙ ap (λ (k : ℕ). (k - y) / width) c ∙ ap (λ (k : ℕ). (startIn base next to - k) / width) b;
-        others = λ j f g. getD-set-other one (at + 1) j ((z - y) / width) 0 g ∙ getD-set-other out at j ((y - x) / width) 0 f;
+        size = length-set (set out at x) (at + 1) y ∙ l;
+        start = getD-set-other (set out at x) (at + 1) at y 0 (λ q. omega arith) ∙ getD-set-same out at x 0 (omega arith) ∙ a;
+        count = getD-set-same (set out at x) (at + 1) y 0 (omega arith) ∙ b;
+        others = λ j f g. getD-set-other (set out at x) (at + 1) j y 0 g ∙ getD-set-other out at j x 0 f;
       }

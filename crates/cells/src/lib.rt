@@ -3,9 +3,10 @@
 ghost use mathlib.Core.Path.{_≡_};
 ghost use Prim.Native.Nat.{_≤_};
 ghost use lib.ListN.{length};
-ghost use Rattle.cells.specs.Starts.{startIn, PartRoom, PartLaid};
+ghost use Rattle.cells.specs.Starts.{startIn, EntriesRoom, entriesIn, PartRoom, PartLaid};
 ghost use Rattle.cells.specs.Parts.{CellsRoom, RowRoom, RowLaid, RowsLaid};
 ghost use Rattle.cells.specs.Ends.{TransitionRoom, TransitionLaid, TransitionsLaid};
+ghost use Rattle.cells.specs.Header.{HeaderLaid, CellsLaid};
 
 fn wide(x: u32) -> usize
     ensures { λ r. ⌜ r ≡ x ⌝ }
@@ -24,7 +25,17 @@ fn start_of(next: &[u32], base: usize, k: usize) -> usize
     wide(next[k - 1])
 }
 
-// A start and a count, from `at` on: the entries of the bins from `from` up to `to`, of `width` cells each, in the table whose first bin is `first`.
+// How many entries, of `width` cells each, stand in the bins from `from` up to `to`.
+fn entries_in(next: &[u32], base: usize, from: usize, to: usize, width: usize) -> u64
+    requires { ⌜ EntriesRoom (now next) base from to width ⌝ }
+    ensures { λ r. ⌜ r ≡ entriesIn base (now (next .entry)) from to width ⌝ }
+{
+    let start = start_of(next, base, from);
+    let end = start_of(next, base, to);
+    ((end - start) / width) as u64
+}
+
+// A start and a count, from `at` on: the entries of the bins from `from` up to `to`, in the table whose first bin is `first`.
 fn lay_part(
     out: &mut [u64],
     next: &[u32],
@@ -38,11 +49,8 @@ fn lay_part(
     requires { ⌜ PartRoom (now out) (now next) base at first from to width ⌝ }
     ensures { λ _. ⌜ PartLaid (now (out .entry)) (now (out .exit)) (now (next .entry)) base at first from to width ⌝ }
 {
-    let begin = start_of(next, base, first);
-    let start = start_of(next, base, from);
-    let end = start_of(next, base, to);
-    out[at] = ((start - begin) / width) as u64;
-    out[at + 1] = ((end - start) / width) as u64;
+    out[at] = entries_in(next, base, first, from, width);
+    out[at + 1] = entries_in(next, base, from, to, width);
 }
 
 // The cells of row i, but for kind, parent and id: entry block, exit block, list, the list's block.
@@ -61,7 +69,7 @@ fn lay_row(out: &mut [u64], next: &[u32], n: usize, t: usize, i: usize)
 }
 
 // Where the lists and blocks of all rows stand.
-pub fn row_cells(out: &mut [u64], next: &[u32], n: usize, t: usize)
+fn row_cells(out: &mut [u64], next: &[u32], n: usize, t: usize)
     requires { ⌜ CellsRoom (now out) (now next) n t ⌝ }
     ensures { λ _. ⌜ RowsLaid (now (out .entry)) (now (out .exit)) (now (next .entry)) n t ⌝ }
 {
@@ -98,7 +106,7 @@ fn lay_transition(out: &mut [u64], next: &[u32], n: usize, t: usize, r: usize)
 }
 
 // Where the lists and blocks of all transitions stand.
-pub fn transition_cells(out: &mut [u64], next: &[u32], n: usize, t: usize)
+fn transition_cells(out: &mut [u64], next: &[u32], n: usize, t: usize)
     requires { ⌜ CellsRoom (now out) (now next) n t ⌝ }
     ensures { λ _. ⌜ TransitionsLaid (now (out .entry)) (now (out .exit)) (now (next .entry)) n t ⌝ }
 {
@@ -107,4 +115,31 @@ pub fn transition_cells(out: &mut [u64], next: &[u32], n: usize, t: usize)
         lay_transition(out, next, n, t, r);
         r += 1;
     }
+}
+
+// The six counts, of so many names.
+fn lay_header(out: &mut [u64], next: &[u32], n: usize, t: usize, names: usize)
+    requires { ⌜ CellsRoom (now out) (now next) n t ⌝ }
+    ensures { λ _. ⌜ HeaderLaid (now (out .entry)) (now (out .exit)) (now (next .entry)) n t names ⌝ }
+{
+    let base = 6 + n * 11 + t * 9;
+    let descriptors = n * 2 + t;
+    let blocks = descriptors + t;
+    let bins = blocks + n * 3 + t;
+    out[0] = n as u64;
+    out[1] = t as u64;
+    out[2] = entries_in(next, base, 0, descriptors, 1);
+    out[3] = entries_in(next, base, descriptors, blocks, 1);
+    out[4] = entries_in(next, base, blocks, bins, 4);
+    out[5] = names as u64;
+}
+
+// Header, rows and transitions, but for the cells that a tag says by itself: kind, parent and id of a row, source, condition and type of a transition.
+pub fn lay_cells(out: &mut [u64], next: &[u32], n: usize, t: usize, names: usize)
+    requires { ⌜ CellsRoom (now out) (now next) n t ⌝ }
+    ensures { λ _. ⌜ CellsLaid (now (out .entry)) (now (out .exit)) (now (next .entry)) n t names ⌝ }
+{
+    row_cells(out, next, n, t);
+    transition_cells(out, next, n, t);
+    lay_header(out, next, n, t, names);
 }

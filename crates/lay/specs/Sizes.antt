@@ -54,14 +54,14 @@ module _ (slots : List (List ℕ)) (c : Content) where
 
 -- ---- the size
 
-row-cells : (slots : List (List ℕ)) (rs : List Row) (f a : ℕ) → length (rowCells slots f a rs) ≡ length rs * 11
+pub row-cells : (slots : List (List ℕ)) (rs : List Row) (f a : ℕ) → length (rowCells slots f a rs) ≡ length rs * 11
 unfolding rowCells
 row-cells slots [] f a = refl
 row-cells slots (r ∷ rs) f a =
     let more = row-cells slots rs (f + length (r .list)) (a + length (r .entry) + length (r .exit) + length (r .block)) in
     omega arith
 
-transition-cells : (slots : List (List ℕ)) (ts : List Transition) (f d a : ℕ) → length (transitionCells slots f d a ts) ≡ length ts * 9
+pub transition-cells : (slots : List (List ℕ)) (ts : List Transition) (f d a : ℕ) → length (transitionCells slots f d a ts) ≡ length ts * 9
 unfolding transitionCells
 transition-cells slots [] f d a = refl
 transition-cells slots (t ∷ ts) f d a =
@@ -79,7 +79,7 @@ act-cells slots (sends n d none) = refl
 act-cells slots (sends n d (some i)) = refl
 act-cells slots (cancels n) = refl
 
-all-cells : (slots : List (List ℕ)) (xs : List Act) → length (flat (actCells slots) xs) ≡ length xs * 4
+pub all-cells : (slots : List (List ℕ)) (xs : List Act) → length (flat (actCells slots) xs) ≡ length xs * 4
 unfolding flat
 all-cells slots [] = refl
 all-cells slots (a ∷ xs) =
@@ -88,7 +88,7 @@ all-cells slots (a ∷ xs) =
     let both = length-append (actCells slots a) (flat (actCells slots) xs) in
     omega arith
 
-map-length : (f : List ℕ → ℕ) (xs : List (List ℕ)) → length (map f xs) ≡ length xs
+pub map-length : (f : List ℕ → ℕ) (xs : List (List ℕ)) → length (map f xs) ≡ length xs
 map-length f [] = refl
 map-length f (x ∷ xs) = ap suc (map-length f xs)
 
