@@ -35,6 +35,7 @@ pub record NextTurn (text levels levels' cells spots spots' : List ℕ) (t r : T
   pub turn-at : isMark (r .walk .mark) ≡ true → TurnAt text levels' cells spots' r
   pub further : isMark (r .walk .mark) ≡ true → t .walk .index < r .walk .index
   pub no-value : isValueMark (r .walk .mark) ≡ false
+  pub number-fits : isMark (r .walk .mark) ≡ true → r .spot .number < 65536
   pub parts : List Part
   pub stated : Stated text cells parts
   pub none : isMark (r .walk .mark) ≡ false → (ids : List (List ℕ)) → factsLeft ids text levels spots t ≡ []
@@ -58,6 +59,7 @@ module _ (text levels cells₀ spots : List ℕ) (t : Turning) (at : TurnAt text
         turn-at = λ e. absurd (let x : true ≡ false = sym e ∙ m in let z : _≡_ {A = ℕ} 0 1 = cc in omega arith);
         further = tag .further;
         no-value = tag .no-value;
+        number-fits = λ e. absurd (let x : true ≡ false = sym e ∙ m in let z : _≡_ {A = ℕ} 0 1 = cc in omega arith);
         parts = tag .parts;
         stated = tag .stated;
         none = λ e ids. ap (factsFrom ids (spotsIn spots (t .depth)) (t .rows) (t .transitions)) (tag .left ∙ no-tag (next .mark) m);
@@ -101,6 +103,7 @@ module _ (text levels cells₀ spots : List ℕ) (t : Turning) (at : TurnAt text
               };
           further = λ f. omega arith;
           no-value = rw (u .walk-is) (tag .no-value);
+          number-fits = λ f. u .number-fits;
           parts = tag .parts;
           stated = tag .stated;
           none = λ f ids. absurd (let z1 : true ≡ false = sym (ap isMark (ap (λ (k : Walk). k .mark) (u .walk-is) ∙ g)) ∙ f in let z : _≡_ {A = ℕ} 0 1 = cc in omega arith);

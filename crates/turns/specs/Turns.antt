@@ -105,6 +105,7 @@ pub record TagRoom (cells spots : List ℕ) (t : Turning) : Type 0 where
 
 pub record TagTurned (cells spots spots' : List ℕ) (t : Turning) (next : Walk) (s e : ℕ) (r : Turning) : Type 0 where
   pub walk-is : r .walk ≡ next
+  pub number-fits : r .spot .number < 65536
   pub deep : r .depth ≤ restDepth (t .depth) + 2
   pub rows-fit : r .rows ≤ t .rows + 1
   pub transitions-fit : r .transitions ≤ t .transitions + 1
@@ -122,6 +123,7 @@ module _ (cells spots : List ℕ) (t : Turning) (h : TagRoom cells spots t) (nex
   turn-closing d l q =
       record {
         walk-is = refl;
+        number-fits = top-is .number-fits;
         deep = omega arith;
         rows-fit = omega arith;
         transitions-fit = omega arith;
@@ -151,6 +153,7 @@ module _ (cells spots : List ℕ) (t : Turning) (h : TagRoom cells spots t) (nex
     turn-start d spots' x y l p' i j en =
         record {
           walk-is = refl;
+          number-fits = top-is .number-fits;
           deep = en .few;
           rows-fit = turned .small .rows-fit;
           transitions-fit = turned .small .transitions-fit;
