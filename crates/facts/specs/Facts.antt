@@ -48,7 +48,16 @@ block-of (suc (suc p)) i = refl
 abbrev pub blockOnly : ℕ → Bool
 blockOnly e = eqb e 5 || eqb e 7 || eqb e 8
 
+-- the row or transition of what is said, 0 of nothing
+abbrev pub numberIn : Said → ℕ
+numberIn Nothing = 0
+numberIn (Row q) = q
+numberIn (ListOf i) = i
+numberIn (Transition i) = i
+numberIn (Action p i) = i
+
 pub record SaidBy (s : SpotCells) (e : ℕ) (p : Bool) (r : Said) : Type 0 where
+  pub within : numberIn r ≤ s .number
   pub is : (ids : List (List ℕ)) (n m : ℕ) (ps : List Part) → p ≡ isPlain ps → turn ids (spotAs s) n m e ps .facts ≡ saidFacts ids e ps r
 
 module _ (s : SpotCells) (e : ℕ) (p : Bool) where
@@ -56,12 +65,13 @@ module _ (s : SpotCells) (e : ℕ) (p : Bool) where
   unfolding turn
   said-row h =
       record {
+        within = omega arith;
         is = λ ids n m ps q.
             rw (le-leb e 4 h) (ap (λ (i : ℕ). rowFact (kindIn e ps) i (valueOf idWord ps) (rowsIn ids (valueOf initialWord ps)) ∷ []) (row-of (s .what) (s .number)));
       }
 
   pub said-none : (z : Bool) → z ≡ blockOnly e → z ≡ true → SaidBy s e p Nothing
-  said-none z b t = record { is = λ ids n m ps q. by ids n m ps (eqb e 5) (eqb e 7) refl refl (sym b ∙ t) }
+  said-none z b t = record { within = omega arith; is = λ ids n m ps q. by ids n m ps (eqb e 5) (eqb e 7) refl refl (sym b ∙ t) }
     where
       at-5 : (ids : List (List ℕ)) (n m : ℕ) (ps : List Part) → turn ids (spotAs s) n m 5 ps .facts ≡ []
       at-5 ids n m ps = unfold turn in refl
@@ -93,6 +103,7 @@ module _ (s : SpotCells) (e : ℕ) (p : Bool) where
         let o = others in
         let still : (eqb e 6 || eqb e 11) ≡ false = ap (λ (x : Bool). eqb e 6 || x) (sym en) ∙ not-true (eqb e 6 || entering) q in
         record {
+          within = omega arith;
           is = λ ids n m ps k.
               rw (lt-leb e 4 h, o .0, o .1, o .2, still)
               (ap (λ (d : Block). actionFact d (actIn ids e ps) ∷ []) (block-of (s .what) (s .number) ∙ ap (λ (d : ℕ). record { part = d; owner = s .number }) (sym g)));
@@ -115,6 +126,7 @@ module _ (s : SpotCells) (e : ℕ) (p : Bool) where
       said-list d =
           let o = others in
           record {
+            within = omega arith;
             is = λ ids n m ps k.
                 rw (lt-leb e 4 h, o .0, o .1, o .2, moving, default-is ps k ∙ d) (ap (λ (i : ℕ). listFact i (rowsIn ids (valueOf targetWord ps)) ∷ []) (row-of (s .what) (s .number)));
           }
@@ -124,6 +136,7 @@ module _ (s : SpotCells) (e : ℕ) (p : Bool) where
       said-transition d =
           let o = others in
           record {
+            within = omega arith;
             is = λ ids n m ps k.
                 rw (lt-leb e 4 h, o .0, o .1, o .2, moving, default-is ps k ∙ d)
                 (ap
