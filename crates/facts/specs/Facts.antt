@@ -40,7 +40,7 @@ part-some zero h = absurd (omega arith)
 part-some (suc zero) h = absurd (omega arith)
 part-some (suc (suc p)) h = omega arith
 
-block-of : (w i : ℕ) → blockOf (spotBy w i) ≡ record { part = partOf w; owner = i }
+pub block-of : (w i : ℕ) → blockOf (spotBy w i) ≡ record { part = partOf w; owner = i }
 block-of zero i = refl
 block-of (suc zero) i = refl
 block-of (suc (suc p)) i = refl

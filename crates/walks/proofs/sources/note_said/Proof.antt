@@ -1,0 +1,73 @@
+use borrow.Author.Needs.{needs}
+use Rattle.walks.specs.Sources.{note-none, note-list, note-action, note-row, note-number, note-transition}
+use Rattle.walks.proofs.sources.note_said.Statement.{statement}
+use Rattle.walks.proofs.sources.note_said.Tie as tie
+
+enum-told : tie.Need-enum-told
+enum-told c = search needs
+
+enum-known-said : tie.Need-enum-known-said
+enum-known-said c = search needs
+
+add-t12 : tie.Need-add-t12
+add-t12 c = search needs
+
+enum-known-said-2 : tie.Need-enum-known-said-2
+enum-known-said-2 c = search needs
+
+enum-known-said-3 : tie.Need-enum-known-said-3
+enum-known-said-3 c = search needs
+
+narrow-requires : tie.Need-narrow-requires
+narrow-requires c κs = search (needs, note-number)
+
+mul-sources : tie.Need-mul-sources
+mul-sources c = search needs
+
+slice-write-sources : tie.Need-slice-write-sources
+slice-write-sources c = search needs
+
+add-t14 : tie.Need-add-t14
+add-t14 c = search needs
+
+enum-known-said-4 : tie.Need-enum-known-said-4
+enum-known-said-4 c = search needs
+
+returns : tie.Need-returns
+returns c = search (needs, note-none)
+
+returns-2 : tie.Need-returns-2
+returns-2 c = search (needs, note-row)
+
+returns-3 : tie.Need-returns-3
+returns-3 c = search (needs, note-list)
+
+same-length : tie.Need-same-length
+same-length c = search needs
+
+returns-4 : tie.Need-returns-4
+returns-4 c = search (needs, note-transition)
+
+returns-5 : tie.Need-returns-5
+returns-5 c = search (needs, note-action)
+
+pub note-said-spec : {M : Type 1} → statement M
+note-said-spec =
+    tie.close
+    (tie.spec
+    enum-told
+    enum-known-said
+    add-t12
+    enum-known-said-2
+    enum-known-said-3
+    narrow-requires
+    mul-sources
+    slice-write-sources
+    add-t14
+    enum-known-said-4
+    returns
+    returns-2
+    returns-3
+    same-length
+    returns-4
+    returns-5)
