@@ -1,7 +1,7 @@
 -- What is left of the facts behind each tag.
 use mathlib.Core.Path.{_≡_, refl, sym, ap, subst, _∙_}
 use mathlib.Core.Bool.{true, false}
-use mathlib.Core.List.{List, [], _++_}
+use mathlib.Core.List.{List, [], _∷_, _++_}
 use Prim.Native.Nat.{ℕ, zero, suc, _+_, _≤_, _<_}
 use native.Mathlib.Omega.{arith}
 use lib.ListN.{length}
@@ -38,6 +38,8 @@ pub record NextTurn (text levels levels' cells spots spots' : List ℕ) (t r : T
   pub number-fits : isMark (r .walk .mark) ≡ true → r .spot .number < 65536
   pub parts : List Part
   pub stated : Stated text cells parts
+  pub tags : (a s e : ℕ) → r .walk .mark ≡ Tagged a s e →
+      tagsLeft text levels (t .walk) ≡ (record { at = a; shape = shapeOf s; element = e; parts = parts }) ∷ tagsLeft text levels' (r .walk)
   pub none : isMark (r .walk .mark) ≡ false → (ids : List (List ℕ)) → factsLeft ids text levels spots t ≡ []
   pub more : (ids : List (List ℕ)) (a s e : ℕ) → r .walk .mark ≡ Tagged a s e →
       factsLeft ids text levels spots t ≡
@@ -62,6 +64,7 @@ module _ (text levels cells₀ spots : List ℕ) (t : Turning) (at : TurnAt text
         number-fits = λ e. absurd (let x : true ≡ false = sym e ∙ m in let z : _≡_ {A = ℕ} 0 1 = cc in omega arith);
         parts = tag .parts;
         stated = tag .stated;
+        tags = λ a s e g. absurd (let x : true ≡ false = sym (ap isMark g) ∙ m in let z : _≡_ {A = ℕ} 0 1 = cc in omega arith);
         none = λ e ids. ap (factsFrom ids (spotsIn spots (t .depth)) (t .rows) (t .transitions)) (tag .left ∙ no-tag (next .mark) m);
         more = λ ids a s e g. absurd (let x : true ≡ false = sym (ap isMark g) ∙ m in let z : _≡_ {A = ℕ} 0 1 = cc in omega arith);
       })
@@ -106,6 +109,9 @@ module _ (text levels cells₀ spots : List ℕ) (t : Turning) (at : TurnAt text
           number-fits = λ f. u .number-fits;
           parts = tag .parts;
           stated = tag .stated;
+          tags = λ a' s' e' g'.
+              tag .left ∙ ap (λ (k : Mark). tagged k (tag .parts) (tagsLeft text levels' next)) (sym (ap (λ (k : Walk). k .mark) (u .walk-is)) ∙ g') ∙
+              ap (λ (k : Walk). (record { at = a'; shape = shapeOf s'; element = e'; parts = tag .parts }) ∷ tagsLeft text levels' k) (sym (u .walk-is));
           none = λ f ids. absurd (let z1 : true ≡ false = sym (ap isMark (ap (λ (k : Walk). k .mark) (u .walk-is) ∙ g)) ∙ f in let z : _≡_ {A = ℕ} 0 1 = cc in omega arith);
           more = λ ids a' s' e' g'. by ids a' s' e' (sym (ap (λ (k : Walk). k .mark) (u .walk-is) ∙ g) ∙ g');
         }
