@@ -1,3 +1,5 @@
+pub mod Filed
+pub mod Names
 pub mod Plan
 pub mod Said
 pub mod Sources
