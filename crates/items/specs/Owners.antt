@@ -1,14 +1,14 @@
 -- The actions of a text stand in blocks whose owners are there: a transition's block comes behind its tag.
-use mathlib.Core.Path.{_≡_, refl, sym, ap, subst, _∙_}
-use mathlib.Core.Bool.{Bool, true, false, _&&_, _||_, cond}
+use mathlib.Core.Path.{_≡_, refl, subst}
+use mathlib.Core.Bool.{Bool, true, false, _||_, cond}
 use mathlib.Core.List.{List, [], _∷_, _++_}
 use mathlib.Core.Option.{Option}
-use Prim.Native.Nat.{ℕ, zero, suc, _+_, _≤_, _<_}
+use Prim.Native.Nat.{ℕ, zero, suc, _+_, _≤_}
 use native.Mathlib.Nat.{zero-add}
 use native.Mathlib.Omega.{arith}
 use lib.Dec.{eqb, leb}
 use Rattle.reading.specs.Tags.{Part, Shape, opening, empty, closing, Markup}
-use Rattle.reading.specs.Content.{Act, Block, Spot, inRow, inBlock, Fact, rowFact, listFact, transitionFact, actionFact, endIf, actIn, rowOf, settled, blockOf, isDefault, Turn, turn, endFacts, top, rest, factsFrom}
+use Rattle.reading.specs.Content.{Block, Spot, inRow, inBlock, Fact, rowFact, listFact, transitionFact, actionFact, endIf, settled, blockOf, isDefault, Turn, turn, endFacts, top, rest, factsFrom}
 use Rattle.facts.specs.Appended.{transitionFacts, transition-facts-append}
 use Rattle.items.specs.Picked.{Owned, AllOwned}
 

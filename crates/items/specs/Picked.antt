@@ -1,14 +1,14 @@
 -- Rows and transitions by their numbers: the lists and blocks that each has, gathered of all facts.
-use mathlib.Core.Path.{_≡_, refl, sym, ap, ap₂, _∙_}
-use mathlib.Core.Bool.{Bool, true, false, cond}
+use mathlib.Core.Path.{_≡_, refl, sym, ap, _∙_}
+use mathlib.Core.Bool.{Bool, cond}
 use mathlib.Core.List.{List, [], _∷_, _++_, append-nil}
 use Prim.Native.Nat.{ℕ, zero, suc, _+_, _≤_, _<_}
 use native.Mathlib.Nat.{add-zero, zero-add}
 use native.Mathlib.Omega.{arith}
 use lib.Dec.{eqb}
-use lib.ListN.{length, getD}
+use lib.ListN.{getD}
 use borrow.Author.Tests.{eq-eqb, ne-eqb}
-use Rattle.reading.specs.Content.{Row, Transition, Block, Fact, rowFact, listFact, transitionFact, actionFact, actsIn, listOf, rowsFrom, transitionsFrom}
+use Rattle.reading.specs.Content.{Row, Block, Fact, rowFact, listFact, transitionFact, actionFact, actsIn, listOf, rowsFrom, transitionsFrom}
 use Rattle.facts.specs.Appended.{rowFacts, transitionFacts}
 use Rattle.items.specs.Order.{noTransition}
 
