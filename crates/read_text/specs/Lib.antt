@@ -1,2 +1,4 @@
 pub mod Outcome
 pub mod Hand
+pub mod Number
+pub mod Survey
