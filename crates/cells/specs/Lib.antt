@@ -4,4 +4,5 @@ pub mod Ends
 pub mod Sums
 pub mod Cells
 pub mod Header
+pub mod Counts
 pub mod Tables

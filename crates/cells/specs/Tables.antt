@@ -8,7 +8,7 @@ use lib.Seq.{take-add, take-at, drop-drop, getD-take, getD-drop, ext-getD, lengt
 use Rattle.definition.specs.Rows.{flat, from}
 use Rattle.reading.specs.Content.{Act, Row, Transition, Content, placeOf}
 use Rattle.reading.specs.Layout.{actCells, rowActs, rowCells, transitionCells, rowList, targetList, descriptorList, transitionActs, numbersOf}
-use Rattle.lay.specs.Sizes.{all-cells, map-length, tables-size}
+use Rattle.lay.specs.Sizes.{references, descriptors, actions}
 use Rattle.bins.specs.Bins.{startOf}
 use Rattle.bins.specs.Binned.{Item, valuesOf, Binned, binned-end}
 use Rattle.items.specs.Items.{rowBlockKey, binCount}
@@ -18,8 +18,9 @@ use Rattle.items.specs.Held.{RowHeld, TransitionHeld}
 use Rattle.cells.specs.Starts.{tableBase, startIn, Rising, Few}
 use Rattle.cells.specs.Parts.{bins, blocks, CellsRoom, rowAt, RowIn}
 use Rattle.cells.specs.Ends.{transitionAt, TransitionIn}
-use Rattle.cells.specs.Sums.{start-next, starts-sum, full-start, full-rising, start-four, start-one}
+use Rattle.cells.specs.Sums.{full-start, full-rising, start-four, start-one}
 use Rattle.cells.specs.Cells.{Held, RowSaid, TransitionSaid, Said, RowKnown, rows-laid, TransitionKnown, transitions-laid}
+use Rattle.cells.specs.Counts.{rowRefs, rowBlocks, list-starts, entry-starts, exit-starts, block-starts, target-starts, descriptor-starts, act-starts, list-sum, target-sum, descriptor-sum, row-block-sum, block-sum}
 use Rattle.cells.specs.Header.{counts, CellsLaid}
 
 -- the lists and blocks of the content behind its rows and transitions
@@ -46,161 +47,46 @@ module _ (slots : List (List ℕ)) (n t : ℕ) (c : ℕ → ℕ) (out next : Lis
       let r = f .binned .room in
       record { few = f .few; room = omega arith; rising = full-rising (bins n t) (tableBase n t) c out next items (f .binned) (f .full) }
 
-  -- ---- what the counts are
-
-  count-is : (k : ℕ) (l : List ℕ) → k < bins n t → valuesOf items k ≡ l → c k ≡ length l
-  count-is k l h e = sym (f .full k h) ∙ ap length e
-
-  block-is : (k : ℕ) (l : List Act) → k < bins n t → valuesOf items k ≡ flat (actCells slots) l → startOf c (k + 1) ≡ startOf c k + length l * 4
-  block-is k l h e = let s = start-next c k in let q = count-is k (flat (actCells slots) l) h e in let z = all-cells slots l in omega arith
-
-  row-block : (i p k k' : ℕ) (l : List Act) → k < bins n t → k ≡ rowBlockKey n t i p → k' ≡ k + 1 → valuesOf items (rowBlockKey n t i p) ≡ flat (actCells slots) l →
-      startOf c k' ≡ startOf c k + length l * 4
-  row-block i p k k' l h e q v = ap (startOf c) q ∙ block-is k l h (ap (valuesOf items) e ∙ v)
-
-  list-is : (i : ℕ) (r : Row) → i < n → RowHeld slots n t items i r → startOf c (i * 2 + 2) ≡ startOf c (i * 2) + length (r .list) * 1
-  list-is i r h w =
-      let a = start-next c (i * 2) in
-      let b = start-next c (i * 2 + 1) in
-      let e : i * 2 + 2 ≡ i * 2 + 1 + 1 = omega arith in
-      let q = ap (startOf c) e in
-      let l = ap length (w .lists) in
-      let l' = length-append (valuesOf items (i * 2)) (valuesOf items (i * 2 + 1)) in
-      let u = f .full (i * 2) (omega arith) in
-      let v = f .full (i * 2 + 1) (omega arith) in
-      omega arith
-
-  single-is : (k : ℕ) (l : List ℕ) → k < bins n t → valuesOf items k ≡ l → startOf c (k + 1) ≡ startOf c k + length l * 1
-  single-is k l h e = let s = start-next c k in let q = count-is k l h e in omega arith
-
   module _ (names : ℕ) (out' : List ℕ) (l : CellsLaid out out' next n t names) where
     row-known : (i : ℕ) → i < n → RowKnown slots n t c next begins out' i (getD (x .rows) i noRow)
     row-known i h =
-        let w = f .held .row i h in
         let s = f .said .row i h in
         record {
           said = record { kind = l .firsts i 0 h (omega arith) ∙ s .kind; parent = l .firsts i 1 h (omega arith) ∙ s .parent; id = l .firsts i 2 h (omega arith) ∙ s .id };
           is = l .rows i h;
-          list = list-is i (getD (x .rows) i noRow) h w;
-          entry = row-block i 0 (blocks n t + i * 3) (blocks n t + i * 3 + 1) (getD (x .rows) i noRow .entry) (omega arith) (omega arith) refl (w .entries);
-          exit = row-block i 1 (blocks n t + i * 3 + 1) (blocks n t + i * 3 + 2) (getD (x .rows) i noRow .exit) (omega arith) (omega arith) (omega arith) (w .exits);
-          block = row-block i 2 (blocks n t + i * 3 + 2) (blocks n t + i * 3 + 3) (getD (x .rows) i noRow .block) (omega arith) (omega arith) (omega arith) (w .blocks);
+          list = list-starts slots n t c items x (f .full) (f .held) i h;
+          entry = entry-starts slots n t c items x (f .full) (f .held) i h;
+          exit = exit-starts slots n t c items x (f .full) (f .held) i h;
+          block = block-starts slots n t c items x (f .full) (f .held) i h;
         }
 
     transition-known : (r : ℕ) → r < t → TransitionKnown slots n t c next begins out' r (getD (x .transitions) r noTransition)
     transition-known r h =
-        let w = f .held .transition r h in
         let s = f .said .transition r h in
         let k = l .own r h in
         record {
           said = record { source = k .source ∙ s .source; condition = k .condition ∙ s .condition; type = k .type ∙ s .type };
           is = l .transitions r h;
-          targets = single-is (n * 2 + r) (getD (x .transitions) r noTransition .targets) (omega arith) (w .goals);
-          descriptors =
-              single-is (n * 2 + t + r) (map (λ (d : List ℕ). placeOf d slots) (getD (x .transitions) r noTransition .descriptors)) (omega arith) (w .names) ∙
-              ap (λ (m : ℕ). startOf c (n * 2 + t + r) + m * 1) (map-length (λ (d : List ℕ). placeOf d slots) (getD (x .transitions) r noTransition .descriptors));
-          block = block-is (blocks n t + n * 3 + r) (getD (x .transitions) r noTransition .block) (omega arith) (w .blocks);
+          targets = target-starts slots n t c items x (f .full) (f .held) r h;
+          descriptors = descriptor-starts slots n t c items x (f .full) (f .held) r h;
+          block = act-starts slots n t c items x (f .full) (f .held) r h;
         }
-
-    -- ---- sums over all rows and transitions
-
-    abbrev rowRefs : List ℕ
-    rowRefs = flat rowList (x .rows)
-
-    abbrev refs : List ℕ
-    refs = rowRefs ++ flat targetList (x .transitions)
-
-    abbrev descs : List (List ℕ)
-    descs = flat descriptorList (x .transitions)
-
-    abbrev rowBlocks : List Act
-    rowBlocks = flat rowActs (x .rows)
-
-    abbrev acts : List Act
-    acts = rowBlocks ++ flat transitionActs (x .transitions)
-
-    rows-count : length (x .rows) ≡ n
-    rows-count = sym (f .held .rows-are)
-
-    transitions-count : length (x .transitions) ≡ t
-    transitions-count = sym (f .held .transitions-are)
-
-    move : (a a' b b' m : ℕ) → a ≡ a' → b ≡ b' → startOf c a' ≡ startOf c b' + m → startOf c a ≡ startOf c b + m
-    move a a' b b' m p q e = ap (startOf c) p ∙ e ∙ ap (λ (k : ℕ). startOf c k + m) (sym q)
-
-    list-sum : startOf c (n * 2) ≡ length rowRefs
-    unfolding startOf
-    list-sum =
-        let e = starts-sum c rowList noRow 2 1 (x .rows) 0
-        (λ i h. let u = rows-count in move (0 + suc i * 2) (i * 2 + 2) (0 + i * 2) (i * 2) (length (getD (x .rows) i noRow .list) * 1) (omega arith) (omega arith) (row-known i (omega arith) .list)) in
-        let u = rows-count in
-        let w : n * 2 ≡ 0 + length (x .rows) * 2 = omega arith in
-        let q = ap (startOf c) w in
-        omega arith
-
-    target-sum : startOf c (n * 2 + t) ≡ startOf c (n * 2) + length (flat targetList (x .transitions))
-    target-sum =
-        let e = starts-sum c targetList noTransition 1 1 (x .transitions) (n * 2)
-        (λ r h. let u = transitions-count in move (n * 2 + suc r * 1) (n * 2 + r + 1) (n * 2 + r * 1) (n * 2 + r) (length (getD (x .transitions) r noTransition .targets) * 1) (omega arith) (omega arith)
-        (transition-known r (omega arith) .targets)) in
-        let u = transitions-count in
-        let w : n * 2 + t ≡ n * 2 + length (x .transitions) * 1 = omega arith in
-        let q = ap (startOf c) w in
-        omega arith
-
-    descriptor-sum : startOf c (blocks n t) ≡ startOf c (n * 2 + t) + length descs
-    descriptor-sum =
-        let e = starts-sum c descriptorList noTransition 1 1 (x .transitions) (n * 2 + t)
-        (λ r h. let u = transitions-count in move (n * 2 + t + suc r * 1) (n * 2 + t + r + 1) (n * 2 + t + r * 1) (n * 2 + t + r) (length (getD (x .transitions) r noTransition .descriptors) * 1) (omega arith) (omega arith)
-        (transition-known r (omega arith) .descriptors)) in
-        let u = transitions-count in
-        let w : n * 2 + t + t ≡ n * 2 + t + length (x .transitions) * 1 = omega arith in
-        let q = ap (startOf c) w in
-        omega arith
-
-    acts-of : (i : ℕ) → i < n → startOf c (blocks n t + i * 3 + 3) ≡ startOf c (blocks n t + i * 3) + length (rowActs (getD (x .rows) i noRow)) * 4
-    acts-of i h =
-        let k = row-known i h in
-        let a = k .entry in let b = k .exit in let d = k .block in
-        let r = getD (x .rows) i noRow in
-        let l = length-append (r .entry) (r .exit) in
-        let l' = length-append (r .entry ++ r .exit) (r .block) in
-        omega arith
-
-    row-block-sum : startOf c (blocks n t + n * 3) ≡ startOf c (blocks n t) + length rowBlocks * 4
-    row-block-sum =
-        let e = starts-sum c rowActs noRow 3 4 (x .rows) (blocks n t)
-        (λ i h. let u = rows-count in move (blocks n t + suc i * 3) (blocks n t + i * 3 + 3) (blocks n t + i * 3) (blocks n t + i * 3) (length (rowActs (getD (x .rows) i noRow)) * 4) (omega arith) refl (acts-of i (omega arith))) in
-        let u = rows-count in
-        let w : blocks n t + n * 3 ≡ blocks n t + length (x .rows) * 3 = omega arith in
-        let q = ap (startOf c) w in
-        omega arith
-
-    block-sum : startOf c (bins n t) ≡ startOf c (blocks n t + n * 3) + length (flat transitionActs (x .transitions)) * 4
-    block-sum =
-        let e = starts-sum c transitionActs noTransition 1 4 (x .transitions) (blocks n t + n * 3)
-        (λ r h. let u = transitions-count in move (blocks n t + n * 3 + suc r * 1) (blocks n t + n * 3 + r + 1) (blocks n t + n * 3 + r * 1) (blocks n t + n * 3 + r)
-        (length (getD (x .transitions) r noTransition .block) * 4) (omega arith) (omega arith) (transition-known r (omega arith) .block)) in
-        let u = transitions-count in
-        let w : bins n t ≡ blocks n t + n * 3 + length (x .transitions) * 1 = omega arith in
-        let q = ap (startOf c) w in
-        omega arith
 
     -- ---- the parts of the tables
 
     long : tableBase n t + startOf c (bins n t) ≤ length out'
     long = let r = f .binned .room in let s = l .size in omega arith
 
-    header-is : names ≡ length slots → take 6 out' ≡ length (x .rows) ∷ length (x .transitions) ∷ length refs ∷ length descs ∷ length acts ∷ length slots ∷ []
+    header-is : names ≡ length slots → take 6 out' ≡ length (x .rows) ∷ length (x .transitions) ∷ length (references x) ∷ length (descriptors x) ∷ length (actions x) ∷ length slots ∷ []
     unfolding startOf
     header-is e =
-        let a = list-sum in let b = target-sum in let d = descriptor-sum in let g = row-block-sum in let h = block-sum in
-        let u = length-append rowRefs (flat targetList (x .transitions)) in
-        let v = length-append rowBlocks (flat transitionActs (x .transitions)) in
+        let a = list-sum slots n t c items x (f .full) (f .held) in let b = target-sum slots n t c items x (f .full) (f .held) in let d = descriptor-sum slots n t c items x (f .full) (f .held) in let g = row-block-sum slots n t c items x (f .full) (f .held) in let h = block-sum slots n t c items x (f .full) (f .held) in
+        let u = length-append (rowRefs x) (flat targetList (x .transitions)) in
+        let v = length-append (rowBlocks x) (flat transitionActs (x .transitions)) in
         l .front ∙
-        six (f .held .rows-are) (f .held .transitions-are) (start-one (bins n t) (tableBase n t) c next begins 0 (n * 2 + t) (length refs) (omega arith) (omega arith) (omega arith))
-        (start-one (bins n t) (tableBase n t) c next begins (n * 2 + t) (blocks n t) (length descs) (omega arith) (omega arith) (omega arith))
-        (start-four (bins n t) (tableBase n t) c next begins (blocks n t) (bins n t) (length acts) (omega arith) (omega arith) (omega arith)) e
+        six (f .held .rows-are) (f .held .transitions-are) (start-one (bins n t) (tableBase n t) c next begins 0 (n * 2 + t) (length (references x)) (omega arith) (omega arith) (omega arith))
+        (start-one (bins n t) (tableBase n t) c next begins (n * 2 + t) (blocks n t) (length (descriptors x)) (omega arith) (omega arith) (omega arith))
+        (start-four (bins n t) (tableBase n t) c next begins (blocks n t) (bins n t) (length (actions x)) (omega arith) (omega arith) (omega arith)) e
       where
         six : {a0 a1 a2 a3 a4 a5 b0 b1 b2 b3 b4 b5 : ℕ} → a0 ≡ b0 → a1 ≡ b1 → a2 ≡ b2 → a3 ≡ b3 → a4 ≡ b4 → a5 ≡ b5 → _≡_ {A = List ℕ} (a0 ∷ a1 ∷ a2 ∷ a3 ∷ a4 ∷ a5 ∷ []) (b0 ∷ b1 ∷ b2 ∷ b3 ∷ b4 ∷ b5 ∷ [])
         six p0 p1 p2 p3 p4 p5 = cc
@@ -208,7 +94,7 @@ module _ (slots : List (List ℕ)) (n t : ℕ) (c : ℕ → ℕ) (out next : Lis
     rows-are : take (n * 11) (drop 6 out') ≡ rowCells slots 0 0 (x .rows)
     unfolding startOf
     rows-are =
-        let s = long in let u = rows-count in
+        let s = long in let u = f .held .rows-are in
         let w : n * 11 ≡ length (x .rows) * 11 = omega arith in
         ap (λ (k : ℕ). take k (drop 6 out')) w ∙
         rows-laid slots n t c next begins out' (omega arith) (x .rows) 0 0 0 (omega arith) (λ j h. subst (λ (k : ℕ). RowKnown slots n t c next begins out' k (getD (x .rows) j noRow)) (zero-left j) (row-known j (omega arith)))
@@ -217,14 +103,14 @@ module _ (slots : List (List ℕ)) (n t : ℕ) (c : ℕ → ℕ) (out next : Lis
         zero-left : (k : ℕ) → k ≡ 0 + k
         zero-left k = omega arith
 
-    transitions-are : take (t * 9) (drop (6 + n * 11) out') ≡ transitionCells slots (length rowRefs) 0 (length rowBlocks) (x .transitions)
+    transitions-are : take (t * 9) (drop (6 + n * 11) out') ≡ transitionCells slots (length (rowRefs x)) 0 (length (rowBlocks x)) (x .transitions)
     transitions-are =
-        let s = long in let u = transitions-count in
+        let s = long in let u = f .held .transitions-are in
         let w : t * 9 ≡ length (x .transitions) * 9 = omega arith in
         let z : 6 + n * 11 ≡ 6 + n * 11 + 0 * 9 = omega arith in
-        let a = list-sum in let b = row-block-sum in
+        let a = list-sum slots n t c items x (f .full) (f .held) in let b = row-block-sum slots n t c items x (f .full) (f .held) in
         ap (λ (k : ℕ). take k (drop (6 + n * 11) out')) w ∙ ap (λ (k : ℕ). take (length (x .transitions) * 9) (drop k out')) z ∙
-        transitions-laid slots n t c next begins out' (omega arith) (x .transitions) 0 (length rowRefs) 0 (length rowBlocks) (omega arith)
+        transitions-laid slots n t c next begins out' (omega arith) (x .transitions) 0 (length (rowRefs x)) 0 (length (rowBlocks x)) (omega arith)
         (λ j h. subst (λ (k : ℕ). TransitionKnown slots n t c next begins out' k (getD (x .transitions) j noTransition)) (zero-left j) (transition-known j (omega arith)))
         (ap (startOf c) (no-more (n * 2)) ∙ a) (ap (startOf c) (no-more (n * 2 + t)) ∙ no-more' (startOf c (n * 2 + t))) (ap (startOf c) (no-more (blocks n t + n * 3)) ∙ b)
       where
@@ -252,12 +138,12 @@ module _ (slots : List (List ℕ)) (n t : ℕ) (c : ℕ → ℕ) (out next : Lis
         ap₂ (λ (a b : List ℕ). a ++ b)
         (take-add (6 + n * 11) (t * 9) out' ∙ ap₂ (λ (a b : List ℕ). a ++ b) (take-add 6 (n * 11) out' ∙ ap₂ (λ (a b : List ℕ). a ++ b) (header-is e) rows-are) transitions-are)
         behind-is ∙
-        regroup front refs (map (λ (d : List ℕ). placeOf d slots) descs) (flat (actCells slots) acts)
+        regroup front (references x) (map (λ (d : List ℕ). placeOf d slots) (descriptors x)) (flat (actCells slots) (actions x))
       where
         front : List ℕ
         front =
-            (length (x .rows) ∷ length (x .transitions) ∷ length refs ∷ length descs ∷ length acts ∷ length slots ∷ []) ++ rowCells slots 0 0 (x .rows) ++
-            transitionCells slots (length rowRefs) 0 (length rowBlocks) (x .transitions)
+            (length (x .rows) ∷ length (x .transitions) ∷ length (references x) ∷ length (descriptors x) ∷ length (actions x) ∷ length slots ∷ []) ++ rowCells slots 0 0 (x .rows) ++
+            transitionCells slots (length (rowRefs x)) 0 (length (rowBlocks x)) (x .transitions)
 
         regroup : (h a b d : List ℕ) → h ++ (a ++ b ++ d) ≡ h ++ a ++ b ++ d
         regroup h a b d = sym (append-assoc (h ++ a) b d ∙ append-assoc h a (b ++ d) ∙ ap (λ (k : List ℕ). h ++ k) (sym (append-assoc a b d)))

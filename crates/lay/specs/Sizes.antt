@@ -145,6 +145,30 @@ fourth true true false d e f g q = refl
 fourth true false c d e f g q = refl
 fourth false b c d e f g q = refl
 
+fifth : (a b c d e f g : Bool) → e ≡ false → (a && b && c && d && e && f && g) ≡ false
+fifth true true true true e f g q = rw q refl
+fifth true true true false e f g q = refl
+fifth true true false d e f g q = refl
+fifth true false c d e f g q = refl
+fifth false b c d e f g q = refl
+
+sixth : (a b c d e f g : Bool) → f ≡ false → (a && b && c && d && e && f && g) ≡ false
+sixth true true true true true f g q = rw q refl
+sixth true true true true false f g q = refl
+sixth true true true false e f g q = refl
+sixth true true false d e f g q = refl
+sixth true false c d e f g q = refl
+sixth false b c d e f g q = refl
+
+last : (a b c d e f g : Bool) → g ≡ false → (a && b && c && d && e && f && g) ≡ false
+last true true true true true true g q = rw q refl
+last true true true true true false g q = refl
+last true true true true false f g q = refl
+last true true true false e f g q = refl
+last true true false d e f g q = refl
+last true false c d e f g q = refl
+last false b c d e f g q = refl
+
 module _ (slots : List (List ℕ)) (c : Content) where
   no-fit : countsFit (numbersOf slots c) ≡ false → keepsRules (numbersOf slots c) (namesOf slots) ≡ Size
   unfolding keepsRules verdict rule1 firstBroken
@@ -182,3 +206,24 @@ module _ (slots : List (List ℕ)) (c : Content) where
       no-fit
       (fourth (leb 1 (rowCount N)) (leb (rowCount N) mostRows) (leb (transitionCount N) mostTransitions) (leb (nameCount N) mostNames) fewReferences fewDescriptors fewActions
       (ap (λ (n : ℕ). leb n mostNames) (name-count slots c) ∙ lt-leb (length slots) mostNames h))
+
+  pub many-references : mostRows * mostRows + mostTransitions * mostTargets < length (references c) → keepsRules (numbersOf slots c) (namesOf slots) ≡ Size
+  unfolding countsFit
+  many-references h =
+      no-fit
+      (fifth (leb 1 (rowCount N)) (leb (rowCount N) mostRows) (leb (transitionCount N) mostTransitions) (leb (nameCount N) mostNames) fewReferences fewDescriptors fewActions
+      (ap (λ (n : ℕ). leb n (mostRows * mostRows + mostTransitions * mostTargets)) (reference-count slots c) ∙ lt-leb (length (references c)) (mostRows * mostRows + mostTransitions * mostTargets) h))
+
+  pub many-descriptors : mostTransitions * mostDescriptors < length (descriptors c) → keepsRules (numbersOf slots c) (namesOf slots) ≡ Size
+  unfolding countsFit
+  many-descriptors h =
+      no-fit
+      (sixth (leb 1 (rowCount N)) (leb (rowCount N) mostRows) (leb (transitionCount N) mostTransitions) (leb (nameCount N) mostNames) fewReferences fewDescriptors fewActions
+      (ap (λ (n : ℕ). leb n (mostTransitions * mostDescriptors)) (descriptor-count slots c) ∙ lt-leb (length (descriptors c)) (mostTransitions * mostDescriptors) h))
+
+  pub many-actions : (mostRows * 3 + mostTransitions) * mostActions < length (actions c) → keepsRules (numbersOf slots c) (namesOf slots) ≡ Size
+  unfolding countsFit
+  many-actions h =
+      no-fit
+      (last (leb 1 (rowCount N)) (leb (rowCount N) mostRows) (leb (transitionCount N) mostTransitions) (leb (nameCount N) mostNames) fewReferences fewDescriptors fewActions
+      (ap (λ (n : ℕ). leb n ((mostRows * 3 + mostTransitions) * mostActions)) (action-count slots c) ∙ lt-leb (length (actions c)) ((mostRows * 3 + mostTransitions) * mostActions) h))
