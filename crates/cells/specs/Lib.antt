@@ -6,3 +6,4 @@ pub mod Cells
 pub mod Header
 pub mod Counts
 pub mod Tables
+pub mod Totals

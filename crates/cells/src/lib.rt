@@ -8,6 +8,8 @@ ghost use Rattle.cells.specs.Parts.{CellsRoom, RowRoom, RowLaid, RowsLai
 ghost use Rattle.cells.specs.Ends.{TransitionRoom, TransitionLaid, TransitionsLaid};
 ghost use Rattle.cells.specs.Header.{HeaderLaid, CellsLaid};
 
+pub mod totals;
+
 fn wide(x: u32) -> usize
     ensures { λ r. ⌜ r ≡ x ⌝ }
 {
