@@ -2,3 +2,4 @@ pub mod Outcome
 pub mod Hand
 pub mod Number
 pub mod Survey
+pub mod Fill

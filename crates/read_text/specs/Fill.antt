@@ -1,0 +1,326 @@
+-- The tables of a text laid in a work place: counted, held against rule 1, and filled.
+use mathlib.Core.Path.{_≡_, refl, sym, ap, subst, _∙_}
+use mathlib.Core.Bool.{Bool, true, false, not}
+use mathlib.Core.List.{List, []}
+use Prim.Native.Nat.{ℕ, zero, suc, _+_, _*_, _-_, _^_, _≤_, _<_}
+use native.Mathlib.Omega.{arith}
+use native.Mathlib.Nat.{add-zero}
+use lib.ListN.{length, getD, take, drop}
+use lib.Seq.{getD-drop}
+use borrow.Author.Tests.{not-true, not-false}
+use Rattle.definition.specs.declared.Answer.the-variants.{Size as Refused}
+use Rattle.definition.specs.Rows.{flat, from}
+use Rattle.definition.specs.Rules.{keepsRules}
+use Rattle.reading.specs.Tags.{tagsOf}
+use Rattle.reading.specs.Faults.{idsOf}
+use Rattle.reading.specs.Content.{Content, Fact, contentFrom, contentOf, slotsOf}
+use Rattle.reading.specs.Layout.{numbersOf}
+use Rattle.values.specs.Ids.{Noted, idsFrom}
+use Rattle.facts.specs.Appended.{rowFacts, transitionFacts}
+use Rattle.bins.specs.Bins.{startOf, countsIn, StartRoom, Started}
+use Rattle.bins.specs.Binned.{Item, valuesOf, Binned, binned-start}
+use Rattle.items.specs.Items.{binCount, sourcesOf, orderOf, Ranked, Tallied}
+use Rattle.items.specs.Order.{noTransition, transitionAt, rows-count, transitions-count, sources-length, transition-here}
+use Rattle.items.specs.Ranks.{number-in, rank-of}
+use Rattle.items.specs.Picked.{noRow}
+use Rattle.items.specs.Held.{row-held, transition-held}
+use Rattle.items.specs.Owners.{facts-owned}
+use Rattle.items.specs.Whole.{bins-are}
+use Rattle.items.specs.Ranking.{Cleared}
+use Rattle.walks.specs.declared.plan.Plan.{Plan}
+use Rattle.walks.specs.Plan.{textFacts, textItems, countsOf, layBase, Named, FileRoom, FiledAll, HeadRoom, RowHead, TransitionHead, HeadsLaid}
+use Rattle.cells.specs.Starts.{Few, tableBase}
+use Rattle.cells.specs.Parts.{bins, CellsRoom, rowAt}
+use Rattle.cells.specs.Cells.{Held, RowSaid, TransitionSaid, Said}
+use Rattle.cells.specs.Header.{CellsLaid}
+use Rattle.cells.specs.Tables.{behindCells, Filled, filled-room, tables-are, tables-long}
+use Rattle.cells.specs.Totals.{TotalsRoom, isWithin, within-totals, within-size, over-size}
+use Rattle.slots.specs.First.{ids-length}
+use Rattle.read_text.specs.declared.fill.Laid.{Laid}
+use Rattle.read_text.specs.declared.fill.Laid.the-variants.{Many, Size}
+use Rattle.read_text.specs.Hand.{Well, tablesOf, slotsIn}
+use Rattle.read_text.specs.Number.{NumberedBy}
+use Rattle.read_text.specs.Survey.{Oversize, PlannedBy}
+
+pub record FillRoom (text levels spots ids names ranks work next : List ℕ) (p : Plan) : Type 0 where
+  pub deep : length levels ≡ 32768
+  pub spots-room : length spots ≡ 65540
+  pub work-room : length work ≡ 242950
+  pub next-room : length next ≡ 2816
+  pub planned : PlannedBy text ids names ranks (p .rows) (p .transitions) (p .ids) (p .slots)
+
+-- the bins begin where the counts say, and end at s
+pub record BegunBins (text ranks next : List ℕ) (p : Plan) (s : ℕ) : Type 0 where
+  pub starts-are : (k : ℕ) → k < binCount (p .rows) (p .transitions) →
+      getD next k 0 ≡ layBase (p .rows) (p .transitions) + startOf (countsOf (textItems text ranks (p .rows) (p .transitions))) k
+  pub total : s ≡ layBase (p .rows) (p .transitions) + startOf (countsOf (textItems text ranks (p .rows) (p .transitions))) (binCount (p .rows) (p .transitions))
+  pub fits : s ≤ 242950
+
+abbrev pub CountedCase : List ℕ → List ℕ → List ℕ → Plan → Laid → Type 0
+CountedCase text ranks next p Many = Oversize text
+CountedCase text ranks next p (Size s) = BegunBins text ranks next p s
+
+pub record CountedAs (text ranks next : List ℕ) (p : Plan) (r : Laid) : Type 0 where
+  pub is : CountedCase text ranks next p r
+
+-- ---- sums of equal counts
+
+starts-same : (c d : ℕ → ℕ) (m : ℕ) → ((k : ℕ) → k < m → c k ≡ d k) → startOf c m ≡ startOf d m
+unfolding startOf
+starts-same c d zero h = refl
+starts-same c d (suc m) h = let a = starts-same c d m (λ k l. h k (omega arith)) in let b = h m (omega arith) in omega arith
+
+-- ---- what is held of a text
+
+module _ (text ids names ranks : List ℕ) (n t i m : ℕ) (w : PlannedBy text ids names ranks n t i m) where
+  abbrev fs : List Fact
+  fs = textFacts text
+
+  abbrev sl : List (List ℕ)
+  sl = slotsOf (tagsOf text)
+
+  abbrev its : List Item
+  its = textItems text ranks n t
+
+  few : Few n t
+  few = record { rows = w .numbered .rows-few; transitions = w .numbered .transitions-few }
+
+  rows-are : n ≡ length (contentFrom fs .rows)
+  unfolding contentOf
+  rows-are = w .numbered .rows-are
+
+  transitions-are : t ≡ length (contentFrom fs .transitions)
+  transitions-are = w .numbered .ranked .many ∙ sym (transitions-count fs n rows-are)
+
+  held : Held sl n t its (contentOf (tagsOf text))
+  unfolding contentOf
+  held =
+      record {
+        rows-are = rows-are;
+        transitions-are = transitions-are;
+        row = row-held sl fs n t ranks rows-are;
+        transition = transition-held sl fs n t ranks rows-are (w .numbered .ranked) (facts-owned (idsOf (tagsOf text)) (tagsOf text));
+      }
+
+  pub plan-named : (p : Plan) → p .rows ≡ n → p .transitions ≡ t → p .ids ≡ i → p .slots ≡ m → Named text ids names p
+  plan-named p a b c d =
+      let r = w .numbered .rows-few in let q = w .numbered .transitions-few in
+      record {
+        ids-noted = subst (Noted text ids) (sym c) (w .ids-noted);
+        ids-are = ap (λ (k : ℕ). idsFrom text ids k 0) c ∙ w .ids-are;
+        slots-noted = subst (Noted text names) (sym d) (w .names-noted);
+        slots-are = ap (λ (k : ℕ). idsFrom text names k 0) d ∙ w .names-are;
+        clean = w .well .is .no-fault;
+        rows-few = omega arith;
+        transitions-few = omega arith;
+      }
+
+  pub plan-short : length text ≤ 32768
+  plan-short = w .ids-noted .short
+
+  pub names-long : length sl ≡ m
+  names-long = ap length (sym (w .names-are)) ∙ ids-length text names m 0
+
+-- ---- counting
+
+abbrev pub planWith : Plan → Bool → Plan
+planWith p z = record { rows = p .rows; transitions = p .transitions; ids = p .ids; slots = p .slots; fill = z }
+
+module _ (text levels spots ids names ranks work next : List ℕ) (p : Plan) (r : FillRoom text levels spots ids names ranks work next p) where
+  pub count-clear : bins (p .rows) (p .transitions) ≤ length next
+  count-clear = let a = r .planned .numbered .rows-few in let b = r .planned .numbered .transitions-few in let l = r .next-room in omega arith
+
+  pub count-room : (next1 : List ℕ) → Cleared next next1 (bins (p .rows) (p .transitions)) → FileRoom text levels spots ids names ranks work next1 (planWith p false)
+  count-room next1 c =
+      let s = c .size in let b = count-clear in let l = r .work-room in
+      record {
+        short = plan-short text ids names ranks (p .rows) (p .transitions) (p .ids) (p .slots) (r .planned);
+        deep = r .deep;
+        spots-room = r .spots-room;
+        named = plan-named text ids names ranks (p .rows) (p .transitions) (p .ids) (p .slots) (r .planned) (planWith p false) refl refl refl refl;
+        bins = omega arith;
+        few = omega arith;
+        counting = λ e k h. c .zeros k h;
+        filling = λ e. absurd (let z : _≡_ {A = ℕ} 0 1 = cc in omega arith);
+      }
+
+  module _ (levels' spots' work' next2 : List ℕ) (f : FiledAll text levels' spots' ranks work' next2 (planWith p false)) where
+    tally : Tallied (p .rows) (p .transitions) next2 (textItems text ranks (p .rows) (p .transitions))
+    tally = f .tallied refl
+
+    pub count-totals : TotalsRoom next2 (p .rows) (p .transitions)
+    count-totals = record { few = few text ids names ranks (p .rows) (p .transitions) (p .ids) (p .slots) (r .planned); there = tally .room }
+
+    pub count-many : (within : Bool) → within ≡ isWithin (countsIn next2) (p .rows) (p .transitions) → not within ≡ true → CountedAs text ranks next2 p Many
+    count-many within e q =
+        record {
+          is =
+              record {
+                well = r .planned .well;
+                is =
+                    over-size (slotsOf (tagsOf text)) (p .rows) (p .transitions) (countsIn next2) (textItems text ranks (p .rows) (p .transitions)) (contentOf (tagsOf text)) (λ k h. sym (tally .count k h))
+                    (held text ids names ranks (p .rows) (p .transitions) (p .ids) (p .slots) (r .planned)) (sym e ∙ not-true within q);
+              };
+        }
+
+    module _ (within : Bool) (e : within ≡ isWithin (countsIn next2) (p .rows) (p .transitions)) (q : not within ≡ false) where
+      size-fits : layBase (p .rows) (p .transitions) + startOf (countsIn next2) (bins (p .rows) (p .transitions)) ≤ 242950
+      size-fits = within-size (countsIn next2) (p .rows) (p .transitions) (count-totals .few) (within-totals (countsIn next2) (p .rows) (p .transitions) (sym e ∙ not-false within q))
+
+      pub count-starts : StartRoom next2 (bins (p .rows) (p .transitions)) (layBase (p .rows) (p .transitions))
+      count-starts = let s = size-fits in record { there = tally .room; fits = omega arith }
+
+      pub count-begun : (next3 : List ℕ) (end s : ℕ) → Started next2 next3 (bins (p .rows) (p .transitions)) (layBase (p .rows) (p .transitions)) end → s ≡ end → CountedAs text ranks next3 p (Size s)
+      count-begun next3 end s g i =
+          record {
+            is =
+                record {
+                  starts-are = λ k h. g .starts-are k h ∙ ap (λ (x : ℕ). layBase (p .rows) (p .transitions) + x) (same k (omega arith));
+                  total = i ∙ g .total ∙ ap (λ (x : ℕ). layBase (p .rows) (p .transitions) + x) (same (bins (p .rows) (p .transitions)) (omega arith));
+                  fits = let u = size-fits in let v = g .total in omega arith;
+                };
+          }
+        where
+          same : (m : ℕ) → m ≤ bins (p .rows) (p .transitions) → startOf (countsIn next2) m ≡ startOf (countsOf (textItems text ranks (p .rows) (p .transitions))) m
+          same m l = starts-same (countsIn next2) (countsOf (textItems text ranks (p .rows) (p .transitions))) m (λ k h. tally .count k (omega arith))
+
+-- ---- filling
+
+pub record FillReady (text levels spots ids names ranks work next : List ℕ) (p : Plan) : Type 0 where
+  pub room : FillRoom text levels spots ids names ranks work next p
+  pub size : ℕ
+  pub begun : BegunBins text ranks next p size
+
+-- the tables stand at the beginning of the work place
+pub record TablesIn (text work : List ℕ) (s : ℕ) : Type 0 where
+  pub size-is : s ≡ length (tablesOf text)
+  pub there : s ≤ length work
+  pub tables-are : take s work ≡ tablesOf text
+
+pub record FilledAs (text ranks work : List ℕ) (p : Plan) : Type 0 where
+  pub is : TablesIn text work (layBase (p .rows) (p .transitions) + startOf (countsOf (textItems text ranks (p .rows) (p .transitions))) (binCount (p .rows) (p .transitions)))
+
+-- what stands behind a place, by what is behind it as a whole
+behind-at : (at k : ℕ) (o o' : List ℕ) → drop at o' ≡ drop at o → at ≤ k → getD o' k 0 ≡ getD o k 0
+behind-at at k o o' e h =
+    let s : at + (k - at) ≡ k = omega arith in
+    sym (ap (λ (j : ℕ). getD o' j 0) s) ∙ sym (getD-drop at o' (k - at) 0) ∙ ap (λ (l : List ℕ). getD l (k - at) 0) e ∙ getD-drop at o (k - at) 0 ∙ ap (λ (j : ℕ). getD o j 0) s
+
+module _ (text levels spots ids names ranks work next : List ℕ) (p : Plan) (r : FillReady text levels spots ids names ranks work next p) where
+  abbrev n : ℕ
+  n = p .rows
+
+  abbrev t : ℕ
+  t = p .transitions
+
+  abbrev items : List Item
+  items = textItems text ranks n t
+
+  abbrev content : Content
+  content = contentOf (tagsOf text)
+
+  pub fill-file : FileRoom text levels spots ids names ranks work next (planWith p true)
+  fill-file =
+      let b = count-clear text levels spots ids names ranks work next p (r .room) in let l = r .room .work-room in let f = r .begun .fits in let e = r .begun .total in
+      record {
+        short = plan-short text ids names ranks n t (p .ids) (p .slots) (r .room .planned);
+        deep = r .room .deep;
+        spots-room = r .room .spots-room;
+        named = plan-named text ids names ranks n t (p .ids) (p .slots) (r .room .planned) (planWith p true) refl refl refl refl;
+        bins = b;
+        few = omega arith;
+        counting = λ e. absurd (let z : _≡_ {A = ℕ} 0 1 = cc in omega arith);
+        filling = λ z. binned-start (binCount n t) (layBase n t) (countsOf items) work next (omega arith) b (r .begun .starts-are);
+      }
+
+  module _ (levels1 spots1 work1 next1 : List ℕ) (f : FiledAll text levels1 spots1 ranks work1 next1 (planWith p true)) (l1 : length work1 ≡ length work) where
+    binned : Binned (binCount n t) (layBase n t) (countsOf items) work1 next1 items
+    binned = f .binned refl
+
+    pub fill-heads : HeadRoom text levels1 spots1 ids names ranks work1 (planWith p true)
+    fill-heads =
+        let b = binned .room in
+        record {
+          short = plan-short text ids names ranks n t (p .ids) (p .slots) (r .room .planned);
+          deep = f .deep;
+          spots-room = f .spots-room;
+          named = plan-named text ids names ranks n t (p .ids) (p .slots) (r .room .planned) (planWith p true) refl refl refl refl;
+          ranked = r .room .planned .numbered .ranked;
+          room = omega arith;
+        }
+
+    module _ (levels2 spots2 work2 : List ℕ) (g : HeadsLaid text levels2 spots2 ranks work1 work2 (planWith p true)) (l2 : length work2 ≡ length work1) where
+      binned' : Binned (binCount n t) (layBase n t) (countsOf items) work2 next1 items
+      binned' =
+          let b = binned .room in
+          record {
+            room = omega arith;
+            bins = binned .bins;
+            next-is = binned .next-is;
+            few = binned .few;
+            stand = λ k j h l. behind-at (layBase n t) (layBase n t + startOf (countsOf items) k + j) work1 work2 (g .behind) (omega arith) ∙ binned .stand k j h l;
+          }
+
+      rows-are' : n ≡ length (contentFrom (textFacts text) .rows)
+      rows-are' = rows-are text ids names ranks n t (p .ids) (p .slots) (r .room .planned)
+
+      row-said : (i : ℕ) → i < n → RowSaid (slotsOf (tagsOf text)) work2 i (getD (content .rows) i noRow)
+      unfolding contentOf contentFrom
+      row-said i h =
+          let c = rows-count (textFacts text) in let e = rows-are' in
+          let w = g .rows-are i h (omega arith) in
+          record { kind = ap (λ (k : ℕ). getD work2 k 0) (add-zero (6 + i * 11)) ∙ w .kind-is; parent = w .parent-is; id = w .id-is }
+
+      transition-said : (k : ℕ) → k < t → TransitionSaid work2 n k (getD (content .transitions) k noTransition)
+      unfolding contentOf
+      transition-said k h = subst (TransitionSaid work2 n k) (sym (transition-here (textFacts text) n rows-are' k (let m = ranked .many in omega arith))) by-number
+        where
+          ranked : Ranked n t (sourcesOf (textFacts text)) ranks
+          ranked = r .room .planned .numbered .ranked
+
+          q : ℕ
+          q = getD (orderOf n (sourcesOf (textFacts text))) k 0
+
+          is : getD ranks q 0 ≡ k
+          is = rank-of n t (sourcesOf (textFacts text)) ranks ranked k h
+
+          head : TransitionHead text n k q work2
+          head =
+              let i = number-in n t (sourcesOf (textFacts text)) ranks ranked k h in let b = i .0 in let l = sources-length (textFacts text) in let e = is in
+              subst (λ (j : ℕ). TransitionHead text n j q work2) is (g .transitions-are q (omega arith) (omega arith))
+
+          by-number : TransitionSaid work2 n k (transitionAt (textFacts text) q)
+          by-number =
+              let w = head in
+              record { source = ap (λ (j : ℕ). getD work2 j 0) (add-zero (6 + n * 11 + k * 9)) ∙ w .source-is; condition = w .condition-is; type = w .internal-is }
+
+      together : flat (valuesOf items) (from (binCount n t) 0) ≡ behindCells (slotsOf (tagsOf text)) content
+      unfolding contentOf
+      together = bins-are (slotsOf (tagsOf text)) (textFacts text) n t ranks rows-are' (r .room .planned .numbered .ranked) (facts-owned (idsOf (tagsOf text)) (tagsOf text))
+
+      filled : Filled (slotsOf (tagsOf text)) n t (countsOf items) work2 next1 items content
+      filled =
+          record {
+            few = few text ids names ranks n t (p .ids) (p .slots) (r .room .planned);
+            binned = binned';
+            full = λ k h. refl;
+            held = held text ids names ranks n t (p .ids) (p .slots) (r .room .planned);
+            together = together;
+            said = record { row = row-said; transition = transition-said };
+          }
+
+      pub fill-cells : CellsRoom work2 next1 n t
+      fill-cells = filled-room (slotsOf (tagsOf text)) n t (countsOf items) work2 next1 items content filled
+
+      pub fill-done : (work3 : List ℕ) → CellsLaid work2 work3 next1 n t (p .slots) → FilledAs text ranks work3 p
+      fill-done work3 c =
+          let e = sym (names-long text ids names ranks n t (p .ids) (p .slots) (r .room .planned)) in
+          let b = binned' .room in let s = c .size in
+          record {
+            is =
+                record {
+                  size-is = tables-long (slotsOf (tagsOf text)) n t (countsOf items) work2 next1 items content filled (p .slots) work3 c e;
+                  there = omega arith;
+                  tables-are = tables-are (slotsOf (tagsOf text)) n t (countsOf items) work2 next1 items content filled (p .slots) work3 c e;
+                };
+          }
