@@ -1,5 +1,7 @@
+pub mod Acts
 pub mod Filed
 pub mod Names
 pub mod Plan
 pub mod Said
 pub mod Sources
+pub mod Told

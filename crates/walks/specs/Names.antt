@@ -75,7 +75,7 @@ names-few v = by v 0
 abbrev pub numbered : List (List ℕ) → ℕ → List ℕ → ℕ
 numbered names shift d = placeOf d names + shift
 
-place-few : (name text ids : List ℕ) (n k : ℕ) → placeOf name (idsFrom text ids n k) ≤ n
+pub place-few : (name text ids : List ℕ) (n k : ℕ) → placeOf name (idsFrom text ids n k) ≤ n
 unfolding placeOf idsFrom
 place-few name text ids zero k = omega arith
 place-few name text ids (suc n) k = by (same name (idAt text ids k)) (place-few name text ids n (suc k))
