@@ -1,5 +1,6 @@
 pub mod Acts
 pub mod Filed
+pub mod Keys
 pub mod Names
 pub mod Plan
 pub mod Said
