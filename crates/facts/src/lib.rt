@@ -14,7 +14,7 @@ pub enum Said {
 }
 
 // Which block of its row or transition a spot is in.
-fn part_of(what: usize) -> usize
+pub fn part_of(what: usize) -> usize
     ensures { λ r. ⌜ r ≡ partOf what ⌝ }
 {
     if what < 2 {

@@ -5,4 +5,5 @@ pub mod Names
 pub mod Plan
 pub mod Said
 pub mod Sources
+pub mod TagItems
 pub mod Told

@@ -7,4 +7,5 @@ pub mod name_items;
 pub mod plan;
 pub mod said;
 pub mod sources;
+pub mod tag_items;
 pub mod told;
