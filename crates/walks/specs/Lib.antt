@@ -1,9 +1,11 @@
 pub mod Acts
 pub mod Filed
+pub mod ItemWalk
 pub mod Keys
 pub mod Names
 pub mod Plan
 pub mod Said
 pub mod Sources
 pub mod TagItems
+pub mod Tags
 pub mod Told

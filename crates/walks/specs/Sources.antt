@@ -44,6 +44,20 @@ sourcesSaid (ListOf i) = []
 sourcesSaid (Transition i) = i ∷ []
 sourcesSaid (Action p i) = []
 
+pub rows-by : (s : Said) → rowsSaid s ≤ 1
+rows-by Nothing = omega arith
+rows-by (Row q) = omega arith
+rows-by (ListOf i) = omega arith
+rows-by (Transition i) = omega arith
+rows-by (Action p i) = omega arith
+
+pub transitions-by : (s : Said) → length (sourcesSaid s) ≤ 1
+transitions-by Nothing = omega arith
+transitions-by (Row q) = omega arith
+transitions-by (ListOf i) = omega arith
+transitions-by (Transition i) = omega arith
+transitions-by (Action p i) = omega arith
+
 pub sources-append : (fs gs : List Fact) → sourcesOf (fs ++ gs) ≡ sourcesOf fs ++ sourcesOf gs
 unfolding sourcesOf
 sources-append [] gs = refl
@@ -279,20 +293,6 @@ module _ (text levels cells₀ spots sources : List ℕ) (t : Turning) (c : Coun
       where
         clash : true ≡ false → ⊥
         clash x = let z : _≡_ {A = ℕ} 0 1 = cc in omega arith
-
-        rows-by : (s : Said) → rowsSaid s ≤ 1
-        rows-by Nothing = omega arith
-        rows-by (Row q) = omega arith
-        rows-by (ListOf i) = omega arith
-        rows-by (Transition i) = omega arith
-        rows-by (Action p i) = omega arith
-
-        transitions-by : (s : Said) → length (sourcesSaid s) ≤ 1
-        transitions-by Nothing = omega arith
-        transitions-by (Row q) = omega arith
-        transitions-by (ListOf i) = omega arith
-        transitions-by (Transition i) = omega arith
-        transitions-by (Action p i) = omega arith
 
         by : (m : Mark) → r .walk .mark ≡ m → Sourcing text levels' cells spots' sources' r c'
         by marks.Nothing g = absurd (clash (sym is-tag ∙ ap isMark g))
