@@ -127,7 +127,9 @@ module _ (text ids slots ranks : List ℕ) (p : Plan) where
       ap (λ (s : List (List ℕ)). itemsFrom s (p .rows) (p .transitions) ranks 0 0 (factsFrom idsHere [] 0 0 (tagsOf text))) (h .slots-are) ∙
       ap (λ (i : List (List ℕ)). itemsFrom (slotsOf (tagsOf text)) (p .rows) (p .transitions) ranks 0 0 (factsFrom i [] 0 0 (tagsOf text))) (h .ids-are)
 
-  pub record Walked (levels cells spots out next : List ℕ) (t : Turning) (c : Counts) : Type 0 where
+  pub record Walked (out₀ next₀ levels cells spots out next : List ℕ) (t : Turning) (c : Counts) : Type 0 where
+    pub out-size : length out ≡ length out₀
+    pub next-size : length next ≡ length next₀
     pub at : TurnAt text levels cells spots t
     pub named : Named text ids slots p
     pub rows-few : c .rows ≤ t .walk .index
@@ -141,11 +143,13 @@ module _ (text ids slots ranks : List ℕ) (p : Plan) where
     pub few : length (itemsAfter 0 0 before) ≤ t .walk .index * 65544
 
   pub walked-start : (levels cells spots out next : List ℕ) (t : Turning) → FileRoom text levels spots ids slots ranks out next p → length cells ≡ 22 → t ≡ beginningTurn →
-      Walked levels cells spots out next t (record { rows = 0; transitions = 0 })
+      Walked out next levels cells spots out next t (record { rows = 0; transitions = 0 })
   unfolding itemsFrom rowFacts transitionFacts valuesOf
   walked-start levels cells spots out next t h l e =
-      subst (λ (x : Turning). Walked levels cells spots out next x (record { rows = 0; transitions = 0 })) (sym e)
+      subst (λ (x : Turning). Walked out next levels cells spots out next x (record { rows = 0; transitions = 0 })) (sym e)
       (record {
+        out-size = refl;
+        next-size = refl;
         at = begin-at text levels cells spots (record { short = h .short; deep = h .deep; cells-room = l; spots-room = h .spots-room });
         named = h .named;
         rows-few = omega arith;
@@ -167,9 +171,8 @@ module _ (text ids slots ranks : List ℕ) (p : Plan) where
         few = omega arith;
       })
 
-  module _ (levels cells₀ spots out next : List ℕ) (t : Turning) (c : Counts) (k : Walked levels cells₀ spots out next t c) (levels' cells spots' : List ℕ) (r : Turning)
+  module _ (out₀ next₀ levels cells₀ spots out next : List ℕ) (t : Turning) (c : Counts) (k : Walked out₀ next₀ levels cells₀ spots out next t c) (levels' cells spots' : List ℕ) (r : Turning)
       (turned : NextTurn text levels levels' cells spots spots' t r) (found : Bool) (e : found ≡ isMark (r .walk .mark)) where
-
     pub walked-end : length levels' ≡ length levels → length spots' ≡ length spots → not found ≡ true → FiledAll text levels' spots' ranks out next p
     walked-end ll ls q =
         record {
@@ -289,14 +292,17 @@ module _ (text ids slots ranks : List ℕ) (p : Plan) where
             }
 
         pub walked-more : (out' next' : List ℕ) (c' : Counts) →
-            TagFiled text cells ids slots ranks out out' next next' p (record { spot = r .spot; shape = s; element = d; counts = c }) c' → Walked levels' cells spots' out' next' r c'
+            TagFiled text cells ids slots ranks out out' next next' p (record { spot = r .spot; shape = s; element = d; counts = c }) c' → Walked out₀ next₀ levels' cells spots' out' next' r c'
         walked-more out' next' c' f =
             let further = turned .further is-tag in let a = k .rows-few in let b = k .transitions-few in let x = f .counted .rows-are in let y = f .counted .transitions-are in
             let u = rows-by (f .said) in let v = transitions-by (f .said) in let w = k .few in
             let fs = here (f .said) in
             let l = ap length (behind fs) in let m = length-append (itemsAfter 0 0 (k .before)) (more (f .said)) in
             let few = tag-few text cells (turned .parts) (turned .stated) (k .at .standing .short) idsHere slotsHere (p .rows) (p .transitions) ranks d (c .rows) (c .transitions) (r .spot) s (f .said) in
+            let sized = f .filed (turned .parts) (turned .stated) in
             record {
+              out-size = sized .out-size ∙ k .out-size;
+              next-size = sized .next-size ∙ k .next-size;
               at = turned .turn-at is-tag;
               named = k .named;
               rows-few = omega arith;
