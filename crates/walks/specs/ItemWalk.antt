@@ -17,15 +17,13 @@ use Rattle.reading.specs.Faults.{namesIn, valueOf, initialWord, targetWord, eve
 use Rattle.reading.specs.Content.{Fact, factsFrom, Act, raises, hosts, ifIn, elseifIn, otherwise, endIf, sends, cancels, actIn, slotsOf}
 use Rattle.reading.specs.Layout.{actCells}
 use Rattle.tags.specs.Cells.{isValueMark, longCell, fromIn, Stated}
-use Rattle.tags.specs.Tags.{tagsLeft, tags-begin}
 use Rattle.turns.specs.declared.SpotCells.{SpotCells}
 use Rattle.turns.specs.declared.Turning.{Turning}
 use Rattle.turns.specs.Next.{TurnAt, factsLeft, NextTurn}
 use Rattle.facts.specs.declared.Said.{Said}
 use Rattle.facts.specs.declared.Said.the-variants.{Nothing, Row, List as ListOf, Transition, Action}
 use Rattle.facts.specs.Facts.{partOf, saidFacts, ends}
-use Rattle.facts.specs.Appended.{rowFacts, transitionFacts, row-facts-append, transition-facts-append}
-use Rattle.facts.specs.Clean.{clean-text, clean-parts, clean-rest}
+use Rattle.facts.specs.Appended.{rowFacts, transitionFacts}
 use Rattle.values.specs.Ids.{idsFrom}
 use Rattle.bins.specs.Binned.{Item, valuesOf, Binned}
 use Rattle.items.specs.Items.{under, binCount, keyOfBlock, itemsFrom, Tallied}
@@ -36,8 +34,8 @@ use Rattle.walks.specs.declared.item_walk.TagAt.{TagAt}
 use Rattle.walks.specs.Filed.{Filed, Awaits}
 use Rattle.walks.specs.Keys.{Few, keyOf, otherOf}
 use Rattle.walks.specs.Names.{itemsBy, namesItems, names-few}
-use Rattle.walks.specs.Said.{beginningTurn, begin-at, begin-left, endSaid, TagSaid}
-use Rattle.walks.specs.Sources.{rowsSaid, sourcesSaid, said-rows, said-transitions, rows-by, transitions-by}
+use Rattle.walks.specs.Said.{beginningTurn, endSaid, TagSaid}
+use Rattle.walks.specs.Passed.{Passed, passed-start, passed-all, passed-further, passed-within, passed-less, passed-counts, passed-clean, passed-split, passed-more}
 use Rattle.walks.specs.Plan.{textFacts, textItems, countsOf, layBase, Named, FileRoom, FiledAll}
 use Rattle.walks.specs.TagItems.{saidItems, endItems}
 use Rattle.walks.specs.Tags.{shapeIn, elementIn, tag-items, tagItems, TagRoom, TagFiled}
@@ -130,36 +128,24 @@ module _ (text ids slots ranks : List ℕ) (p : Plan) where
   pub record Walked (out₀ next₀ levels cells spots out next : List ℕ) (t : Turning) (c : Counts) : Type 0 where
     pub out-size : length out ≡ length out₀
     pub next-size : length next ≡ length next₀
-    pub at : TurnAt text levels cells spots t
     pub named : Named text ids slots p
-    pub rows-few : c .rows ≤ t .walk .index
-    pub transitions-few : c .transitions ≤ t .walk .index
     pub before : List Fact
-    pub left : factsFrom idsHere [] 0 0 (tagsOf text) ≡ before ++ factsLeft idsHere text levels spots t
-    pub clean : flat (tagFaults idsHere) (tagsLeft text levels (t .walk)) ≡ []
-    pub rows-are : c .rows ≡ rowFacts before
-    pub transitions-are : c .transitions ≡ transitionFacts before
+    pub passed : Passed text idsHere levels cells spots t c before
     pub filed : Filed (binCount (p .rows) (p .transitions)) (layBase (p .rows) (p .transitions)) (p .fill) (countsOf itemsHere) out next (itemsAfter 0 0 before)
     pub few : length (itemsAfter 0 0 before) ≤ t .walk .index * 65544
 
   pub walked-start : (levels cells spots out next : List ℕ) (t : Turning) → FileRoom text levels spots ids slots ranks out next p → length cells ≡ 22 → t ≡ beginningTurn →
       Walked out next levels cells spots out next t (record { rows = 0; transitions = 0 })
-  unfolding itemsFrom rowFacts transitionFacts valuesOf
+  unfolding itemsFrom valuesOf
   walked-start levels cells spots out next t h l e =
       subst (λ (x : Turning). Walked out next levels cells spots out next x (record { rows = 0; transitions = 0 })) (sym e)
       (record {
         out-size = refl;
         next-size = refl;
-        at = begin-at text levels cells spots (record { short = h .short; deep = h .deep; cells-room = l; spots-room = h .spots-room });
         named = h .named;
-        rows-few = omega arith;
-        transitions-few = omega arith;
         before = [];
-        left = sym (begin-left idsHere text levels spots);
-        clean =
-            ap (flat (tagFaults idsHere)) (tags-begin text levels) ∙ ap (λ (i : List (List ℕ)). flat (tagFaults i) (tagsOf text)) (h .named .ids-are) ∙ clean-text (tagsOf text) (h .named .clean);
-        rows-are = refl;
-        transitions-are = refl;
+        passed =
+            passed-start text idsHere levels cells spots (record { short = h .short; deep = h .deep; cells-room = l; spots-room = h .spots-room }) (h .named .ids-are) (h .named .clean);
         filed =
             record {
               room = h .bins;
@@ -176,8 +162,8 @@ module _ (text ids slots ranks : List ℕ) (p : Plan) where
     pub walked-end : length levels' ≡ length levels → length spots' ≡ length spots → not found ≡ true → FiledAll text levels' spots' ranks out next p
     walked-end ll ls q =
         record {
-          deep = ll ∙ k .at .standing .room;
-          spots-room = ls ∙ k .at .spots-room;
+          deep = ll ∙ k .passed .at .standing .room;
+          spots-room = ls ∙ k .passed .at .spots-room;
           tallied = λ z.
               record { room = k .filed .room; count = λ i l. k .filed .tallied z i l ∙ ap (λ (xs : List Item). length (valuesOf xs i)) (all ∙ items-same (k .named)) };
           binned = λ z.
@@ -186,51 +172,24 @@ module _ (text ids slots ranks : List ℕ) (p : Plan) where
         }
       where
         all : itemsAfter 0 0 (k .before) ≡ itemsHere
-        all = ap (itemsAfter 0 0) (sym (k .left ∙ ap (λ (fs : List Fact). k .before ++ fs) (turned .none (sym e ∙ not-true found q) idsHere) ∙ append-nil (k .before)))
+        all = ap (itemsAfter 0 0) (passed-all text idsHere levels cells₀ spots t c (k .before) (k .passed) levels' cells spots' r turned found e q)
 
     module _ (q : not found ≡ false) where
-      is-tag : isMark (r .walk .mark) ≡ true
-      is-tag = sym e ∙ not-false found q
-
       pub walked-less : length text - r .walk .index < length text - t .walk .index
-      walked-less = let f = turned .further is-tag in let i = turned .turn-at is-tag .standing .within in omega arith
+      walked-less = passed-less text idsHere levels cells₀ spots t c (k .before) (k .passed) levels' cells spots' r turned found e q
 
       module _ (s d : ℕ) (si : s ≡ shapeIn (r .walk .mark)) (di : d ≡ elementIn (r .walk .mark)) where
-        clash : true ≡ false → ⊥
-        clash x = let z : _≡_ {A = ℕ} 0 1 = cc in omega arith
-
-        -- the mark ends a tag
-        with-tag : (A : Type 0) → ((a : ℕ) → r .walk .mark ≡ marks.Tagged a s d → A) → A
-        with-tag A f = by (r .walk .mark) refl
-          where
-            by : (m : Mark) → r .walk .mark ≡ m → A
-            by marks.Nothing g = absurd (clash (sym is-tag ∙ ap isMark g))
-            by (marks.Valued x w a b) g = absurd (clash (sym (ap isValueMark g) ∙ turned .no-value))
-            by (marks.Tagged a s' d') g =
-                f a (g ∙ ap (λ (x : ℕ). marks.Tagged a x d') (sym (si ∙ ap shapeIn g)) ∙ ap (λ (x : ℕ). marks.Tagged a s x) (sym (di ∙ ap elementIn g)))
-
         abbrev here : Said → List Fact
         here said = saidFacts idsHere d (turned .parts) said ++ endSaid (r .spot) s d
 
         split : (said : Said) → TagSaid cells (r .spot) s d said → factsLeft idsHere text levels spots t ≡ here said ++ factsLeft idsHere text levels' spots' r
-        split said of =
-            with-tag (factsLeft idsHere text levels spots t ≡ here said ++ factsLeft idsHere text levels' spots' r)
-            (λ a g.
-            turned .more idsHere a s d g ∙
-            ap (λ (fs : List Fact). fs ++ factsLeft idsHere text levels' spots' r)
-            (of .is idsHere (t .rows) (t .transitions) a (turned .parts) (turned .stated .there 29 (omega arith) (omega arith)) (turned .stated .there 30 (omega arith) (omega arith))))
+        split said of = passed-split text idsHere levels cells₀ spots t c (k .before) (k .passed) levels' cells spots' r turned found e q s d si di said of
 
-        abbrev tagHere : ℕ → Markup
-        tagHere a = record { at = a; shape = shapeOf s; element = d; parts = turned .parts }
+        further : t .walk .index < r .walk .index
+        further = passed-further text idsHere levels cells₀ spots t c (k .before) (k .passed) levels' cells spots' r turned found e q
 
-        clean-tags : (a : ℕ) → r .walk .mark ≡ marks.Tagged a s d → flat (tagFaults idsHere) (tagHere a ∷ tagsLeft text levels' (r .walk)) ≡ []
-        clean-tags a g = ap (flat (tagFaults idsHere)) (sym (turned .tags a s d g)) ∙ k .clean
-
-        clean-here : flat (partFaults idsHere) (turned .parts) ≡ []
-        clean-here = with-tag (flat (partFaults idsHere) (turned .parts) ≡ []) (λ a g. clean-parts idsHere (tagHere a) (tagsLeft text levels' (r .walk)) (clean-tags a g))
-
-        clean-next : flat (tagFaults idsHere) (tagsLeft text levels' (r .walk)) ≡ []
-        clean-next = with-tag (flat (tagFaults idsHere) (tagsLeft text levels' (r .walk)) ≡ []) (λ a g. clean-rest idsHere (tagHere a) (tagsLeft text levels' (r .walk)) (clean-tags a g))
+        within : r .walk .index ≤ length text
+        within = passed-within text idsHere levels cells₀ spots t c (k .before) (k .passed) levels' cells spots' r turned found e q
 
         abbrev more : Said → List Item
         more said = itemsAfter (c .rows) (c .transitions) (here said)
@@ -242,8 +201,8 @@ module _ (text ids slots ranks : List ℕ) (p : Plan) where
         behind : (fs : List Fact) → itemsAfter 0 0 (k .before ++ fs) ≡ itemsAfter 0 0 (k .before) ++ itemsAfter (c .rows) (c .transitions) fs
         behind fs =
             items-append slotsHere (p .rows) (p .transitions) ranks 0 0 (k .before) fs ∙
-            ap (λ (x : ℕ). itemsAfter 0 0 (k .before) ++ itemsAfter x (0 + transitionFacts (k .before)) fs) (zero-add (rowFacts (k .before)) ∙ sym (k .rows-are)) ∙
-            ap (λ (x : ℕ). itemsAfter 0 0 (k .before) ++ itemsAfter (c .rows) x fs) (zero-add (transitionFacts (k .before)) ∙ sym (k .transitions-are))
+            ap (λ (x : ℕ). itemsAfter 0 0 (k .before) ++ itemsAfter x (0 + transitionFacts (k .before)) fs) (zero-add (rowFacts (k .before)) ∙ sym (k .passed .rows-are)) ∙
+            ap (λ (x : ℕ). itemsAfter 0 0 (k .before) ++ itemsAfter (c .rows) x fs) (zero-add (transitionFacts (k .before)) ∙ sym (k .passed .transitions-are))
 
         module _ (said : Said) (of : TagSaid cells (r .spot) s d said) where
           all-items : itemsHere ≡
@@ -251,14 +210,14 @@ module _ (text ids slots ranks : List ℕ) (p : Plan) where
               itemsAfter (c .rows + rowFacts (here said)) (c .transitions + transitionFacts (here said)) (factsLeft idsHere text levels' spots' r)
           all-items =
               let rest = itemsAfter (c .rows + rowFacts (here said)) (c .transitions + transitionFacts (here said)) (factsLeft idsHere text levels' spots' r) in
-              ap (itemsAfter 0 0) (k .left ∙ ap (λ (fs : List Fact). k .before ++ fs) (split said of)) ∙ behind (here said ++ factsLeft idsHere text levels' spots' r) ∙
+              ap (itemsAfter 0 0) (k .passed .left ∙ ap (λ (fs : List Fact). k .before ++ fs) (split said of)) ∙ behind (here said ++ factsLeft idsHere text levels' spots' r) ∙
               ap (λ (l : List Item). itemsAfter 0 0 (k .before) ++ l)
               (items-append slotsHere (p .rows) (p .transitions) ranks (c .rows) (c .transitions) (here said) (factsLeft idsHere text levels' spots' r)) ∙
               sym (append-assoc (itemsAfter 0 0 (k .before)) (more said) rest)
 
           awaits : Awaits (binCount (p .rows) (p .transitions)) (p .fill) (countsOf itemsHere) (itemsAfter 0 0 (k .before)) (more said)
           awaits =
-              let f = turned .further is-tag in let i = turned .turn-at is-tag .standing .within in let u = k .at .standing .short in let w = k .few in
+              let f = further in let i = within in let u = k .passed .at .standing .short in let w = k .few in
               let m = tag-few text cells (turned .parts) (turned .stated) u idsHere slotsHere (p .rows) (p .transitions) ranks d (c .rows) (c .transitions) (r .spot) s said in
               record { few = omega arith; fits = λ z b l. fits b }
             where
@@ -274,19 +233,18 @@ module _ (text ids slots ranks : List ℕ) (p : Plan) where
 
         pub walked-room : TagRoom text cells ids slots ranks out next p (record { spot = r .spot; shape = s; element = d; counts = c })
         walked-room =
-            let f = turned .further is-tag in let i = turned .turn-at is-tag .standing .within in let u = k .at .standing .short in let a = k .rows-few in let b = k .transitions-few in
             record {
               act =
                   record {
-                    short = u;
+                    short = k .passed .at .standing .short;
                     ids-noted = k .named .ids-noted;
                     slots-noted = k .named .slots-noted;
                     parts = turned .parts;
                     stated = turned .stated;
-                    clean = clean-here;
+                    clean = passed-clean text idsHere levels cells₀ spots t c (k .before) (k .passed) levels' cells spots' r turned found e q s d si di;
                   };
               few = record { rows = k .named .rows-few; transitions = k .named .transitions-few };
-              counts-fit = record { rows-fit = omega arith; transitions-fit = omega arith };
+              counts-fit = passed-counts text idsHere levels cells₀ spots t c (k .before) (k .passed) levels' cells spots' r turned found e q;
               able = λ said of.
                   record { base = layBase (p .rows) (p .transitions); counts = countsOf itemsHere; items = itemsAfter 0 0 (k .before); filed = k .filed; awaits = awaits said of };
             }
@@ -294,28 +252,18 @@ module _ (text ids slots ranks : List ℕ) (p : Plan) where
         pub walked-more : (out' next' : List ℕ) (c' : Counts) →
             TagFiled text cells ids slots ranks out out' next next' p (record { spot = r .spot; shape = s; element = d; counts = c }) c' → Walked out₀ next₀ levels' cells spots' out' next' r c'
         walked-more out' next' c' f =
-            let further = turned .further is-tag in let a = k .rows-few in let b = k .transitions-few in let x = f .counted .rows-are in let y = f .counted .transitions-are in
-            let u = rows-by (f .said) in let v = transitions-by (f .said) in let w = k .few in
+            let more-far = further in let w = k .few in
             let fs = here (f .said) in
             let l = ap length (behind fs) in let m = length-append (itemsAfter 0 0 (k .before)) (more (f .said)) in
-            let few = tag-few text cells (turned .parts) (turned .stated) (k .at .standing .short) idsHere slotsHere (p .rows) (p .transitions) ranks d (c .rows) (c .transitions) (r .spot) s (f .said) in
+            let few =
+            tag-few text cells (turned .parts) (turned .stated) (k .passed .at .standing .short) idsHere slotsHere (p .rows) (p .transitions) ranks d (c .rows) (c .transitions) (r .spot) s (f .said) in
             let sized = f .filed (turned .parts) (turned .stated) in
             record {
               out-size = sized .out-size ∙ k .out-size;
               next-size = sized .next-size ∙ k .next-size;
-              at = turned .turn-at is-tag;
               named = k .named;
-              rows-few = omega arith;
-              transitions-few = omega arith;
               before = k .before ++ fs;
-              left = k .left ∙ ap (λ (gs : List Fact). k .before ++ gs) (split (f .said) (f .of)) ∙ sym (append-assoc (k .before) fs (factsLeft idsHere text levels' spots' r));
-              clean = clean-next;
-              rows-are =
-                  f .counted .rows-are ∙ ap (λ (z : ℕ). z + rowsSaid (f .said)) (k .rows-are) ∙
-                  ap (λ (z : ℕ). rowFacts (k .before) + z) (sym (said-rows idsHere (r .spot) s d (turned .parts) (f .said))) ∙ sym (row-facts-append (k .before) fs);
-              transitions-are =
-                  f .counted .transitions-are ∙ ap (λ (z : ℕ). z + length (sourcesSaid (f .said))) (k .transitions-are) ∙
-                  ap (λ (z : ℕ). transitionFacts (k .before) + z) (sym (said-transitions idsHere (r .spot) s d (turned .parts) (f .said))) ∙ sym (transition-facts-append (k .before) fs);
+              passed = passed-more text idsHere levels cells₀ spots t c (k .before) (k .passed) levels' cells spots' r turned found e q s d si di (f .said) (f .of) c' (f .counted);
               filed =
                   subst (λ (xs : List Item). Filed (binCount (p .rows) (p .transitions)) (layBase (p .rows) (p .transitions)) (p .fill) (countsOf itemsHere) out' next' xs) (sym (behind fs))
                   (f .filed (turned .parts) (turned .stated) .is (layBase (p .rows) (p .transitions)) (countsOf itemsHere) (itemsAfter 0 0 (k .before)) (k .filed) (awaits (f .said) (f .of)));

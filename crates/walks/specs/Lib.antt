@@ -3,6 +3,7 @@ pub mod Filed
 pub mod ItemWalk
 pub mod Keys
 pub mod Names
+pub mod Passed
 pub mod Plan
 pub mod Said
 pub mod Sources
