@@ -1,5 +1,5 @@
 -- The tables of a text laid in a work place: counted, held against rule 1, and filled.
-use mathlib.Core.Path.{_≡_, refl, sym, ap, subst, _∙_}
+use mathlib.Core.Path.{_≡_, refl, sym, ap, ap₂, subst, _∙_}
 use mathlib.Core.Bool.{Bool, true, false, not}
 use mathlib.Core.List.{List, []}
 use Prim.Native.Nat.{ℕ, zero, suc, _+_, _*_, _-_, _^_, _≤_, _<_}
@@ -167,16 +167,17 @@ module _ (text levels spots ids names ranks work next : List ℕ) (p : Plan) (r 
       size-fits : layBase (p .rows) (p .transitions) + startOf (countsIn next2) (bins (p .rows) (p .transitions)) ≤ 242950
       size-fits = within-size (countsIn next2) (p .rows) (p .transitions) (count-totals .few) (within-totals (countsIn next2) (p .rows) (p .transitions) (sym e ∙ not-false within q))
 
-      pub count-starts : StartRoom next2 (bins (p .rows) (p .transitions)) (layBase (p .rows) (p .transitions))
-      count-starts = let s = size-fits in record { there = tally .room; fits = omega arith }
+      pub count-starts : (base : ℕ) → base ≡ layBase (p .rows) (p .transitions) → StartRoom next2 (bins (p .rows) (p .transitions)) base
+      count-starts base b = let s = size-fits in record { there = tally .room; fits = omega arith }
 
-      pub count-begun : (next3 : List ℕ) (end s : ℕ) → Started next2 next3 (bins (p .rows) (p .transitions)) (layBase (p .rows) (p .transitions)) end → s ≡ end → CountedAs text ranks next3 p (Size s)
-      count-begun next3 end s g i =
+      pub count-begun : (base : ℕ) → base ≡ layBase (p .rows) (p .transitions) → (next3 : List ℕ) (end s : ℕ) → Started next2 next3 (bins (p .rows) (p .transitions)) base end → s ≡ end →
+          CountedAs text ranks next3 p (Size s)
+      count-begun base b next3 end s g i =
           record {
             is =
                 record {
-                  starts-are = λ k h. g .starts-are k h ∙ ap (λ (x : ℕ). layBase (p .rows) (p .transitions) + x) (same k (omega arith));
-                  total = i ∙ g .total ∙ ap (λ (x : ℕ). layBase (p .rows) (p .transitions) + x) (same (bins (p .rows) (p .transitions)) (omega arith));
+                  starts-are = λ k h. g .starts-are k h ∙ ap₂ (λ (y x : ℕ). y + x) b (same k (omega arith));
+                  total = i ∙ g .total ∙ ap₂ (λ (y x : ℕ). y + x) b (same (bins (p .rows) (p .transitions)) (omega arith));
                   fits = let u = size-fits in let v = g .total in omega arith;
                 };
           }
