@@ -325,3 +325,32 @@ module _ (text levels spots ids names ranks work next : List ℕ) (p : Plan) (r 
                   tables-are = tables-are (slotsOf (tagsOf text)) n t (countsOf items) work2 next1 items content filled (p .slots) work3 c e;
                 };
           }
+
+-- ---- both
+
+abbrev pub LaidCase : List ℕ → List ℕ → Laid → Type 0
+LaidCase text work Many = Oversize text
+LaidCase text work (Size s) = TablesIn text work s
+
+pub record LaidAs (text work : List ℕ) (r : Laid) : Type 0 where
+  pub is : LaidCase text work r
+
+module _ (text ranks next1 : List ℕ) (p : Plan) (counted : Laid) (c : CountedAs text ranks next1 p counted) where
+  pub laid-many : (work : List ℕ) → counted ≡ Many → LaidAs text work Many
+  laid-many work e = let k = subst (CountedAs text ranks next1 p) e c in record { is = k .is }
+
+  module _ (s : ℕ) (e : counted ≡ Size s) where
+    pub laid-ready : (levels spots ids names work next levels1 spots1 work1 : List ℕ) → FillRoom text levels spots ids names ranks work next p →
+        length levels1 ≡ length levels → length spots1 ≡ length spots → length work1 ≡ length work → length next1 ≡ length next → FillReady text levels1 spots1 ids names ranks work1 next1 p
+    laid-ready levels spots ids names work next levels1 spots1 work1 r a b d f =
+        let k = subst (CountedAs text ranks next1 p) e c in
+        record {
+          room = record { deep = a ∙ r .deep; spots-room = b ∙ r .spots-room; work-room = d ∙ r .work-room; next-room = f ∙ r .next-room; planned = r .planned };
+          size = s;
+          begun = k .is;
+        }
+
+    pub laid-done : (work2 : List ℕ) → FilledAs text ranks work2 p → LaidAs text work2 (Size s)
+    laid-done work2 w =
+        let k = subst (CountedAs text ranks next1 p) e c in
+        record { is = subst (TablesIn text work2) (sym (k .is .total)) (w .is) }
