@@ -1,5 +1,6 @@
 pub mod Acts
 pub mod Filed
+pub mod HeadCells
 pub mod ItemWalk
 pub mod Keys
 pub mod Names

@@ -2,6 +2,7 @@
 // counts the cells of the tables' lists and blocks or lays them out, one lays the cells that only a row's or a transition's tag knows.
 pub mod acts;
 pub mod filed;
+pub mod head_cells;
 pub mod item_walk;
 pub mod keys;
 pub mod name_items;

@@ -1,0 +1,85 @@
+-- The cells of a row and of a transition that only its tag knows.
+use mathlib.Core.Path.{_≡_, refl, sym, ap, subst, _∙_}
+use mathlib.Core.Bool.{Bool, true, false, not, _&&_, cond}
+use mathlib.Core.List.{List, [], _∷_}
+use Prim.Native.Nat.{ℕ, zero, suc, _+_, _-_, _≤_, _<_}
+use native.Mathlib.Omega.{arith}
+use lib.Dec.{eqb}
+use lib.ListN.{length, getD, take, drop, length-drop}
+use lib.Seq.{length-take-le}
+use borrow.Author.Tests.{not-true, not-false}
+use Rattle.definition.specs.Rows.{same, isEmpty}
+use Rattle.reading.specs.Faults.{plain, deep, internal}
+use Rattle.reading.specs.Content.{placeOf, rowIn}
+use Rattle.reading.specs.Layout.{idCell}
+use Rattle.marks.specs.Grouped.{bytesFrom}
+use Rattle.tags.specs.Cells.{statedIn, fromIn, toIn}
+use Rattle.values.specs.Ids.{idsFrom}
+use Rattle.walks.specs.Told.{valueAt, PlaceRoom}
+
+module _ (text cells : List ℕ) (w from to : ℕ) (a : from ≡ fromIn cells w) (b : to ≡ toIn cells w) where
+  part-is : take (to - from) (drop from text) ≡ valueAt text cells w
+  part-is = ap (λ (i : ℕ). take (to - i) (drop i text)) a ∙ ap (λ (j : ℕ). bytesFrom text (fromIn cells w) j) b
+
+-- ---- the kind
+
+module _ (text cells : List ℕ) (e from to : ℕ) (a : from ≡ fromIn cells 28) (b : to ≡ toIn cells 28) (z : Bool) (is : z ≡ same (plain (take (to - from) (drop from text))) deep) where
+  deep-is : z ≡ same (plain (valueAt text cells 28)) deep
+  deep-is = is ∙ ap (λ (v : List ℕ). same (plain v) deep) (part-is text cells 28 from to a b)
+
+  pub kind-deep : (eqb e 4 && z) ≡ true → 5 ≡ cond (eqb e 4 && same (plain (valueAt text cells 28)) deep) 5 e
+  kind-deep q = ap (λ (y : Bool). cond y 5 e) (sym q) ∙ ap (λ (y : Bool). cond (eqb e 4 && y) 5 e) deep-is
+
+  pub kind-own : (r : ℕ) → (eqb e 4 && z) ≡ false → r ≡ e → r ≡ cond (eqb e 4 && same (plain (valueAt text cells 28)) deep) 5 e
+  kind-own r q p = p ∙ ap (λ (y : Bool). cond y 5 e) (sym q) ∙ ap (λ (y : Bool). cond (eqb e 4 && y) 5 e) deep-is
+
+-- ---- the id
+
+module _ (text cells slots : List ℕ) (n : ℕ) (h : PlaceRoom text cells slots n 26) (from to : ℕ) (a : from ≡ fromIn cells 26) (b : to ≡ toIn cells 26) where
+  long : length (valueAt text cells 26) ≡ toIn cells 26 - fromIn cells 26
+  long =
+      let i = h .word .inside in
+      let d : length (drop (fromIn cells 26) text) ≡ length text - fromIn cells 26 = length-drop (fromIn cells 26) text in
+      length-take-le (toIn cells 26 - fromIn cells 26) (drop (fromIn cells 26) text) (omega arith)
+
+  none-empty : (v : List ℕ) → length v ≡ 0 → isEmpty v ≡ true
+  unfolding isEmpty
+  none-empty [] q = refl
+  none-empty (x ∷ xs) q = absurd (omega arith)
+
+  some-empty : (v : List ℕ) → 0 < length v → isEmpty v ≡ false
+  unfolding isEmpty
+  some-empty [] q = absurd (omega arith)
+  some-empty (x ∷ xs) q = refl
+
+  pub id-none : to ≤ from → 65535 ≡ idCell (idsFrom text slots n 0) (valueAt text cells 26)
+  id-none q =
+      let l = long in
+      ap (λ (y : Bool). cond y 65535 (placeOf (valueAt text cells 26) (idsFrom text slots n 0))) (sym (none-empty (valueAt text cells 26) (omega arith)))
+
+  pub id-some : (r : ℕ) → from < to → r ≡ placeOf (valueAt text cells 26) (idsFrom text slots n 0) → r ≡ idCell (idsFrom text slots n 0) (valueAt text cells 26)
+  id-some r q p =
+      let l = long in
+      p ∙ ap (λ (y : Bool). cond y 65535 (placeOf (valueAt text cells 26) (idsFrom text slots n 0))) (sym (some-empty (valueAt text cells 26) (omega arith)))
+
+-- ---- the condition
+
+module _ (text cells ids : List ℕ) (n : ℕ) (stated : Bool) (is : stated ≡ statedIn cells 30) where
+  pub condition-none : not stated ≡ true → 65535 ≡ cond (statedIn cells 30) (rowIn (idsFrom text ids n 0) (valueAt text cells 30)) 65535
+  condition-none q = ap (λ (z : Bool). cond z (rowIn (idsFrom text ids n 0) (valueAt text cells 30)) 65535) (sym (sym is ∙ not-true stated q))
+
+  pub condition-some : (r : ℕ) → not stated ≡ false → r ≡ rowIn (idsFrom text ids n 0) (valueAt text cells 30) →
+      r ≡ cond (statedIn cells 30) (rowIn (idsFrom text ids n 0) (valueAt text cells 30)) 65535
+  condition-some r q p = p ∙ ap (λ (z : Bool). cond z (rowIn (idsFrom text ids n 0) (valueAt text cells 30)) 65535) (sym (sym is ∙ not-false stated q))
+
+-- ---- internal
+
+module _ (text cells : List ℕ) (from to : ℕ) (a : from ≡ fromIn cells 28) (b : to ≡ toIn cells 28) (z : Bool) (is : z ≡ same (plain (take (to - from) (drop from text))) internal) where
+  internal-is : z ≡ same (plain (valueAt text cells 28)) internal
+  internal-is = is ∙ ap (λ (v : List ℕ). same (plain v) internal) (part-is text cells 28 from to a b)
+
+  pub internal-so : z ≡ true → _≡_ {A = ℕ} 1 (cond (same (plain (valueAt text cells 28)) internal) 1 0)
+  internal-so q = ap (λ (y : Bool). cond {A = ℕ} y 1 0) (sym q ∙ internal-is)
+
+  pub external-so : z ≡ false → _≡_ {A = ℕ} 0 (cond (same (plain (valueAt text cells 28)) internal) 1 0)
+  external-so q = ap (λ (y : Bool). cond {A = ℕ} y 1 0) (sym q ∙ internal-is)
