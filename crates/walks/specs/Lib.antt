@@ -1,6 +1,7 @@
 pub mod Acts
 pub mod Filed
 pub mod HeadCells
+pub mod Heads
 pub mod ItemWalk
 pub mod Keys
 pub mod Names

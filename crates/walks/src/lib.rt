@@ -3,6 +3,7 @@
 pub mod acts;
 pub mod filed;
 pub mod head_cells;
+pub mod heads;
 pub mod item_walk;
 pub mod keys;
 pub mod name_items;
