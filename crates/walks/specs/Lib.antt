@@ -1,6 +1,8 @@
 pub mod Acts
 pub mod Filed
 pub mod HeadCells
+pub mod HeadWalk
+pub mod Headed
 pub mod Heads
 pub mod ItemWalk
 pub mod Keys
