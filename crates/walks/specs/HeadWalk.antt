@@ -114,7 +114,6 @@ module _ (text ids slots ranks : List ℕ) (p : Plan) where
 
   module _ (out₀ levels cells₀ spots out : List ℕ) (t : Turning) (c : Counts) (k : Heading out₀ levels cells₀ spots out t c) (levels' cells spots' : List ℕ) (r : Turning)
       (turned : NextTurn text levels levels' cells spots spots' t r) (found : Bool) (e : found ≡ isMark (r .walk .mark)) where
-
     pub heading-end : length levels' ≡ length levels → length spots' ≡ length spots → not found ≡ true → HeadsLaid text levels' spots' ranks out₀ out p
     heading-end ll ls q =
         record {
@@ -138,20 +137,22 @@ module _ (text ids slots ranks : List ℕ) (p : Plan) where
       module _ (s d : ℕ) (si : s ≡ shapeIn (r .walk .mark)) (di : d ≡ elementIn (r .walk .mark)) where
         pub heading-room : TagHeadRoom text cells ids slots out p × CountRoom c
         heading-room =
-            let z = k .size in let b = k .room in
-            (record {
-              act =
-                  record {
-                    short = k .passed .at .standing .short;
-                    ids-noted = k .named .ids-noted;
-                    slots-noted = k .named .slots-noted;
-                    parts = turned .parts;
-                    stated = turned .stated;
-                    clean = passed-clean text idsHere levels cells₀ spots t c (k .before) (k .passed) levels' cells spots' r turned found e q s d si di;
-                  };
-              few = record { rows = k .named .rows-few; transitions = k .named .transitions-few };
-              room = omega arith;
-            }, passed-counts text idsHere levels cells₀ spots t c (k .before) (k .passed) levels' cells spots' r turned found e q)
+            let z = k .size in let b = k .room in (
+              record {
+                act =
+                    record {
+                      short = k .passed .at .standing .short;
+                      ids-noted = k .named .ids-noted;
+                      slots-noted = k .named .slots-noted;
+                      parts = turned .parts;
+                      stated = turned .stated;
+                      clean = passed-clean text idsHere levels cells₀ spots t c (k .before) (k .passed) levels' cells spots' r turned found e q s d si di;
+                    };
+                few = record { rows = k .named .rows-few; transitions = k .named .transitions-few };
+                room = omega arith;
+              },
+              passed-counts text idsHere levels cells₀ spots t c (k .before) (k .passed) levels' cells spots' r turned found e q,
+            )
 
         pub heading-more : (out' : List ℕ) (c' : Counts) → TagLaid text cells ids slots ranks out out' p (record { spot = r .spot; shape = s; element = d; counts = c }) c' →
             Heading out₀ levels' cells spots' out' r c'
