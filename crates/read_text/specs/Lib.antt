@@ -3,3 +3,4 @@ pub mod Hand
 pub mod Number
 pub mod Survey
 pub mod Fill
+pub mod Whole

@@ -2,7 +2,7 @@
 use mathlib.Core.List.{List}
 use Prim.Native.Nat.{ℕ}
 use Rattle.reading.specs.Calls.{Outcome}
-use Rattle.read_text.specs.declared.Read.{Read}
+use Rattle.read_text.specs.declared.hand_out.Read.{Read}
 
 abbrev pub refused : ℕ → ℕ → Read
 refused a at = record { answer = a; offset = at; cells = 0; bytes = 0 }

@@ -2,11 +2,11 @@
 ghost use mathlib.Core.Path.{_≡_};
 ghost use Prim.Native.Nat.{_<_};
 ghost use Rattle.read_text.specs.Fill.{FillRoom, CountedAs, FillReady, FilledAs, LaidAs};
-ghost use Rattle.walks.specs.Plan.{HeadRoom, HeadsLaid};
 use bins::starts;
 use cells::lay_cells;
 use cells::totals::is_within;
 use items::clear;
+use walks::heads::lay_heads;
 use walks::item_walk::file_items;
 use walks::plan::Plan;
 
@@ -63,12 +63,6 @@ fn count_tables(
     let base = narrow(6 + n * 11 + t * 9);
     let end = starts(next, bins, base);
     Laid::Size(wide(end))
-}
-
-fn lay_heads(text: &[u8], levels: &mut [u8], spots: &mut [u16], ids: &[u16], slots: &[u16], ranks: &[u16], out: &mut [u64], p: Plan)
-    requires { ⌜ HeadRoom (now text) (now levels) (now spots) (now ids) (now slots) (now ranks) (now out) p ⌝ }
-    ensures { λ _. ⌜ HeadsLaid (now (text .entry)) (now (levels .exit)) (now (spots .exit)) (now (ranks .entry)) (now (out .entry)) (now (out .exit)) p ⌝ }
-{
 }
 
 // All cells at their places.

@@ -3,12 +3,19 @@ ghost use mathlib.Core.Path.{_≡_};
 ghost use Rattle.reading.specs.Calls.{callOf};
 ghost use Rattle.read_text.specs.Outcome.{refused, outcomeOf};
 ghost use Rattle.read_text.specs.Hand.{HandRoom};
-use crate::Read;
 use answers::answer_number;
 use lay::copy_bytes;
 use lay::copy_numbers;
 use lay::name_slots::lay_names;
 use rules::keeps_rules;
+
+// The answer, the offset of a fault, and how many numbers and bytes the tables have.
+pub struct Read {
+    pub answer: u32,
+    pub offset: usize,
+    pub cells: usize,
+    pub bytes: usize,
+}
 
 // A refusal leaves the places as they were.
 pub fn refusal(answer: u32, offset: usize) -> Read
