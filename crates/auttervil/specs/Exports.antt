@@ -23,6 +23,8 @@ use Rattle.lent.specs.declared.StartedIn.{StartedIn}
 use Rattle.lent.specs.declared.RanIn.{RanIn}
 use Rattle.lent.specs.declared.Stepped.{Stepped}
 use Rattle.lent.specs.Places.{startedIn, ranIn, steppedIn, Steps}
+use Rattle.reading.specs.Calls.{Outcome}
+use Rattle.auttervil.specs.declared.ReadResult.{ReadResult}
 use Rattle.auttervil.specs.declared.StartResult.{StartResult}
 use Rattle.auttervil.specs.declared.RunResult.{RunResult}
 use Rattle.auttervil.specs.declared.StepResult.{StepResult}
@@ -96,3 +98,8 @@ steps-to first chart names name rounds old s q n m trace h e g = record {
   answered = e ∙ ap answerNo (h .answered);
   ran = runs-to _ _ old s (record { status = q .status; rounds = q .rounds; count = q .count }) m trace (h .ran, h .written) g;
 }
+
+-- ---- reading a text: the result with both places behind the call
+
+abbrev pub readOutcome : ReadResult → List ℕ → List ℕ → Outcome
+readOutcome r place namePlace = record { answer = r .answer; offset = r .offset; cells = r .cells; bytes = r .bytes; numbers = place; names = namePlace }

@@ -13,7 +13,8 @@ ghost use Rattle.room.specs.Room.{roomOf};
 ghost use Rattle.session.specs.Sessions.{postOf, runOf, runEffects};
 ghost use Rattle.lent.specs.Places.{sessionIn, lengthsFit, startIn, startInEffects};
 ghost use Rattle.calls.specs.Performing.{Performs, callsIn};
-ghost use Rattle.auttervil.specs.Exports.{CompilesTo, chartAnswer, StartsTo, PostsTo, RunsTo, StepsTo};
+ghost use Rattle.read_text.specs.Whole.{placesFit, readWith};
+ghost use Rattle.auttervil.specs.Exports.{CompilesTo, chartAnswer, StartsTo, PostsTo, RunsTo, StepsTo, readOutcome};
 use definition::Answer;
 
 // The number of this ABI: it stands in the name of every function too, so that an archive of another one does not link.
@@ -236,4 +237,55 @@ pub extern "C" fn auttervil_raw2_perform(
         results,
         trace,
     )
+}
+
+// ---- reading a text
+
+// How many numbers and bytes the tables have; the offset is that of the first fault.
+#[repr(C)]
+pub struct ReadResult {
+    pub answer: u32,
+    pub offset: usize,
+    pub cells: usize,
+    pub bytes: usize,
+}
+
+// SCXML text into tables (R-1): 0 and the tables at the beginning of both places, or 12, 1 to 5 and both as they were. The other six are work places: 242,950 numbers and 49,152
+// bytes for the tables, 65,536 numbers for ids, 65,540 for the spots that tags stand in, 32,768 each for the sources and the numbers of transitions. What they hold counts for
+// nothing and is lost; work places of other lengths are answered by 199, and nothing is written.
+#[no_mangle]
+pub extern "C" fn auttervil_raw2_read(
+    text: &[u8],
+    place: &mut [u64],
+    name_place: &mut [u8],
+    work: &mut [u64],
+    name_work: &mut [u8],
+    ids: &mut [u16],
+    spots: &mut [u16],
+    noted: &mut [u16],
+    ranks: &mut [u16],
+) -> ReadResult
+    ensures { λ r. ⌜ readOutcome r (now (place .exit)) (now («name_place» .exit)) ≡ readWith (placesFit (length (now (work .entry))) (length (now («name_work» .entry))) (length (now (ids .entry))) (length (now (spots .entry))) (length (now (noted .entry))) (length (now (ranks .entry)))) (now (text .entry)) (now (place .entry)) (now («name_place» .entry)) ⌝ }
+{
+    let read = read_text::read_with(
+        text,
+        place,
+        name_place,
+        work,
+        name_work,
+        ids,
+        spots,
+        noted,
+        ranks,
+    );
+    let answer = read.answer;
+    let offset = read.offset;
+    let cells = read.cells;
+    let bytes = read.bytes;
+    ReadResult {
+        answer: answer,
+        offset: offset,
+        cells: cells,
+        bytes: bytes,
+    }
 }
