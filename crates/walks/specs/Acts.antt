@@ -2,16 +2,15 @@
 use mathlib.Core.Path.{_≡_, refl, sym, ap, subst, _∙_}
 use mathlib.Core.Bool.{Bool, true, false, cond}
 use mathlib.Core.List.{List, [], _∷_, _++_}
-use mathlib.Core.Option.{Option, none, some}
-use Prim.Native.Nat.{ℕ, zero, suc, _+_, _≤_, _<_}
+use mathlib.Core.Option.{none, some}
+use Prim.Native.Nat.{ℕ, _≤_}
 use native.Mathlib.Omega.{arith}
-use lib.Dec.{eqb}
 use lib.ListN.{length}
 use borrow.Author.Tests.{ne-eqb}
 use Rattle.definition.specs.Rows.{flat}
 use Rattle.reading.specs.Tags.{Part}
-use Rattle.reading.specs.Faults.{plain, decimal, partFaults, states, valueOf, idWord, eventWord, condWord, labelWord, delayWord, sendidWord}
-use Rattle.reading.specs.Content.{Act, raises, hosts, ifIn, elseifIn, otherwise, sends, cancels, placeOf, rowIn, actIn}
+use Rattle.reading.specs.Faults.{plain, decimal, partFaults, states, valueOf, idWord, eventWord, delayWord}
+use Rattle.reading.specs.Content.{sends, placeOf, rowIn, actIn}
 use Rattle.reading.specs.Layout.{actCells}
 use Rattle.tags.specs.Cells.{statedIn, Stated}
 use Rattle.values.specs.Ids.{idsFrom, Noted}

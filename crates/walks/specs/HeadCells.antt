@@ -1,31 +1,26 @@
 -- The cells of a row and of a transition that only its tag knows.
-use mathlib.Core.Path.{_≡_, refl, sym, ap, subst, _∙_}
+use mathlib.Core.Path.{_≡_, refl, sym, ap, _∙_}
 use mathlib.Core.Bool.{Bool, true, false, not, _&&_, cond}
 use mathlib.Core.List.{List, [], _∷_}
-use Prim.Native.Nat.{ℕ, zero, suc, _+_, _-_, _≤_, _<_}
+use Prim.Native.Nat.{ℕ, _-_, _≤_, _<_}
 use native.Mathlib.Omega.{arith}
 use lib.Dec.{eqb}
-use lib.ListN.{length, getD, take, drop, length-drop}
+use lib.ListN.{length, take, drop, length-drop}
 use lib.Seq.{length-take-le}
 use borrow.Author.Tests.{not-true, not-false}
 use Rattle.definition.specs.Rows.{same, isEmpty}
 use Rattle.reading.specs.Faults.{plain, deep, internal}
 use Rattle.reading.specs.Content.{placeOf, rowIn}
 use Rattle.reading.specs.Layout.{idCell}
-use Rattle.marks.specs.Grouped.{bytesFrom}
 use Rattle.tags.specs.Cells.{statedIn, fromIn, toIn}
 use Rattle.values.specs.Ids.{idsFrom}
-use Rattle.walks.specs.Told.{valueAt, PlaceRoom}
-
-module _ (text cells : List ℕ) (w from to : ℕ) (a : from ≡ fromIn cells w) (b : to ≡ toIn cells w) where
-  part-is : take (to - from) (drop from text) ≡ valueAt text cells w
-  part-is = ap (λ (i : ℕ). take (to - i) (drop i text)) a ∙ ap (λ (j : ℕ). bytesFrom text (fromIn cells w) j) b
+use Rattle.walks.specs.Told.{valueAt, part-at, PlaceRoom}
 
 -- ---- the kind
 
 module _ (text cells : List ℕ) (e from to : ℕ) (a : from ≡ fromIn cells 28) (b : to ≡ toIn cells 28) (z : Bool) (is : z ≡ same (plain (take (to - from) (drop from text))) deep) where
   deep-is : z ≡ same (plain (valueAt text cells 28)) deep
-  deep-is = is ∙ ap (λ (v : List ℕ). same (plain v) deep) (part-is text cells 28 from to a b)
+  deep-is = is ∙ ap (λ (v : List ℕ). same (plain v) deep) (part-at text cells 28 from to a b)
 
   pub kind-deep : (eqb e 4 && z) ≡ true → 5 ≡ cond (eqb e 4 && same (plain (valueAt text cells 28)) deep) 5 e
   kind-deep q = ap (λ (y : Bool). cond y 5 e) (sym q) ∙ ap (λ (y : Bool). cond (eqb e 4 && y) 5 e) deep-is
@@ -76,7 +71,7 @@ module _ (text cells ids : List ℕ) (n : ℕ) (stated : Bool) (is : stated ≡ 
 
 module _ (text cells : List ℕ) (from to : ℕ) (a : from ≡ fromIn cells 28) (b : to ≡ toIn cells 28) (z : Bool) (is : z ≡ same (plain (take (to - from) (drop from text))) internal) where
   internal-is : z ≡ same (plain (valueAt text cells 28)) internal
-  internal-is = is ∙ ap (λ (v : List ℕ). same (plain v) internal) (part-is text cells 28 from to a b)
+  internal-is = is ∙ ap (λ (v : List ℕ). same (plain v) internal) (part-at text cells 28 from to a b)
 
   pub internal-so : z ≡ true → _≡_ {A = ℕ} 1 (cond (same (plain (valueAt text cells 28)) internal) 1 0)
   internal-so q = ap (λ (y : Bool). cond {A = ℕ} y 1 0) (sym q ∙ internal-is)

@@ -1,14 +1,13 @@
 -- The walk that lays the first cells of rows and transitions.
 use mathlib.Core.Path.{_≡_, refl, sym, ap, subst, _∙_}
 use mathlib.Core.Bool.{Bool, true, false, not}
-use mathlib.Core.List.{List, [], _∷_, _++_}
+use mathlib.Core.List.{List, [], _++_}
 use Prim.Native.Nat.{ℕ, _+_, _*_, _-_, _≤_, _<_}
 use native.Mathlib.Omega.{arith}
 use lib.ListN.{length, getD, drop}
 use Rattle.marks.specs.Marks.{isMark}
 use Rattle.reading.specs.Tags.{tagsOf}
-use Rattle.reading.specs.Faults.{idsOf}
-use Rattle.reading.specs.Content.{Fact, factsFrom, rowsFrom, slotsOf}
+use Rattle.reading.specs.Content.{Fact, factsFrom, slotsOf}
 use Rattle.turns.specs.declared.Turning.{Turning}
 use Rattle.turns.specs.Next.{NextTurn}
 use Rattle.facts.specs.Facts.{saidFacts}
@@ -16,13 +15,13 @@ use Rattle.facts.specs.Appended.{rowFacts, transitionFacts}
 use Rattle.values.specs.Ids.{idsFrom}
 use Rattle.items.specs.Items.{sourcesOf, Ranked}
 use Rattle.items.specs.Order.{transitionAt, sources-length}
-use Rattle.items.specs.Picked.{noRow}
 use Rattle.walks.specs.declared.plan.Plan.{Plan}
 use Rattle.walks.specs.declared.sources.Counts.{Counts}
 use Rattle.walks.specs.Said.{beginningTurn, endSaid}
 use Rattle.walks.specs.Passed.{Passed, passed-start, passed-all, passed-less, passed-counts, passed-clean, passed-more}
 use Rattle.walks.specs.Plan.{textFacts, layBase, Named, HeadRoom, RowHead, TransitionHead, HeadsLaid}
-use Rattle.walks.specs.Tags.{shapeIn, elementIn, CountRoom}
+use Rattle.walks.specs.Counts.{CountRoom}
+use Rattle.walks.specs.Tags.{shapeIn, elementIn}
 use Rattle.walks.specs.Heads.{headsFrom, heads-append, TagHeadRoom, TagLaid}
 use Rattle.walks.specs.Headed.{heads-behind, rows-at, transitions-at, ranks-distinct}
 

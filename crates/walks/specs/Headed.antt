@@ -12,8 +12,8 @@ use borrow.Author.Tests.{lt-ltb, ltb-true}
 use Rattle.reading.specs.Content.{Fact, rowFact, listFact, transitionFact, actionFact, Row, Transition, rowsFrom, transitionsFrom}
 use Rattle.reading.specs.Layout.{orNone, idCell}
 use Rattle.facts.specs.Appended.{rowFacts, transitionFacts}
-use Rattle.items.specs.Items.{sourcesOf, orderOf, Ranked}
-use Rattle.items.specs.Order.{noTransition, transitionAt, sources-length}
+use Rattle.items.specs.Items.{Ranked}
+use Rattle.items.specs.Order.{noTransition}
 use Rattle.items.specs.Picked.{noRow}
 use Rattle.items.specs.Ranks.{rank-only}
 use Rattle.walks.specs.Heads.{rowSet, transitionSet, factHead, headsFrom}

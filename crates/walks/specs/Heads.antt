@@ -1,17 +1,17 @@
 -- The first cells of rows and transitions, tag by tag.
-use mathlib.Core.Path.{_≡_, refl, sym, ap, subst, _∙_}
+use mathlib.Core.Path.{_≡_, refl, sym, ap, _∙_}
 use mathlib.Core.Bool.{Bool, true, false, _&&_, cond}
-use mathlib.Core.List.{List, [], _∷_, _++_, append-nil}
-use mathlib.Core.Option.{Option, none, some}
-use Prim.Native.Nat.{ℕ, zero, suc, _+_, _*_, _-_, _^_, _≤_, _<_}
+use mathlib.Core.List.{List, [], _∷_, _++_}
+use mathlib.Core.Option.{none, some}
+use Prim.Native.Nat.{ℕ, suc, _+_, _*_, _≤_, _<_}
 use native.Mathlib.Omega.{arith}
 use lib.Dec.{eqb, ltb}
 use lib.ListN.{length, getD, set, length-set}
-use borrow.Author.Tests.{lt-ltb, le-ltb, ltb-true}
-use Rattle.definition.specs.Rows.{flat, same}
+use borrow.Author.Tests.{lt-ltb, le-ltb}
+use Rattle.definition.specs.Rows.{same}
 use Rattle.reading.specs.Tags.{Part}
-use Rattle.reading.specs.Faults.{plain, deep, internal, partFaults, states, valueOf, idWord, typeWord, condWord, initialWord, targetWord, eventWord, namesIn}
-use Rattle.reading.specs.Content.{Block, Act, Fact, rowFact, listFact, transitionFact, actionFact, endIf, kindIn, conditionIn, rowIn, rowsIn, actIn}
+use Rattle.reading.specs.Faults.{plain, deep, internal, states, valueOf, idWord, typeWord, condWord}
+use Rattle.reading.specs.Content.{Block, Act, Fact, rowFact, listFact, transitionFact, actionFact, endIf, kindIn, conditionIn, rowIn}
 use Rattle.reading.specs.Layout.{orNone, idCell}
 use Rattle.tags.specs.Cells.{statedIn, Stated}
 use Rattle.turns.specs.declared.SpotCells.{SpotCells}
@@ -30,7 +30,7 @@ use Rattle.walks.specs.Told.{valueAt, value-at, word-room, WordRoom, Pla
 use Rattle.walks.specs.Acts.{ActRoom}
 use Rattle.walks.specs.Said.{endSaid, TagSaid}
 use Rattle.walks.specs.Plan.{layBase}
-use Rattle.walks.specs.Tags.{CountedBy}
+use Rattle.walks.specs.Counts.{CountedBy}
 
 -- ---- the cells that a fact sets
 
@@ -105,15 +105,6 @@ module _ (text cells ids slots out : List ℕ) (p : Plan) where
     head-cond = condition-room text cells ids (p .ids) (h .act .parts) (h .act .short) (h .act .stated) (h .act .clean) (h .act .ids-noted)
 
     module _ (i : ℕ) (l : i < p .rows) where
-      pub row-at-fits : i * 11 < 2 ^ 64
-      row-at-fits = let f = h .few .rows in omega arith
-
-      pub row-add-fits : 6 + i * 11 < 2 ^ 64
-      row-add-fits = let f = h .few .rows in omega arith
-
-      pub row-first : 6 + i * 11 < length out
-      row-first = let r = h .room in omega arith
-
       pub row-second : (x : ℕ) → 6 + i * 11 + 1 < length (set out (6 + i * 11) x)
       row-second x = let r = h .room in let s = length-set out (6 + i * 11) x in omega arith
 
@@ -122,12 +113,6 @@ module _ (text cells ids slots out : List ℕ) (p : Plan) where
           let r = h .room in let s = length-set out (6 + i * 11) x in let u = length-set (set out (6 + i * 11) x) (6 + i * 11 + 1) y in omega arith
 
     module _ (r : ℕ) (l : r < p .transitions) where
-      pub transition-add-fits : 6 + p .rows * 11 + r * 9 < 2 ^ 64
-      transition-add-fits = let f = h .few .rows in let g = h .few .transitions in omega arith
-
-      pub transition-first : 6 + p .rows * 11 + r * 9 < length out
-      transition-first = let b = h .room in omega arith
-
       pub transition-second : (x : ℕ) → 6 + p .rows * 11 + r * 9 + 3 < length (set out (6 + p .rows * 11 + r * 9) x)
       transition-second x = let b = h .room in let s = length-set out (6 + p .rows * 11 + r * 9) x in omega arith
 

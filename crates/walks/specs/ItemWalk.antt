@@ -1,44 +1,39 @@
 -- The walk that counts the items of a text or lays them out.
 use mathlib.Core.Path.{_≡_, refl, sym, ap, subst, _∙_}
 use mathlib.Core.Bool.{Bool, true, false, not, cond}
-use mathlib.Core.List.{List, [], _∷_, _++_, map, append-assoc, append-nil}
+use mathlib.Core.List.{List, [], _∷_, _++_, append-assoc}
 use mathlib.Core.Option.{none, some}
 use Prim.Native.Nat.{ℕ, zero, suc, _+_, _*_, _-_, _≤_, _<_}
 use native.Mathlib.Omega.{arith}
 use lib.ListN.{length, getD, take, drop, length-append, length-drop}
-use borrow.Author.Tests.{not-true, not-false}
-use Rattle.definition.specs.Rows.{flat}
-use Rattle.marks.specs.declared.Mark.{Mark}
 use Rattle.marks.specs.declared.Mark.the-variants as marks
 use Rattle.marks.specs.Marks.{isMark}
-use Rattle.marks.specs.Grouped.{shapeOf}
-use Rattle.reading.specs.Tags.{Part, Markup, tagsOf}
-use Rattle.reading.specs.Faults.{namesIn, valueOf, initialWord, targetWord, eventWord, partFaults, tagFaults}
+use Rattle.reading.specs.Tags.{Part, tagsOf}
+use Rattle.reading.specs.Faults.{namesIn, valueOf, initialWord, targetWord, eventWord}
 use Rattle.reading.specs.Content.{Fact, factsFrom, Act, raises, hosts, ifIn, elseifIn, otherwise, endIf, sends, cancels, actIn, slotsOf}
 use Rattle.reading.specs.Layout.{actCells}
-use Rattle.tags.specs.Cells.{isValueMark, longCell, fromIn, Stated}
+use Rattle.tags.specs.Cells.{longCell, fromIn, Stated}
 use Rattle.turns.specs.declared.SpotCells.{SpotCells}
 use Rattle.turns.specs.declared.Turning.{Turning}
-use Rattle.turns.specs.Next.{TurnAt, factsLeft, NextTurn}
+use Rattle.turns.specs.Next.{factsLeft, NextTurn}
 use Rattle.facts.specs.declared.Said.{Said}
 use Rattle.facts.specs.declared.Said.the-variants.{Nothing, Row, List as ListOf, Transition, Action}
 use Rattle.facts.specs.Facts.{partOf, saidFacts, ends}
 use Rattle.facts.specs.Appended.{rowFacts, transitionFacts}
 use Rattle.values.specs.Ids.{idsFrom}
 use Rattle.bins.specs.Binned.{Item, valuesOf, Binned}
-use Rattle.items.specs.Items.{under, binCount, keyOfBlock, itemsFrom, Tallied}
+use Rattle.items.specs.Items.{under, binCount, keyOfBlock, itemsFrom}
 use Rattle.items.specs.Values.{items-append, values-append}
 use Rattle.walks.specs.declared.plan.Plan.{Plan}
 use Rattle.walks.specs.declared.sources.Counts.{Counts}
-use Rattle.walks.specs.declared.item_walk.TagAt.{TagAt}
 use Rattle.walks.specs.Filed.{Filed, Awaits}
-use Rattle.walks.specs.Keys.{Few, keyOf, otherOf}
+use Rattle.walks.specs.Keys.{keyOf, otherOf}
 use Rattle.walks.specs.Names.{itemsBy, namesItems, names-few}
 use Rattle.walks.specs.Said.{beginningTurn, endSaid, TagSaid}
 use Rattle.walks.specs.Passed.{Passed, passed-start, passed-all, passed-further, passed-within, passed-less, passed-counts, passed-clean, passed-split, passed-more}
-use Rattle.walks.specs.Plan.{textFacts, textItems, countsOf, layBase, Named, FileRoom, FiledAll}
+use Rattle.walks.specs.Plan.{textItems, countsOf, layBase, Named, FileRoom, FiledAll}
 use Rattle.walks.specs.TagItems.{saidItems, endItems}
-use Rattle.walks.specs.Tags.{shapeIn, elementIn, tag-items, tagItems, TagRoom, TagFiled}
+use Rattle.walks.specs.Tags.{shapeIn, elementIn, tag-items, TagRoom, TagFiled}
 
 -- ---- a tag has no more than 65,540 items
 

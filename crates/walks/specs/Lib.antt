@@ -1,4 +1,5 @@
 pub mod Acts
+pub mod Counts
 pub mod Filed
 pub mod HeadCells
 pub mod HeadWalk

@@ -14,8 +14,6 @@ use Rattle.reading.specs.Content.{placeOf}
 use Rattle.values.specs.Ids.{idAt, idsFrom, Noted}
 use Rattle.values.specs.Items.{spread, spread-inside, first-item}
 use Rattle.bins.specs.Binned.{Item}
-use Rattle.items.specs.Items.{under}
-use Rattle.items.specs.Order.{map-append}
 use Rattle.walks.specs.declared.name_items.Filing.{Filing}
 use Rattle.walks.specs.Filed.{one, Fileable, FiledBy, filed-none, fileable-first, fileable-rest, filed-both}
 
@@ -109,11 +107,6 @@ module _ (text names : List ℕ) (n : ℕ) (name out next : List ℕ) (f : Filin
 unfoldable pub itemsBy : ℕ → ℕ → List (List ℕ) → List (List ℕ) → List Item
 itemsBy key shift names [] = []
 itemsBy key shift names (d ∷ ds) = record { key = key; value = numbered names shift d } ∷ itemsBy key shift names ds
-
-pub items-by : (key shift : ℕ) (names ds : List (List ℕ)) → itemsBy key shift names ds ≡ under key (map (numbered names shift) ds)
-unfolding itemsBy under
-items-by key shift names [] = refl
-items-by key shift names (d ∷ ds) = ap (λ (l : List Item). record { key = key; value = numbered names shift d } ∷ l) (items-by key shift names ds)
 
 by-snoc : (key shift : ℕ) (names ds : List (List ℕ)) (d : List ℕ) → itemsBy key shift names (ds ++ d ∷ []) ≡ itemsBy key shift names ds ++ one key (numbered names shift d)
 unfolding itemsBy

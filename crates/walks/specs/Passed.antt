@@ -1,5 +1,5 @@
 -- A walk over the tags of a text without faults: the facts that it has passed, and those of the next tag.
-use mathlib.Core.Path.{_≡_, refl, sym, ap, subst, _∙_}
+use mathlib.Core.Path.{_≡_, refl, sym, ap, _∙_}
 use mathlib.Core.Bool.{Bool, true, false, not}
 use mathlib.Core.List.{List, [], _∷_, _++_, append-assoc, append-nil}
 use mathlib.Core.Option.{none}
@@ -25,8 +25,8 @@ use Rattle.facts.specs.Appended.{rowFacts, transitionFacts, row-facts-append, t
 use Rattle.facts.specs.Clean.{clean-text, clean-parts, clean-rest}
 use Rattle.walks.specs.declared.sources.Counts.{Counts}
 use Rattle.walks.specs.Said.{beginningTurn, WalkRoom, begin-at, begin-left, endSaid, TagSaid}
-use Rattle.walks.specs.Sources.{rowsSaid, sourcesSaid, rows-by, transitions-by, said-rows, said-transitions}
-use Rattle.walks.specs.Tags.{shapeIn, elementIn, CountRoom, CountedBy}
+use Rattle.walks.specs.Counts.{rowsSaid, sourcesSaid, rows-by, transitions-by, said-rows, said-transitions, CountRoom, CountedBy}
+use Rattle.walks.specs.Tags.{shapeIn, elementIn}
 
 module _ (text : List ℕ) (ids : List (List ℕ)) where
   pub record Passed (levels cells spots : List ℕ) (t : Turning) (c : Counts) (before : List Fact) : Type 0 where

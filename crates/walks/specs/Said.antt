@@ -9,14 +9,14 @@ use lib.ListN.{length}
 use borrow.Author.Tests.{eqb-true, ne-eqb}
 use Rattle.marks.specs.Walks.{beginning, begin-stands}
 use Rattle.marks.specs.Grouped.{shapeOf}
-use Rattle.reading.specs.Tags.{Part, Markup, tagsOf}
+use Rattle.reading.specs.Tags.{Part, tagsOf}
 use Rattle.reading.specs.Faults.{eventWord, condWord, states}
-use Rattle.reading.specs.Content.{Block, Spot, Fact, actionFact, endIf, blockOf, endFacts, factsFrom, turn}
+use Rattle.reading.specs.Content.{Block, Spot, Fact, actionFact, endIf, endFacts, factsFrom, turn}
 use Rattle.tags.specs.Cells.{statedIn}
 use Rattle.tags.specs.Tags.{tags-begin}
 use Rattle.turns.specs.declared.SpotCells.{SpotCells}
 use Rattle.turns.specs.declared.Turning.{Turning}
-use Rattle.turns.specs.Spots.{spotAs, spotsIn, isPlain}
+use Rattle.turns.specs.Spots.{spotAs, spotsIn}
 use Rattle.turns.specs.Turns.{tagFacts}
 use Rattle.turns.specs.Next.{TurnAt, factsLeft}
 use Rattle.facts.specs.declared.Said.{Said}

@@ -1,8 +1,8 @@
 -- The sources of the transitions, tag by tag.
 use mathlib.Core.Path.{_≡_, refl, sym, ap, subst, _∙_}
-use mathlib.Core.Bool.{Bool, true, false, not, cond}
+use mathlib.Core.Bool.{Bool, true, false, not}
 use mathlib.Core.List.{List, [], _∷_, _++_, append-assoc, append-nil}
-use Prim.Native.Nat.{ℕ, zero, suc, _+_, _-_, _^_, _≤_, _<_}
+use Prim.Native.Nat.{ℕ, _+_, _-_, _≤_, _<_}
 use native.Mathlib.Omega.{arith}
 use native.Mathlib.Numerals.{add-one}
 use lib.ListN.{length, take, set, length-set}
@@ -11,203 +11,103 @@ use borrow.Author.Tests.{not-true, not-false}
 use Rattle.marks.specs.declared.Mark.{Mark}
 use Rattle.marks.specs.declared.Mark.the-variants as marks
 use Rattle.marks.specs.Marks.{isMark}
-use Rattle.marks.specs.Grouped.{shapeOf}
-use Rattle.reading.specs.Tags.{Part, tagsOf}
-use Rattle.reading.specs.Content.{Block, Act, endIf, Fact, rowFact, listFact, transitionFact, actionFact, factsFrom}
+use Rattle.reading.specs.Tags.{tagsOf}
+use Rattle.reading.specs.Content.{Fact, factsFrom}
 use Rattle.tags.specs.Cells.{isValueMark}
 use Rattle.turns.specs.declared.SpotCells.{SpotCells}
 use Rattle.turns.specs.declared.Turning.{Turning}
-use Rattle.turns.specs.Spots.{spotAs}
-use Rattle.turns.specs.Turns.{tagFacts}
 use Rattle.turns.specs.Next.{TurnAt, factsLeft, NextTurn}
 use Rattle.facts.specs.declared.Said.{Said}
 use Rattle.facts.specs.declared.Said.the-variants.{Nothing, Row, List as ListOf, Transition, Action}
-use Rattle.facts.specs.Facts.{partOf, saidFacts, numberIn, ends}
+use Rattle.facts.specs.Facts.{saidFacts, numberIn}
 use Rattle.facts.specs.Appended.{rowFacts, transitionFacts, row-facts-append, transition-facts-append}
 use Rattle.items.specs.Items.{sourcesOf}
 use Rattle.walks.specs.declared.sources.Counts.{Counts}
+use Rattle.walks.specs.Counts.{rowsSaid, sourcesSaid, rows-by, transitions-by, sources-append, said-rows, said-transitions, said-sources, CountRoom, CountedBy, counted-none}
 use Rattle.walks.specs.Said.{beginningTurn, WalkRoom, begin-at, begin-left, endSaid, TagSaid}
-
--- ---- what is said of rows and transitions
-
-abbrev pub rowsSaid : Said → ℕ
-rowsSaid Nothing = 0
-rowsSaid (Row q) = 1
-rowsSaid (ListOf i) = 0
-rowsSaid (Transition i) = 0
-rowsSaid (Action p i) = 0
-
-abbrev pub sourcesSaid : Said → List ℕ
-sourcesSaid Nothing = []
-sourcesSaid (Row q) = []
-sourcesSaid (ListOf i) = []
-sourcesSaid (Transition i) = i ∷ []
-sourcesSaid (Action p i) = []
-
-pub rows-by : (s : Said) → rowsSaid s ≤ 1
-rows-by Nothing = omega arith
-rows-by (Row q) = omega arith
-rows-by (ListOf i) = omega arith
-rows-by (Transition i) = omega arith
-rows-by (Action p i) = omega arith
-
-pub transitions-by : (s : Said) → length (sourcesSaid s) ≤ 1
-transitions-by Nothing = omega arith
-transitions-by (Row q) = omega arith
-transitions-by (ListOf i) = omega arith
-transitions-by (Transition i) = omega arith
-transitions-by (Action p i) = omega arith
-
-pub sources-append : (fs gs : List Fact) → sourcesOf (fs ++ gs) ≡ sourcesOf fs ++ sourcesOf gs
-unfolding sourcesOf
-sources-append [] gs = refl
-sources-append (rowFact k q n l ∷ fs) gs = sources-append fs gs
-sources-append (listFact j l ∷ fs) gs = sources-append fs gs
-sources-append (transitionFact s d c y g ∷ fs) gs = ap (λ (l : List ℕ). s ∷ l) (sources-append fs gs)
-sources-append (actionFact k a ∷ fs) gs = sources-append fs gs
-
--- an if's end says nothing of them
-module _ (k : Block) (a : Act) where
-  end-rows : (z : Bool) → rowFacts (cond z (actionFact k a ∷ []) []) ≡ 0
-  unfolding rowFacts
-  end-rows true = refl
-  end-rows false = refl
-
-  end-transitions : (z : Bool) → transitionFacts (cond z (actionFact k a ∷ []) []) ≡ 0
-  unfolding transitionFacts
-  end-transitions true = refl
-  end-transitions false = refl
-
-  end-sources : (z : Bool) → sourcesOf (cond z (actionFact k a ∷ []) []) ≡ []
-  unfolding sourcesOf
-  end-sources true = refl
-  end-sources false = refl
-
-module _ (ids : List (List ℕ)) (spot : SpotCells) (s e : ℕ) (ps : List Part) where
-  abbrev last : Block
-  last = record { part = partOf (spot .what); owner = spot .number }
-
-  plus : (n : ℕ) → n + 0 ≡ n
-  plus n = omega arith
-
-  pub said-rows : (r : Said) → rowFacts (saidFacts ids e ps r ++ endSaid spot s e) ≡ rowsSaid r
-  said-rows r =
-      row-facts-append (saidFacts ids e ps r) (endSaid spot s e) ∙ ap (λ (n : ℕ). rowFacts (saidFacts ids e ps r) + n) (end-rows last endIf (ends s e)) ∙
-      plus (rowFacts (saidFacts ids e ps r)) ∙ by r
-    where
-      by : (r : Said) → rowFacts (saidFacts ids e ps r) ≡ rowsSaid r
-      by Nothing = unfold rowFacts in refl
-      by (Row q) = unfold rowFacts in refl
-      by (ListOf i) = unfold rowFacts in refl
-      by (Transition i) = unfold rowFacts in refl
-      by (Action p i) = unfold rowFacts in refl
-
-  pub said-transitions : (r : Said) → transitionFacts (saidFacts ids e ps r ++ endSaid spot s e) ≡ length (sourcesSaid r)
-  said-transitions r =
-      transition-facts-append (saidFacts ids e ps r) (endSaid spot s e) ∙ ap (λ (n : ℕ). transitionFacts (saidFacts ids e ps r) + n) (end-transitions last endIf (ends s e)) ∙
-      plus (transitionFacts (saidFacts ids e ps r)) ∙ by r
-    where
-      by : (r : Said) → transitionFacts (saidFacts ids e ps r) ≡ length (sourcesSaid r)
-      by Nothing = unfold transitionFacts in refl
-      by (Row q) = unfold transitionFacts in refl
-      by (ListOf i) = unfold transitionFacts in refl
-      by (Transition i) = unfold transitionFacts in refl
-      by (Action p i) = unfold transitionFacts in refl
-
-  pub said-sources : (r : Said) → sourcesOf (saidFacts ids e ps r ++ endSaid spot s e) ≡ sourcesSaid r
-  said-sources r =
-      sources-append (saidFacts ids e ps r) (endSaid spot s e) ∙ ap (λ (l : List ℕ). sourcesOf (saidFacts ids e ps r) ++ l) (end-sources last endIf (ends s e)) ∙
-      append-nil (sourcesOf (saidFacts ids e ps r)) ∙ by r
-    where
-      by : (r : Said) → sourcesOf (saidFacts ids e ps r) ≡ sourcesSaid r
-      by Nothing = unfold sourcesOf in refl
-      by (Row q) = unfold sourcesOf in refl
-      by (ListOf i) = unfold sourcesOf in refl
-      by (Transition i) = unfold sourcesOf in refl
-      by (Action p i) = unfold sourcesOf in refl
 
 -- ---- one tag
 
-pub record NoteRoom (sources : List ℕ) (c : Counts) (said : Said) : Type 0 where
-  pub size : length sources ≡ 32768
-  pub rows-fit : c .rows < 32768
-  pub there : c .transitions < length sources
+pub record NoteRoom (sources : List ℕ) (m : ℕ) (said : Said) : Type 0 where
+  pub there : m < length sources
   pub number-fits : numberIn said < 65536
 
-pub record SourceNoted (sources sources' : List ℕ) (c : Counts) (said : Said) (r : Counts) : Type 0 where
+pub record SourceNoted (sources sources' : List ℕ) (m : ℕ) (said : Said) : Type 0 where
   pub size : length sources' ≡ length sources
-  pub rows-are : r .rows ≡ c .rows + rowsSaid said
-  pub transitions-are : r .transitions ≡ c .transitions + length (sourcesSaid said)
-  pub are : take (r .transitions) sources' ≡ take (c .transitions) sources ++ sourcesSaid said
+  pub are : take (m + length (sourcesSaid said)) sources' ≡ take m sources ++ sourcesSaid said
 
-module _ (sources : List ℕ) (c : Counts) where
-  unsaid : (said : Said) → rowsSaid said ≡ 0 → sourcesSaid said ≡ [] → SourceNoted sources sources c said c
-  unsaid said a b =
+module _ (sources : List ℕ) (m : ℕ) (said : Said) where
+  unsaid : sourcesSaid said ≡ [] → SourceNoted sources sources m said
+  unsaid e =
       record {
         size = refl;
-        rows-are = omega arith;
-        transitions-are = let l = ap length b in omega arith;
-        are = sym (ap (λ (l : List ℕ). take (c .transitions) sources ++ l) b ∙ append-nil (take (c .transitions) sources));
-      }
-
-  pub note-none : (said : Said) → said ≡ Nothing → SourceNoted sources sources c said c
-  note-none said e = unsaid said (ap rowsSaid e) (ap sourcesSaid e)
-
-  pub note-list : (said : Said) (i : ℕ) → said ≡ ListOf i → SourceNoted sources sources c said c
-  note-list said i e = unsaid said (ap rowsSaid e) (ap sourcesSaid e)
-
-  pub note-action : (said : Said) (p i : ℕ) → said ≡ Action p i → SourceNoted sources sources c said c
-  note-action said p i e = unsaid said (ap rowsSaid e) (ap sourcesSaid e)
-
-  pub note-row : (said : Said) (q : ℕ) → said ≡ Row q → SourceNoted sources sources c said (record { rows = c .rows + 1; transitions = c .transitions })
-  note-row said q e =
-      subst (λ (x : Said). SourceNoted sources sources c x (record { rows = c .rows + 1; transitions = c .transitions })) (sym e)
-      (record { size = refl; rows-are = refl; transitions-are = omega arith; are = sym (append-nil (take (c .transitions) sources)) })
-
-  pub note-number : (said : Said) (i : ℕ) → NoteRoom sources c said → said ≡ Transition i → i < 65536
-  note-number said i h e = let n = h .number-fits in let q : numberIn said ≡ i = ap numberIn e in omega arith
-
-  pub note-transition : (said : Said) (i v : ℕ) → NoteRoom sources c said → said ≡ Transition i → v ≡ i →
-      SourceNoted sources (set sources (c .transitions) v) c said (record { rows = c .rows; transitions = c .transitions + 1 })
-  note-transition said i v h e q =
-      subst (λ (x : Said). SourceNoted sources (set sources (c .transitions) v) c x (record { rows = c .rows; transitions = c .transitions + 1 })) (sym e)
-      (record {
-        size = length-set sources (c .transitions) v;
-        rows-are = omega arith;
-        transitions-are = refl;
         are =
-            ap (λ (n : ℕ). take n (set sources (c .transitions) v)) (add-one (c .transitions)) ∙ take-suc-set sources (c .transitions) v (h .there) ∙
-            ap (λ (x : ℕ). take (c .transitions) sources ++ x ∷ []) q;
+            ap (λ (l : List ℕ). take (m + length l) sources) e ∙ ap (λ (n : ℕ). take n sources) (plus m) ∙ sym (ap (λ (l : List ℕ). take m sources ++ l) e ∙ append-nil (take m sources));
+      }
+    where
+      plus : (n : ℕ) → n + 0 ≡ n
+      plus n = omega arith
+
+  pub note-none : said ≡ Nothing → SourceNoted sources sources m said
+  note-none e = unsaid (ap sourcesSaid e)
+
+  pub note-row : (q : ℕ) → said ≡ Row q → SourceNoted sources sources m said
+  note-row q e = unsaid (ap sourcesSaid e)
+
+  pub note-list : (i : ℕ) → said ≡ ListOf i → SourceNoted sources sources m said
+  note-list i e = unsaid (ap sourcesSaid e)
+
+  pub note-action : (p i : ℕ) → said ≡ Action p i → SourceNoted sources sources m said
+  note-action p i e = unsaid (ap sourcesSaid e)
+
+  pub note-number : (i : ℕ) → NoteRoom sources m said → said ≡ Transition i → i < 65536
+  note-number i h e = let n = h .number-fits in let q : numberIn said ≡ i = ap numberIn e in omega arith
+
+  pub note-transition : (i v : ℕ) → NoteRoom sources m said → said ≡ Transition i → v ≡ i → SourceNoted sources (set sources m v) m said
+  note-transition i v h e q =
+      subst (λ (x : Said). SourceNoted sources (set sources m v) m x) (sym e)
+      (record {
+        size = length-set sources m v;
+        are = ap (λ (n : ℕ). take n (set sources m v)) (add-one m) ∙ take-suc-set sources m v (h .there) ∙ ap (λ (x : ℕ). take m sources ++ x ∷ []) q;
       })
 
 -- ---- the tag that a mark ends
 
 pub record MarkRoom (cells sources : List ℕ) (c : Counts) (spot : SpotCells) : Type 0 where
   pub cells-room : length cells ≡ 22
-  pub size : length sources ≡ 32768
-  pub rows-fit : c .rows < 32768
+  pub counts-fit : CountRoom c
   pub there : c .transitions < length sources
   pub number-fits : spot .number < 65536
 
 pub record MarkNoted (cells sources sources' : List ℕ) (c : Counts) (spot : SpotCells) (m : Mark) (r : Counts) : Type 0 where
   pub said : Said
   pub of : (a s e : ℕ) → m ≡ marks.Tagged a s e → TagSaid cells spot s e said
-  pub noted : SourceNoted sources sources' c said r
+  pub noted : SourceNoted sources sources' (c .transitions) said
+  pub counted : CountedBy c said r
 
 module _ (cells sources : List ℕ) (c : Counts) (spot : SpotCells) (m : Mark) where
+  unmarked : ((a s e : ℕ) → m ≡ marks.Tagged a s e → ⊥) → MarkNoted cells sources sources c spot m c
+  unmarked f =
+      record { said = Nothing; of = λ a s e g. absurd (f a s e g); noted = note-none sources (c .transitions) Nothing refl; counted = counted-none c Nothing refl }
+
   pub mark-none : m ≡ marks.Nothing → MarkNoted cells sources sources c spot m c
-  mark-none q = record { said = Nothing; of = λ a s e g. absurd (let z : _≡_ {A = ℕ} 0 1 = cc in omega arith); noted = note-none sources c Nothing refl }
+  mark-none q = unmarked (λ a s e g. let z : _≡_ {A = ℕ} 0 1 = cc in omega arith)
 
   pub mark-value : (d w a b : ℕ) → m ≡ marks.Valued d w a b → MarkNoted cells sources sources c spot m c
-  mark-value d w a b q = record { said = Nothing; of = λ a' s e g. absurd (let z : _≡_ {A = ℕ} 0 1 = cc in omega arith); noted = note-none sources c Nothing refl }
+  mark-value d w a b q = unmarked (λ a' s e g. let z : _≡_ {A = ℕ} 0 1 = cc in omega arith)
 
-  pub mark-room : (a s e : ℕ) (said : Said) → MarkRoom cells sources c spot → TagSaid cells spot s e said → NoteRoom sources c said
-  mark-room a s e said h t = let n = t .within in let f = h .number-fits in record { size = h .size; rows-fit = h .rows-fit; there = h .there; number-fits = omega arith }
+  pub mark-room : (s e : ℕ) (said : Said) → MarkRoom cells sources c spot → TagSaid cells spot s e said → NoteRoom sources (c .transitions) said
+  mark-room s e said h t = let n = t .within in let f = h .number-fits in record { there = h .there; number-fits = omega arith }
 
-  pub mark-tag : (a s e : ℕ) (said : Said) (sources' : List ℕ) (r : Counts) → m ≡ marks.Tagged a s e → TagSaid cells spot s e said → SourceNoted sources sources' c said r →
-      MarkNoted cells sources sources' c spot m r
-  mark-tag a s e said sources' r q t n =
-      record { said = said; of = λ a' s' e' g. let x : s ≡ s' = cc in let y : e ≡ e' = cc in subst (λ (k : ℕ). TagSaid cells spot k e' said) x (subst (λ (k : ℕ). TagSaid cells spot s k said) y t); noted = n }
+  pub mark-tag : (a s e : ℕ) (said : Said) (sources' : List ℕ) (r : Counts) → m ≡ marks.Tagged a s e → TagSaid cells spot s e said → SourceNoted sources sources' (c .transitions) said →
+      CountedBy c said r → MarkNoted cells sources sources' c spot m r
+  mark-tag a s e said sources' r q t n k =
+      record {
+        said = said;
+        of = λ a' s' e' g. let x : s ≡ s' = cc in let y : e ≡ e' = cc in subst (λ (k : ℕ). TagSaid cells spot k e' said) x (subst (λ (k : ℕ). TagSaid cells spot s k said) y t);
+        noted = n;
+        counted = k;
+      }
 
 -- ---- the walk
 
@@ -286,7 +186,7 @@ module _ (text levels cells₀ spots sources : List ℕ) (t : Turning) (c : Coun
     pub sources-room : MarkRoom cells sources c (r .spot)
     sources-room =
         let f = next .further is-tag in let i = next .turn-at is-tag .standing .within in let s = k .at .standing .short in let a = k .rows-few in let b = k .transitions-few in let z = k .size in
-        record { cells-room = next .stated .room; size = k .size; rows-fit = omega arith; there = omega arith; number-fits = next .number-fits is-tag }
+        record { cells-room = next .stated .room; counts-fit = record { rows-fit = omega arith; transitions-fit = omega arith }; there = omega arith; number-fits = next .number-fits is-tag }
 
     pub sources-more : (sources' : List ℕ) (c' : Counts) → MarkNoted cells sources sources' c (r .spot) (r .walk .mark) c' → Sourcing text levels' cells spots' sources' r c'
     sources-more sources' c' n = by (r .walk .mark) refl
@@ -298,7 +198,7 @@ module _ (text levels cells₀ spots sources : List ℕ) (t : Turning) (c : Coun
         by marks.Nothing g = absurd (clash (sym is-tag ∙ ap isMark g))
         by (marks.Valued d w a b) g = absurd (clash (sym (ap isValueMark g) ∙ next .no-value))
         by (marks.Tagged a s d) g =
-            let f = next .further is-tag in let x = n .noted .rows-are in let y = n .noted .transitions-are in let a = k .rows-few in let b = k .transitions-few in
+            let f = next .further is-tag in let x = n .counted .rows-are in let y = n .counted .transitions-are in let a = k .rows-few in let b = k .transitions-few in
             let u = rows-by (n .said) in let v = transitions-by (n .said) in
             record {
               at = next .turn-at is-tag;
@@ -308,13 +208,13 @@ module _ (text levels cells₀ spots sources : List ℕ) (t : Turning) (c : Coun
               before = λ ids. k .before ids ++ here ids;
               left = λ ids. k .left ids ∙ ap (λ (fs : List Fact). k .before ids ++ fs) (split ids) ∙ sym (append-assoc (k .before ids) (here ids) (factsLeft ids text levels' spots' r));
               rows-are = λ ids.
-                  n .noted .rows-are ∙ ap (λ (z : ℕ). z + rowsSaid (n .said)) (k .rows-are ids) ∙ ap (λ (z : ℕ). rowFacts (k .before ids) + z) (sym (said-rows ids (r .spot) s d (next .parts) (n .said))) ∙
+                  n .counted .rows-are ∙ ap (λ (z : ℕ). z + rowsSaid (n .said)) (k .rows-are ids) ∙ ap (λ (z : ℕ). rowFacts (k .before ids) + z) (sym (said-rows ids (r .spot) s d (next .parts) (n .said))) ∙
                   sym (row-facts-append (k .before ids) (here ids));
               transitions-are = λ ids.
-                  n .noted .transitions-are ∙ ap (λ (z : ℕ). z + length (sourcesSaid (n .said))) (k .transitions-are ids) ∙
+                  n .counted .transitions-are ∙ ap (λ (z : ℕ). z + length (sourcesSaid (n .said))) (k .transitions-are ids) ∙
                   ap (λ (z : ℕ). transitionFacts (k .before ids) + z) (sym (said-transitions ids (r .spot) s d (next .parts) (n .said))) ∙ sym (transition-facts-append (k .before ids) (here ids));
               are = λ ids.
-                  n .noted .are ∙ ap (λ (l : List ℕ). l ++ sourcesSaid (n .said)) (k .are ids) ∙ ap (λ (l : List ℕ). sourcesOf (k .before ids) ++ l) (sym (said-sources ids (r .spot) s d (next .parts) (n .said))) ∙
+                  ap (λ (x : ℕ). take x sources') (n .counted .transitions-are) ∙ n .noted .are ∙ ap (λ (l : List ℕ). l ++ sourcesSaid (n .said)) (k .are ids) ∙ ap (λ (l : List ℕ). sourcesOf (k .before ids) ++ l) (sym (said-sources ids (r .spot) s d (next .parts) (n .said))) ∙
                   sym (sources-append (k .before ids) (here ids));
             }
           where

@@ -1,34 +1,31 @@
 -- The items of one tag.
-use mathlib.Core.Path.{_≡_, refl, sym, ap, subst, _∙_}
+use mathlib.Core.Path.{_≡_, sym, ap, subst, _∙_}
 use mathlib.Core.Bool.{Bool, true, false, cond}
-use mathlib.Core.List.{List, [], _∷_, _++_, map, append-nil}
-use Prim.Native.Nat.{ℕ, zero, suc, _+_, _-_, _≤_, _<_}
+use mathlib.Core.List.{List, [], _∷_, _++_}
+use Prim.Native.Nat.{ℕ, _-_, _≤_, _<_}
 use native.Mathlib.Omega.{arith}
-use native.Mathlib.Numerals.{add-one}
-use lib.ListN.{length, take, drop}
+use lib.ListN.{take, drop}
 use Rattle.reading.specs.Tags.{Part}
-use Rattle.reading.specs.Faults.{namesIn, valueOf, initialWord, targetWord, eventWord}
-use Rattle.reading.specs.Content.{placeOf, rowNamed, rowsIn, actIn, Fact}
+use Rattle.reading.specs.Faults.{valueOf, initialWord, targetWord, eventWord}
+use Rattle.reading.specs.Content.{actIn}
 use Rattle.reading.specs.Layout.{actCells}
-use Rattle.marks.specs.Grouped.{bytesFrom}
 use Rattle.tags.specs.Cells.{fromIn, toIn, Stated}
 use Rattle.turns.specs.declared.SpotCells.{SpotCells}
 use Rattle.facts.specs.declared.Said.{Said}
 use Rattle.facts.specs.declared.Said.the-variants.{Nothing, Row, List as ListOf, Transition, Action}
-use Rattle.facts.specs.Facts.{partOf, saidFacts, ends}
-use Rattle.values.specs.Ids.{idsFrom, Noted}
+use Rattle.facts.specs.Facts.{partOf, ends}
+use Rattle.values.specs.Ids.{idsFrom}
 use Rattle.bins.specs.Binned.{Item}
-use Rattle.items.specs.Items.{under, binCount, keyOfBlock, itemsFrom}
+use Rattle.items.specs.Items.{under, binCount, keyOfBlock}
 use Rattle.walks.specs.declared.plan.Plan.{Plan}
 use Rattle.walks.specs.declared.name_items.Filing.{Filing}
 use Rattle.walks.specs.declared.acts.ActCells.{ActCells}
 use Rattle.walks.specs.declared.tag_items.Tag.{Tag}
 use Rattle.walks.specs.Filed.{Fileable, FiledBy, filed-none, fileable-first, fileable-rest, filed-both}
-use Rattle.walks.specs.Keys.{Few, keyOf, otherOf}
-use Rattle.walks.specs.Names.{numbered, itemsBy, items-by, namesItems, NamesRoom}
-use Rattle.walks.specs.Told.{valueAt, value-at, word-room, PlaceRoom}
+use Rattle.walks.specs.Keys.{Few}
+use Rattle.walks.specs.Names.{namesItems, NamesRoom}
+use Rattle.walks.specs.Told.{valueAt, part-at, value-at, word-room, PlaceRoom}
 use Rattle.walks.specs.Acts.{fourOf, ActRoom, ActIs, FileActRoom}
-use Rattle.walks.specs.Said.{endSaid}
 
 abbrev pub filingOf : Plan → ℕ → ℕ → Filing
 filingOf p key shift = record { bins = binCount (p .rows) (p .transitions); fill = p .fill; key = key; shift = shift }
@@ -45,7 +42,7 @@ pub record ValueRoom (text cells names : List ℕ) (n w : ℕ) (out next : List 
 
 module _ (text cells names : List ℕ) (n w : ℕ) (out next : List ℕ) (f : Filing) (h : ValueRoom text cells names n w out next f) (from to : ℕ) (a : from ≡ fromIn cells w) (b : to ≡ toIn cells w) where
   part-is : take (to - from) (drop from text) ≡ valueAt text cells w
-  part-is = ap (λ (i : ℕ). take (to - i) (drop i text)) a ∙ ap (λ (j : ℕ). bytesFrom text (fromIn cells w) j) b
+  part-is = part-at text cells w from to a b
 
   pub value-names : NamesRoom text names n (take (to - from) (drop from text)) out next f
   value-names =

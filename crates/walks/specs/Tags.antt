@@ -2,16 +2,14 @@
 use mathlib.Core.Path.{_≡_, refl, sym, ap, subst, _∙_}
 use mathlib.Core.Bool.{Bool, true, false, cond}
 use mathlib.Core.List.{List, [], _∷_, _++_, map, append-nil}
-use Prim.Native.Nat.{ℕ, zero, suc, _+_, _≤_, _<_}
+use Prim.Native.Nat.{ℕ, _+_}
 use native.Mathlib.Omega.{arith}
 use native.Mathlib.Numerals.{add-one}
-use lib.ListN.{length}
 use Rattle.marks.specs.declared.Mark.{Mark}
 use Rattle.marks.specs.declared.Mark.the-variants as marks
 use Rattle.reading.specs.Tags.{Part}
 use Rattle.reading.specs.Faults.{namesIn, valueOf, initialWord, targetWord, eventWord}
-use Rattle.reading.specs.Content.{Fact, placeOf, rowNamed, actIn, endIf, actionFact}
-use Rattle.reading.specs.Layout.{actCells}
+use Rattle.reading.specs.Content.{placeOf, rowNamed, endIf, actionFact}
 use Rattle.tags.specs.Cells.{Stated}
 use Rattle.turns.specs.declared.SpotCells.{SpotCells}
 use Rattle.facts.specs.declared.Said.{Said}
@@ -29,10 +27,10 @@ use Rattle.walks.specs.declared.tag_items.Tag.{Tag}
 use Rattle.walks.specs.declared.item_walk.TagAt.{TagAt}
 use Rattle.walks.specs.Filed.{Fileable, FiledBy, fileable-first, fileable-rest, filed-both}
 use Rattle.walks.specs.Keys.{Few, keyOf, otherOf, KeysAre}
-use Rattle.walks.specs.Names.{numbered, itemsBy, items-by, namesItems}
+use Rattle.walks.specs.Names.{itemsBy}
 use Rattle.walks.specs.Acts.{ActRoom}
 use Rattle.walks.specs.Said.{endSaid, TagSaid}
-use Rattle.walks.specs.Sources.{rowsSaid, sourcesSaid}
+use Rattle.walks.specs.Counts.{CountRoom, CountedBy}
 use Rattle.walks.specs.TagItems.{saidItems, SaidRoom, SaidFiled, endItems, EndRoom}
 
 -- ---- the tag that a mark ends
@@ -46,35 +44,6 @@ abbrev pub elementIn : Mark → ℕ
 elementIn marks.Nothing = 0
 elementIn (marks.Valued e w a b) = 0
 elementIn (marks.Tagged a s e) = e
-
--- ---- counts
-
-pub record CountRoom (c : Counts) : Type 0 where
-  pub rows-fit : c .rows < 32768
-  pub transitions-fit : c .transitions < 32768
-
-pub record CountedBy (c : Counts) (said : Said) (r : Counts) : Type 0 where
-  pub rows-are : r .rows ≡ c .rows + rowsSaid said
-  pub transitions-are : r .transitions ≡ c .transitions + length (sourcesSaid said)
-
-module _ (c : Counts) (said : Said) where
-  as-counted : (x : Said) (r : Counts) → said ≡ x → CountedBy c x r → CountedBy c said r
-  as-counted x r e h = subst (λ (y : Said). CountedBy c y r) (sym e) h
-
-  pub counted-none : said ≡ Nothing → CountedBy c said c
-  counted-none e = as-counted Nothing c e (record { rows-are = omega arith; transitions-are = omega arith })
-
-  pub counted-row : (q : ℕ) → said ≡ Row q → CountedBy c said (record { rows = c .rows + 1; transitions = c .transitions })
-  counted-row q e = as-counted (Row q) (record { rows = c .rows + 1; transitions = c .transitions }) e (record { rows-are = refl; transitions-are = omega arith })
-
-  pub counted-list : (i : ℕ) → said ≡ ListOf i → CountedBy c said c
-  counted-list i e = as-counted (ListOf i) c e (record { rows-are = omega arith; transitions-are = omega arith })
-
-  pub counted-transition : (i : ℕ) → said ≡ Transition i → CountedBy c said (record { rows = c .rows; transitions = c .transitions + 1 })
-  counted-transition i e = as-counted (Transition i) (record { rows = c .rows; transitions = c .transitions + 1 }) e (record { rows-are = omega arith; transitions-are = refl })
-
-  pub counted-action : (b i : ℕ) → said ≡ Action b i → CountedBy c said c
-  counted-action b i e = as-counted (Action b i) c e (record { rows-are = omega arith; transitions-are = omega arith })
 
 -- ---- the items of a tag's facts
 

@@ -1,8 +1,8 @@
 -- What the values of a tag's attributes say, as numbers.
 use mathlib.Core.Path.{_≡_, refl, sym, ap, subst, _∙_}
 use mathlib.Core.Bool.{Bool, true, false, not, cond}
-use mathlib.Core.List.{List, [], _∷_}
-use Prim.Native.Nat.{ℕ, zero, suc, _+_, _-_, _^_, _≤_, _<_}
+use mathlib.Core.List.{List, []}
+use Prim.Native.Nat.{ℕ, suc, _+_, _-_, _^_, _≤_, _<_}
 use native.Mathlib.Omega.{arith}
 use native.Mathlib.Numerals.{add-one}
 use lib.Dec.{eqb}
@@ -14,9 +14,9 @@ use Rattle.definition.specs.Rows.{flat}
 use Rattle.gather.specs.Parts.{absent}
 use Rattle.facts.specs.Clean.{clean-label, clean-delay, clean-cond}
 use Rattle.reading.specs.Tags.{Part}
-use Rattle.reading.specs.Content.{placeOf, rowNamed, rowIn}
+use Rattle.reading.specs.Content.{placeOf, rowIn}
 use Rattle.marks.specs.Grouped.{bytesFrom}
-use Rattle.tags.specs.Cells.{statedIn, fromIn, toIn, longCell, fromCell, WordIn, EndIn, Stated}
+use Rattle.tags.specs.Cells.{statedIn, fromIn, toIn, longCell, EndIn, Stated}
 use Rattle.values.specs.declared.conditions.Condition.{Condition}
 use Rattle.values.specs.declared.conditions.Condition.the-variants.{Other, In}
 use Rattle.values.specs.Conditions.{conditionOf}
@@ -32,6 +32,10 @@ pub value-at : (text cells : List ℕ) (w : ℕ) (ps : List Part) → Stated tex
 value-at text cells w ps h l u =
     let long : toIn cells w - fromIn cells w ≡ getD cells (longCell w) 0 - 1 = omega arith in
     ap (λ (n : ℕ). take n (drop (fromIn cells w) text)) long ∙ h .value w l u
+
+-- a part of the text by the two ends that the cells tell
+pub part-at : (text cells : List ℕ) (w from to : ℕ) → from ≡ fromIn cells w → to ≡ toIn cells w → take (to - from) (drop from text) ≡ valueAt text cells w
+part-at text cells w from to a b = ap (λ (i : ℕ). take (to - i) (drop i text)) a ∙ ap (λ (j : ℕ). bytesFrom text (fromIn cells w) j) b
 
 pub record WordRoom (text cells : List ℕ) (w : ℕ) : Type 0 where
   pub room : length cells ≡ 22
@@ -62,7 +66,7 @@ pub record PlaceRoom (text cells names : List ℕ) (n w : ℕ) : Type 0 where
 module _ (text cells names : List ℕ) (n w : ℕ) (from to : ℕ) (a : from ≡ fromIn cells w) (b : to ≡ toIn cells w) where
   pub place-is : (place r : ℕ) → place ≡ placeOf (take (to - from) (drop from text)) (idsFrom text names n 0) → r ≡ place → r ≡ placeOf (valueAt text cells w) (idsFrom text names n 0)
   place-is place r p q =
-      q ∙ p ∙ ap (λ (i : ℕ). placeOf (take (to - i) (drop i text)) (idsFrom text names n 0)) a ∙ ap (λ (j : ℕ). placeOf (bytesFrom text (fromIn cells w) j) (idsFrom text names n 0)) b
+      q ∙ p ∙ ap (λ (v : List ℕ). placeOf v (idsFrom text names n 0)) (part-at text cells w from to a b)
 
 module _ (text cells names : List ℕ) (n w : ℕ) (stated : Bool) (is : stated ≡ statedIn cells w) where
   pub place-none : not stated ≡ true → 65535 ≡ cond (statedIn cells w) (placeOf (valueAt text cells w) (idsFrom text names n 0)) 65535
@@ -90,7 +94,7 @@ module _ (text cells : List ℕ) (w most : ℕ) (h : DecimalRoom text cells w mo
 
   module _ (from to : ℕ) (a : from ≡ fromIn cells w) (b : to ≡ toIn cells w) where
     part-is : take (to - from) (drop from text) ≡ valueAt text cells w
-    part-is = ap (λ (i : ℕ). take (to - i) (drop i text)) a ∙ ap (λ (j : ℕ). bytesFrom text (fromIn cells w) j) b
+    part-is = part-at text cells w from to a b
 
     pub decimal-room : not stated ≡ false → (most ≤ 4294967295) × (isDecimal most (plain (take (to - from) (drop from text))) ≡ true)
     decimal-room q = (h .limit, ap (λ (v : List ℕ). isDecimal most (plain v)) part-is ∙ h .valid (sym is ∙ not-false stated q))
@@ -149,7 +153,7 @@ pub record CondAtRoom (text cells ids : List ℕ) (n : ℕ) : Type 0 where
 
 module _ (text cells ids : List ℕ) (n : ℕ) (h : CondAtRoom text cells ids n) (from to : ℕ) (a : from ≡ fromIn cells 30) (b : to ≡ toIn cells 30) where
   cond-is : take (to - from) (drop from text) ≡ valueAt text cells 30
-  cond-is = ap (λ (i : ℕ). take (to - i) (drop i text)) a ∙ ap (λ (j : ℕ). bytesFrom text (fromIn cells 30) j) b
+  cond-is = part-at text cells 30 from to a b
 
   pub cond-room : CondRoom text ids n (take (to - from) (drop from text))
   cond-room =

@@ -1,14 +1,12 @@
 // The walk that lays the cells of rows and transitions that only their tags know: kind, parent and id of a row, source, condition and type of a transition.
-ghost use mathlib.Core.Path.{_≡_};
 ghost use Rattle.walks.specs.Plan.{HeadRoom, HeadsLaid};
-ghost use Rattle.walks.specs.Tags.{CountRoom};
+ghost use Rattle.walks.specs.Counts.{CountRoom};
 ghost use Rattle.walks.specs.Heads.{TagHeadRoom, RowLaid, TransitionLaid, SaidLaid, TagLaid};
 use crate::head_cells::condition_at;
 use crate::head_cells::id_at;
 use crate::head_cells::internal_at;
 use crate::head_cells::kind_at;
 use crate::item_walk::TagAt;
-use crate::item_walk::counted;
 use crate::item_walk::element_of;
 use crate::item_walk::shape_of;
 use crate::keys::rank_of;
@@ -16,6 +14,8 @@ use crate::plan::Plan;
 use crate::said::begin_turn;
 use crate::said::said_in;
 use crate::sources::Counts;
+use crate::sources::counted;
+use crate::told::wide;
 use facts::Said;
 use marks::is_mark;
 use turns::next_turn;
@@ -26,12 +26,6 @@ pub struct HeadAt {
     pub element: u8,
     pub rows: usize,
     pub transitions: usize,
-}
-
-fn wide(x: usize) -> u64
-    ensures { λ r. ⌜ r ≡ x ⌝ }
-{
-    x as u64
 }
 
 // The row i, if it is one of the tables.

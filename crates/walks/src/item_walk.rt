@@ -1,16 +1,16 @@
 // The walk that counts the cells of the tables' lists and blocks, or lays them out.
 ghost use mathlib.Core.Path.{_≡_};
 ghost use Rattle.walks.specs.Plan.{FileRoom, FiledAll};
-ghost use Rattle.walks.specs.Tags.{shapeIn, elementIn, CountRoom, CountedBy, TagRoom, TagFiled};
+ghost use Rattle.walks.specs.Tags.{shapeIn, elementIn, TagRoom, TagFiled};
 use crate::keys::keys_of;
 use crate::plan::Plan;
 use crate::said::begin_turn;
 use crate::said::said_in;
 use crate::sources::Counts;
+use crate::sources::counted;
 use crate::tag_items::Tag;
 use crate::tag_items::file_end;
 use crate::tag_items::file_said;
-use facts::Said;
 use marks::Mark;
 use marks::is_mark;
 use turns::SpotCells;
@@ -42,28 +42,6 @@ pub fn element_of(m: Mark) -> u8
         Mark::Nothing => 0,
         Mark::Valued(e, w, a, b) => 0,
         Mark::Tagged(a, s, e) => e,
-    }
-}
-
-// One row or transition more, if the tag says one.
-pub fn counted(c: Counts, said: Said) -> Counts
-    requires { ⌜ CountRoom c ⌝ }
-    ensures { λ r. ⌜ CountedBy c said r ⌝ }
-{
-    let rows = c.rows;
-    let transitions = c.transitions;
-    match said {
-        Said::Nothing => c,
-        Said::Row(q) => Counts {
-            rows: rows + 1,
-            transitions,
-        },
-        Said::List(i) => c,
-        Said::Transition(i) => Counts {
-            rows,
-            transitions: transitions + 1,
-        },
-        Said::Action(b, i) => c,
     }
 }
 

@@ -1,9 +1,9 @@
 // The names of a value as items: each by its place among the ids or the slots.
-ghost use mathlib.Core.Path.{_≡_};
 ghost use Rattle.walks.specs.Filed.{one, FiledBy};
 ghost use Rattle.walks.specs.Names.{numbered, NameRoom, namesItems, NamesRoom};
 ghost use Rattle.values.specs.Ids.{idsFrom};
 use crate::filed::file_item;
+use crate::told::wide;
 use find::place_of;
 use scan::is_space;
 use values::item_end;
@@ -14,12 +14,6 @@ pub struct Filing {
     pub fill: bool,
     pub key: usize,
     pub shift: usize,
-}
-
-fn wide(x: usize) -> u64
-    ensures { λ r. ⌜ r ≡ x ⌝ }
-{
-    x as u64
 }
 
 fn file_name(

@@ -1,6 +1,5 @@
 // What a tag says in the spot that it stands in.
 ghost use mathlib.Core.Path.{_≡_};
-ghost use Prim.Native.Nat.{_≤_};
 ghost use lib.ListN.{length};
 ghost use Rattle.walks.specs.Said.{beginningTurn, TagSaid};
 use facts::Said;

@@ -2,6 +2,7 @@
 // place" (1.18), so their sources are known before anything is laid out.
 ghost use mathlib.Core.Path.{_≡_};
 ghost use Prim.Native.Nat.{_<_};
+ghost use Rattle.walks.specs.Counts.{CountRoom, CountedBy};
 ghost use Rattle.walks.specs.Sources.{NoteRoom, SourceNoted, MarkRoom, MarkNoted, SourceRoom, Sourced};
 use crate::said::begin_turn;
 use crate::said::said_in;
@@ -23,9 +24,10 @@ fn narrow(x: usize) -> u16
     x as u16
 }
 
-fn note_said(sources: &mut [u16], c: Counts, said: Said) -> Counts
-    requires { ⌜ NoteRoom (now sources) c said ⌝ }
-    ensures { λ r. ⌜ SourceNoted (now (sources .entry)) (now (sources .exit)) c said r ⌝ }
+// One row or transition more, if the tag says one.
+pub fn counted(c: Counts, said: Said) -> Counts
+    requires { ⌜ CountRoom c ⌝ }
+    ensures { λ r. ⌜ CountedBy c said r ⌝ }
 {
     let rows = c.rows;
     let transitions = c.transitions;
@@ -36,14 +38,27 @@ fn note_said(sources: &mut [u16], c: Counts, said: Said) -> Counts
             transitions,
         },
         Said::List(i) => c,
+        Said::Transition(i) => Counts {
+            rows,
+            transitions: transitions + 1,
+        },
+        Said::Action(b, i) => c,
+    }
+}
+
+// The source of the transition that the tag says, if it says one, behind m others.
+fn note_source(sources: &mut [u16], m: usize, said: Said)
+    requires { ⌜ NoteRoom (now sources) m said ⌝ }
+    ensures { λ _. ⌜ SourceNoted (now (sources .entry)) (now (sources .exit)) m said ⌝ }
+{
+    match said {
+        Said::Nothing => {}
+        Said::Row(q) => {}
+        Said::List(i) => {}
         Said::Transition(i) => {
-            sources[transitions] = narrow(i);
-            Counts {
-                rows,
-                transitions: transitions + 1,
-            }
+            sources[m] = narrow(i);
         }
-        Said::Action(p, i) => c,
+        Said::Action(b, i) => {}
     }
 }
 
@@ -57,7 +72,9 @@ fn note_mark(cells: &[u16], sources: &mut [u16], c: Counts, spot: SpotCells, m: 
         Mark::Valued(e, w, a, b) => c,
         Mark::Tagged(a, s, e) => {
             let said = said_in(cells, spot, s, e);
-            note_said(sources, c, said)
+            let n = c.transitions;
+            note_source(sources, n, said);
+            counted(c, said)
         }
     }
 }

@@ -1,7 +1,6 @@
 // What the values of a tag's attributes say, as the numbers of the tables: the attributes are found by their words (crate tags), xmlns 24 to sendid 34.
 ghost use mathlib.Core.Path.{_≡_};
 ghost use mathlib.Core.Bool.{cond};
-ghost use lib.ListN.{length};
 ghost use Rattle.reading.specs.Faults.{plain, decimal};
 ghost use Rattle.reading.specs.Content.{placeOf, rowIn};
 ghost use Rattle.tags.specs.Cells.{statedIn};
@@ -15,7 +14,7 @@ use tags::value_to;
 use values::conditions::Condition;
 use values::conditions::condition_in;
 
-fn wide(x: usize) -> u64
+pub fn wide(x: usize) -> u64
     ensures { λ r. ⌜ r ≡ x ⌝ }
 {
     x as u64

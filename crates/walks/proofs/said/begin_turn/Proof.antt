@@ -1,7 +1,6 @@
 use borrow.Author.Needs.{needs}
 use mathlib.Core.Path.{ap}
 use Rattle.marks.specs.declared.Walk.{Walk}
-use Rattle.turns.specs.declared.Turning.{Turning}
 use Rattle.walks.proofs.said.begin_turn.Statement.{statement}
 use Rattle.walks.proofs.said.begin_turn.Tie as tie
 

@@ -15,8 +15,11 @@ enum-known-m-2 c = search needs
 said-in-requires : tie.Need-said-in-requires
 said-in-requires c κs = search needs
 
-note-said-requires : tie.Need-note-said-requires
-note-said-requires c κs = search (needs, mark-room)
+note-source-requires : tie.Need-note-source-requires
+note-source-requires c κs = search (needs, mark-room)
+
+counted-requires : tie.Need-counted-requires
+counted-requires c κs = search needs
 
 returns : tie.Need-returns
 returns c = search (needs, mark-none)
@@ -38,7 +41,8 @@ note-mark-spec =
     enum-known-m
     enum-known-m-2
     said-in-requires
-    note-said-requires
+    note-source-requires
+    counted-requires
     returns
     returns-2
     same-length

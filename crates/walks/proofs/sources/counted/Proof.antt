@@ -1,7 +1,7 @@
 use borrow.Author.Needs.{needs}
-use Rattle.walks.specs.Tags.{counted-none, counted-row, counted-list, counted-transition, counted-action}
-use Rattle.walks.proofs.item_walk.counted.Statement.{statement}
-use Rattle.walks.proofs.item_walk.counted.Tie as tie
+use Rattle.walks.specs.Counts.{counted-none, counted-row, counted-list, counted-transition, counted-action}
+use Rattle.walks.proofs.sources.counted.Statement.{statement}
+use Rattle.walks.proofs.sources.counted.Tie as tie
 
 enum-told : tie.Need-enum-told
 enum-told c = search needs

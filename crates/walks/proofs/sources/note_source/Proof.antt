@@ -1,16 +1,13 @@
 use borrow.Author.Needs.{needs}
 use Rattle.walks.specs.Sources.{note-none, note-list, note-action, note-row, note-number, note-transition}
-use Rattle.walks.proofs.sources.note_said.Statement.{statement}
-use Rattle.walks.proofs.sources.note_said.Tie as tie
+use Rattle.walks.proofs.sources.note_source.Statement.{statement}
+use Rattle.walks.proofs.sources.note_source.Tie as tie
 
 enum-told : tie.Need-enum-told
 enum-told c = search needs
 
 enum-known-said : tie.Need-enum-known-said
 enum-known-said c = search needs
-
-add-t12 : tie.Need-add-t12
-add-t12 c = search needs
 
 enum-known-said-2 : tie.Need-enum-known-said-2
 enum-known-said-2 c = search needs
@@ -26,9 +23,6 @@ mul-sources c = search needs
 
 slice-write-sources : tie.Need-slice-write-sources
 slice-write-sources c = search needs
-
-add-t14 : tie.Need-add-t14
-add-t14 c = search needs
 
 enum-known-said-4 : tie.Need-enum-known-said-4
 enum-known-said-4 c = search needs
@@ -51,19 +45,17 @@ returns-4 c = search (needs, note-transition)
 returns-5 : tie.Need-returns-5
 returns-5 c = search (needs, note-action)
 
-pub note-said-spec : {M : Type 1} → statement M
-note-said-spec =
+pub note-source-spec : {M : Type 1} → statement M
+note-source-spec =
     tie.close
     (tie.spec
     enum-told
     enum-known-said
-    add-t12
     enum-known-said-2
     enum-known-said-3
     narrow-requires
     mul-sources
     slice-write-sources
-    add-t14
     enum-known-said-4
     returns
     returns-2
