@@ -73,7 +73,7 @@ module _ (slots : List (List ℕ)) (n t : ℕ) (ranks : List ℕ) where
   heads-append i m out (actionFact b a ∷ fs) gs = heads-append i m out fs gs
 
   -- the end of an if sets none
-  pub heads-end : (i m : ℕ) (out : List ℕ) (spot : SpotCells) (s e : ℕ) → headsFrom slots n t ranks i m out (endSaid spot s e) ≡ out
+  heads-end : (i m : ℕ) (out : List ℕ) (spot : SpotCells) (s e : ℕ) → headsFrom slots n t ranks i m out (endSaid spot s e) ≡ out
   unfolding headsFrom
   heads-end i m out spot s e = by (ends s e) (record { part = partOf (spot .what); owner = spot .number }) endIf
     where

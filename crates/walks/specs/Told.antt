@@ -16,7 +16,7 @@ use Rattle.facts.specs.Clean.{clean-label, clean-delay, clean-cond}
 use Rattle.reading.specs.Tags.{Part}
 use Rattle.reading.specs.Content.{placeOf, rowIn}
 use Rattle.marks.specs.Grouped.{bytesFrom}
-use Rattle.tags.specs.Cells.{statedIn, fromIn, toIn, longCell, EndIn, Stated}
+use Rattle.tags.specs.Cells.{statedIn, fromIn, toIn, longCell, Stated}
 use Rattle.values.specs.declared.conditions.Condition.{Condition}
 use Rattle.values.specs.declared.conditions.Condition.the-variants.{Other, In}
 use Rattle.values.specs.Conditions.{conditionOf}
@@ -46,16 +46,6 @@ pub record WordRoom (text cells : List ℕ) (w : ℕ) : Type 0 where
 
 pub word-room : (text cells : List ℕ) (w : ℕ) (ps : List Part) → Stated text cells ps → length text ≤ 32768 → 24 ≤ w → w < 35 → WordRoom text cells w
 word-room text cells w ps h s l u = record { room = h .room; least = l; most = u; short = s; inside = h .inside w l u }
-
-module _ (text cells : List ℕ) (w : ℕ) (h : WordRoom text cells w) where
-  pub word-end : EndIn cells w
-  word-end = let i = h .inside in let s = h .short in record { room = h .room; least = h .least; most = h .most; end = omega arith }
-
-  pub word-up : (from to : ℕ) → from ≡ fromIn cells w → to ≡ toIn cells w → from ≤ to
-  word-up from to a b = omega arith
-
-  pub word-quote : (from to : ℕ) → from ≡ fromIn cells w → to ≡ toIn cells w → to ≤ length text
-  word-quote from to a b = let i = h .inside in omega arith
 
 -- ---- a place among names
 
