@@ -4,6 +4,7 @@ ghost use lib.ListN.{getD};
 ghost use Rattle.grammar.specs.Tables.{words, menus, attrs, kinds, needed, opened, owners, ends, bits, adds};
 ghost use Rattle.grammar.specs.Grammar.{isSpace, isChar, isToken, wordByte, agree, follows, pick, attribute, has, added, pickAttribute, isComplete, mayEnd, owner, after, opens, kindOf};
 
+pub mod letters;
 mod tables;
 
 // ---- bytes
@@ -131,6 +132,15 @@ pub fn add_cell(i: usize) -> u8
 pub fn word_byte(w: u8, k: u16) -> u8
     ensures { λ r. ⌜ r ≡ wordByte w k ⌝ }
 {
+    let first = letters::letters(w);
+    if 0 < first {
+        if k < 8 {
+            return letters::byte_of(first, k as u64);
+        }
+        if k < 11 {
+            return letters::byte_of(letters::tail(w), (k - 8) as u64);
+        }
+    }
     word_cell((w as usize) * 11 + (k as usize))
 }
 
