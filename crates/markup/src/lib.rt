@@ -6,11 +6,14 @@ ghost use Rattle.grammar.specs.Grammar.{stepOf, isContent};
 ghost use Rattle.markup.specs.Growth.{wordAt};
 ghost use Rattle.markup.specs.Stack.{Landed, Stepped};
 ghost use Rattle.markup.specs.Passes.{Found};
+ghost use Rattle.markup.specs.Strides.{Limit, finished};
 use grammar::Place;
+use crate::leaps::leap_from;
 use grammar::Step;
 use scan::is_char;
 use scan::pick_word;
 
+pub mod leaps;
 mod tags;
 mod values;
 
@@ -157,11 +160,32 @@ pub struct Scanned {
     pub whole: bool,
 }
 
+// As far as a text of so many bytes is read: to its end or to 32,768.
+fn limit_of(n: usize) -> usize
+    ensures { λ r. ⌜ Limit n r ⌝ }
+{
+    if 32768 < n {
+        return 32768;
+    }
+    n
+}
+
+// The bytes before i are read, of n.
+fn finish(n: usize, place: Place, top: u8, i: usize) -> Scanned
+    ensures { λ r. ⌜ r ≡ finished n place top i ⌝ }
+{
+    let all = n <= i;
+    let between = is_content(place);
+    let whole = all & (between & (top == 1));
+    Scanned { at: i, whole }
+}
+
 // The stack of levels has a place for each byte, so it never overflows.
 pub fn scan_with(text: &[u8], stack: &mut [u8]) -> Scanned
     requires { ⌜ length (now stack) ≡ 32768 ⌝ }
     ensures { λ r. ⌜ Found (now (text .entry)) (r .at) (r .whole) ⌝ }
 {
+    let end = limit_of(text.len());
     let mut c = Cursor {
         place: Place::Content,
         top: 0,
@@ -169,33 +193,32 @@ pub fn scan_with(text: &[u8], stack: &mut [u8]) -> Scanned
         live: true,
     };
     let mut i: usize = 0;
-    while i < text.len() {
-        if 32768 <= i {
-            return Scanned {
-                at: i,
-                whole: false,
-            };
-        }
+    while i < end {
         let place = c.place;
         let top = c.top;
         let depth = c.depth;
-        let b = text[i];
-        let next = read_byte(stack, place, top, depth, b);
+        let l = leap_from(text, end, place, top, i);
+        let p = l.place;
+        let t = l.top;
+        let j = l.index;
+        if end <= j {
+            return finish(text.len(), p, t, j);
+        }
+        let b = text[j];
+        let next = read_byte(stack, p, t, depth, b);
         let live = next.live;
         if !live {
             return Scanned {
-                at: i,
+                at: j,
                 whole: false,
             };
         }
         c = next;
-        i += 1;
+        i = j + 1;
     }
     let place = c.place;
     let top = c.top;
-    let done = top == 1;
-    let whole = is_content(place) & done;
-    Scanned { at: i, whole }
+    finish(text.len(), place, top, i)
 }
 
 // Where a text that is not of the grammar has its fault, and whether it is of the grammar, for any bytes of any length.
