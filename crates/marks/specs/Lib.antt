@@ -3,3 +3,4 @@ pub mod Walks
 pub mod Arms
 pub mod Grouped
 pub mod Joined
+pub mod Strides

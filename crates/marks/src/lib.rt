@@ -8,11 +8,13 @@ ghost use Rattle.grammar.specs.Grammar.{stepOf};
 ghost use Rattle.markup.specs.Growth.{wordAt};
 ghost use Rattle.reading.specs.Zones.{zone, landing, isBegun, isValue, elementIn};
 ghost use Rattle.marks.specs.Marks.{slashMark, endMark, valueMark, markOf, isMark};
+ghost use Rattle.marks.specs.Strides.{isCalm, Ready, Strode, stoppedAt};
 ghost use Rattle.marks.specs.Walks.{beginning, Noted, Standing, Next};
 use grammar::Place;
 use grammar::Step;
 use markup::Cursor;
 use markup::advance;
+use markup::leaps::leap_from;
 use markup::moved_to;
 use reading::Zone;
 use scan::attribute_of;
@@ -251,6 +253,87 @@ pub fn is_mark(m: Mark) -> bool
     }
 }
 
+// May a walk leap in the zone: no tag begins or ends in it.
+fn is_calm(z: Zone) -> bool
+    ensures { λ r. ⌜ r ≡ isCalm z ⌝ }
+{
+    match z {
+        Zone::Outside => true,
+        Zone::Begun => false,
+        Zone::InTag(e) => true,
+        Zone::InValue(e, j) => true,
+        Zone::Slash => false,
+    }
+}
+
+// The walk that stands at i, behind the bytes that lead on inside the zone.
+fn stride(text: &[u8], w: Walk, i: usize) -> Walk
+    requires { ⌜ Ready (now text) w i ⌝ }
+    ensures { λ r. ⌜ Strode (now (text .entry)) w i r ⌝ }
+{
+    let c = w.cursor;
+    let place = c.place;
+    let top = c.top;
+    let depth = c.depth;
+    let cursor = Cursor {
+        place,
+        top,
+        depth,
+        live: true,
+    };
+    let still = Walk {
+        cursor,
+        at: w.at,
+        element: w.element,
+        from: w.from,
+        index: i,
+        mark: Mark::Nothing,
+    };
+    let z = zone_of(place);
+    let calm = is_calm(z);
+    if !calm {
+        return still;
+    }
+    let l = leap_from(text, text.len(), place, top, i);
+    let j = l.index;
+    if j <= i {
+        return still;
+    }
+    let e = element_in(z, w.element);
+    let inside = is_value(z);
+    let first = either(inside, w.from, j);
+    let p = l.place;
+    let leaped = Cursor {
+        place: p,
+        top: l.top,
+        depth,
+        live: true,
+    };
+    Walk {
+        cursor: leaped,
+        at: w.at,
+        element: e,
+        from: first,
+        index: j,
+        mark: Mark::Nothing,
+    }
+}
+
+// The walk that stands at i and has found no mark.
+fn stopped(w: Walk, i: usize) -> Walk
+    ensures { λ r. ⌜ r ≡ stoppedAt w i ⌝ }
+{
+    let c = w.cursor;
+    Walk {
+        cursor: c,
+        at: w.at,
+        element: w.element,
+        from: w.from,
+        index: i,
+        mark: Mark::Nothing,
+    }
+}
+
 // The next mark of the text, Nothing where there is none.
 pub fn next_mark(text: &[u8], stack: &mut [u8], walk: Walk) -> Walk
     requires { ⌜ Standing (now text) (now stack) walk ⌝ }
@@ -262,38 +345,29 @@ pub fn next_mark(text: &[u8], stack: &mut [u8], walk: Walk) -> Walk
         let c = w.cursor;
         let live = c.live;
         if !live {
-            return Walk {
-                cursor: c,
-                at: w.at,
-                element: w.element,
-                from: w.from,
-                index: i,
-                mark: Mark::Nothing,
-            };
+            return stopped(w, i);
         }
-        let place = c.place;
-        let top = c.top;
-        let depth = c.depth;
-        let at = w.at;
-        let element = w.element;
-        let from = w.from;
-        let b = text[i];
-        let next = note_byte(stack, place, top, depth, at, element, from, i, b);
+        let s = stride(text, w, i);
+        let j = s.index;
+        if text.len() <= j {
+            return stopped(s, j);
+        }
+        let behind = s.cursor;
+        let at = s.at;
+        let element = s.element;
+        let from = s.from;
+        let place = behind.place;
+        let top = behind.top;
+        let depth = behind.depth;
+        let b = text[j];
+        let next = note_byte(stack, place, top, depth, at, element, from, j, b);
         let m = next.mark;
         let found = is_mark(m);
         if found {
             return next;
         }
         w = next;
-        i += 1;
+        i = j + 1;
     }
-    let c = w.cursor;
-    Walk {
-        cursor: c,
-        at: w.at,
-        element: w.element,
-        from: w.from,
-        index: i,
-        mark: Mark::Nothing,
-    }
+    stopped(w, i)
 }

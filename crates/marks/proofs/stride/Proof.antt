@@ -1,0 +1,45 @@
+use borrow.Author.Needs.{needs}
+use Rattle.marks.specs.Strides.{stride-leap}
+use Rattle.marks.proofs.stride.Statement.{statement}
+use Rattle.marks.proofs.stride.Tie as tie
+
+zone-of-requires : tie.Need-zone-of-requires
+zone-of-requires c κs = search needs
+
+is-calm-requires : tie.Need-is-calm-requires
+is-calm-requires c κs = search needs
+
+returns : tie.Need-returns
+returns c = search needs
+
+leap-from-requires : tie.Need-leap-from-requires
+leap-from-requires c κs = search needs
+
+returns-2 : tie.Need-returns-2
+returns-2 c = search needs
+
+element-in-requires : tie.Need-element-in-requires
+element-in-requires c κs = search needs
+
+is-value-requires : tie.Need-is-value-requires
+is-value-requires c κs = search needs
+
+either-requires : tie.Need-either-requires
+either-requires c κs = search needs
+
+returns-3 : tie.Need-returns-3
+returns-3 c = search (needs, stride-leap)
+
+pub stride-spec : {M : Type 1} → statement M
+stride-spec =
+    tie.close
+    (tie.spec
+    zone-of-requires
+    is-calm-requires
+    returns
+    leap-from-requires
+    returns-2
+    element-in-requires
+    is-value-requires
+    either-requires
+    returns-3)
