@@ -11,6 +11,7 @@ ghost use Rattle.values.specs.Ids.{Noted, idsFrom};
 ghost use Rattle.find.specs.Digits.{DigitIn};
 use names::equal;
 use scan::is_space;
+use values::is_at;
 use values::item_end;
 
 fn wide(x: u16) -> usize
@@ -36,7 +37,7 @@ pub fn place_of(text: &[u8], ids: &[u16], n: usize, name: &[u8]) -> usize
         let at = number_at(ids, k * 2);
         let long = number_at(ids, k * 2 + 1);
         let to = at + long;
-        let here = equal(name, &text[at..to]);
+        let here = is_at(text, at, to, name);
         if here {
             return k;
         }

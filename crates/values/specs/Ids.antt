@@ -5,8 +5,10 @@ use mathlib.Core.List.{List, [], _∷_}
 use Prim.Native.Nat.{ℕ, zero, suc, _+_, _*_, _-_, _^_, _≤_, _<_}
 use native.Mathlib.Omega.{arith}
 use native.Mathlib.Numerals.{add-one}
-use lib.ListN.{length, getD, take, drop}
+use lib.ListN.{length, getD, take, drop, length-drop}
+use lib.Seq.{getD-take, getD-drop, length-take-le}
 use Rattle.definition.specs.Rows.{same}
+use Rattle.laws.specs.Lists.{same-eq}
 use Rattle.reading.specs.Faults.{isAmong}
 
 unfoldable pub idAt : List ℕ → List ℕ → ℕ → List ℕ
@@ -73,3 +75,22 @@ module _ (text ids name : List ℕ) (n k : ℕ) (w : Looking text ids name n k) 
       let b = w .below in
       let none : n - k ≡ 0 = omega arith in
       sym (w .left ∙ ap (λ (m : ℕ). isAmong name (idsFrom text ids m k)) none)
+
+-- ---- a name and a part of a text: most differ in length or in the last byte
+
+module _ (text name : List ℕ) (at to : ℕ) (order : at ≤ to) (inside : to ≤ length text) where
+  not-so : (b : Bool) → (b ≡ true → ⊥) → false ≡ b
+  not-so true h = absurd (h refl)
+  not-so false h = refl
+
+  long-so : length (take (to - at) (drop at text)) ≡ to - at
+  long-so = length-take-le (to - at) (drop at text) (simp length-drop (omega arith))
+
+  pub other-length : (to - at ≡ length name → ⊥) → false ≡ same name (take (to - at) (drop at text))
+  other-length d = not-so (same name (take (to - at) (drop at text))) (λ e. d (sym long-so ∙ ap (λ (l : List ℕ). length l) (sym (same-eq name (take (to - at) (drop at text)) e))))
+
+  pub other-last : 0 < to - at → (getD text (to - 1) 0 ≡ getD name (to - at - 1) 0 → ⊥) → false ≡ same name (take (to - at) (drop at text))
+  other-last h d = not-so (same name (take (to - at) (drop at text))) (λ e. d (sym (ap (λ (l : List ℕ). getD l (to - at - 1) 0) (same-eq name (take (to - at) (drop at text)) e) ∙ getD-take (to - at) (drop at text) (to - at - 1) 0 (omega arith) ∙ getD-drop at text (to - at - 1) 0 ∙ ap (λ (n : ℕ). getD text n 0) there)))
+    where
+      there : at + (to - at - 1) ≡ to - 1
+      there = omega arith

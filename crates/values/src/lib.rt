@@ -3,7 +3,7 @@
 ghost use mathlib.Core.Path.{_≡_};
 ghost use mathlib.Core.Bool.{true};
 ghost use Prim.Native.Nat.{_+_, _*_, _-_, _≤_, _<_};
-ghost use lib.ListN.{length, getD, drop};
+ghost use lib.ListN.{length, getD, take, drop};
 ghost use Rattle.definition.specs.Rows.{same};
 ghost use Rattle.reading.specs.Faults.{plain, namespace, versionText, typesOf, isAmong, isDigit, isDecimal};
 ghost use Rattle.values.specs.Items.{spread, foundOf, isBad, itemFaults};
@@ -113,6 +113,23 @@ fn number_at(numbers: &[u16], i: usize) -> usize
     wide(numbers[i])
 }
 
+// Is the name what stands in the text between two offsets. Most names differ in length or in their last byte, so these are asked first.
+pub fn is_at(text: &[u8], at: usize, to: usize, name: &[u8]) -> bool
+    requires { ⌜ (at ≤ to) × (to ≤ length (now text)) ⌝ }
+    ensures { λ r. ⌜ r ≡ same (now (name .entry)) (take (to - at) (drop at (now (text .entry)))) ⌝ }
+{
+    let long = to - at;
+    if long != name.len() {
+        return false;
+    }
+    if 0 < long {
+        if text[to - 1] != name[long - 1] {
+            return false;
+        }
+    }
+    equal(name, &text[at..to])
+}
+
 // Is the name the id of a row: the first n ids of the text are noted by place and length.
 pub fn is_id(text: &[u8], ids: &[u16], n: usize, name: &[u8]) -> bool
     requires { ⌜ Noted (now text) (now ids) n ⌝ }
@@ -123,7 +140,7 @@ pub fn is_id(text: &[u8], ids: &[u16], n: usize, name: &[u8]) -> bool
         let at = number_at(ids, k * 2);
         let long = number_at(ids, k * 2 + 1);
         let to = at + long;
-        let here = equal(name, &text[at..to]);
+        let here = is_at(text, at, to, name);
         if here {
             return true;
         }
