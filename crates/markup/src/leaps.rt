@@ -322,3 +322,36 @@ pub fn leap_from(text: &[u8], end: usize, place: Place, top: u8, i: usize) -> Le
         Place::Close => still,
     }
 }
+
+// The same for the search alone, as with advance_here.
+pub fn leap_here(text: &[u8], end: usize, place: Place, top: u8, i: usize) -> Leap
+    requires { ⌜ Ends (now text) end i × (wordAt place ≤ i) ⌝ }
+    ensures { λ r. ⌜ Leapt (now (text .entry)) end (zone place) place top i r ⌝ }
+{
+    let still = Leap {
+        place,
+        top,
+        index: i,
+    };
+    match place {
+        Place::Content => content_leap(text, end, top, i),
+        Place::Less => still,
+        Place::Bang => still,
+        Place::Dash => still,
+        Place::Comment => comment_leap(text, end, top, i),
+        Place::CommentDash => still,
+        Place::CommentEnd => still,
+        Place::Name(w, k) => name_leap(text, end, w, k, top, i),
+        Place::Tag(e, x) => tag_leap(text, end, e, x, top, i),
+        Place::Space(e, x) => space_leap(text, end, e, x, top, i),
+        Place::Attribute(e, x, j, k) => still,
+        Place::Equals(e, x, j) => still,
+        Place::Quote(e, x, j) => still,
+        Place::Value(e, x, j, q, v) => value_leap(text, end, e, x, j, q, v, top, i),
+        Place::Ampersand(e, x, j, q) => still,
+        Place::Entity(e, x, j, q, w, k) => still,
+        Place::Slash => still,
+        Place::End(k) => end_leap(text, end, k, top, i),
+        Place::Close => still,
+    }
+}

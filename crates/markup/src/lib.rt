@@ -7,7 +7,7 @@ ghost use Rattle.markup.specs.Growth.{wordAt};
 ghost use Rattle.markup.specs.Stack.{Landed, Stepped};
 ghost use Rattle.markup.specs.Passes.{Found};
 ghost use Rattle.markup.specs.Strides.{Limit, finished};
-use crate::leaps::leap_from;
+use crate::leaps::leap_here;
 use grammar::Place;
 use grammar::Step;
 use scan::is_char;
@@ -27,6 +27,42 @@ pub struct Cursor {
 
 // One byte at any place.
 pub fn advance(p: Place, t: u8, b: u8) -> Step
+    requires { ⌜ wordAt p < 65535 ⌝ }
+    ensures { λ r. ⌜ r ≡ stepOf p t b ⌝ }
+{
+    match p {
+        Place::Content => tags::content_step(t, b),
+        Place::Less => tags::less_step(t, b),
+        Place::Bang => tags::only_byte(45, Place::Dash, t, b),
+        Place::Dash => tags::only_byte(45, Place::Comment, t, b),
+        Place::Comment => tags::comment_step(Place::CommentDash, t, b),
+        Place::CommentDash => tags::comment_step(Place::CommentEnd, t, b),
+        Place::CommentEnd => tags::only_byte(62, Place::Content, t, b),
+        Place::Name(w, k) => tags::name_step(w, k, t, b),
+        Place::Tag(e, x) => tags::tag_step(e, x, t, b),
+        Place::Space(e, x) => tags::space_step(e, x, t, b),
+        Place::Attribute(e, x, j, k) => tags::attribute_step(e, x, j, k, t, b),
+        Place::Equals(e, x, j) => tags::equals_step(e, x, j, t, b),
+        Place::Quote(e, x, j) => values::quote_step(e, x, j, t, b),
+        Place::Value(e, x, j, q, v) => values::in_value(e, x, j, q, v, t, b),
+        Place::Ampersand(e, x, j, q) => values::entity_at(
+            pick_word(32, 48, 0, b),
+            1,
+            e,
+            x,
+            j,
+            q,
+            t,
+        ),
+        Place::Entity(e, x, j, q, w, k) => values::entity_step(e, x, j, q, w, k, t, b),
+        Place::Slash => tags::only_byte(62, Place::Content, t, b),
+        Place::End(k) => tags::end_step(k, t, b),
+        Place::Close => tags::close_step(t, b),
+    }
+}
+
+// The same for the search alone: a function with one caller is compiled into it, which halves the time of both walks over a text.
+fn advance_here(p: Place, t: u8, b: u8) -> Step
     requires { ⌜ wordAt p < 65535 ⌝ }
     ensures { λ r. ⌜ r ≡ stepOf p t b ⌝ }
 {
@@ -123,7 +159,7 @@ pub fn read_byte(stack: &mut [u8], place: Place, top: u8, depth: usize, b: u8) -
             live: false,
         };
     }
-    let s = advance(place, top, b);
+    let s = advance_here(place, top, b);
     moved_to(stack, depth, s)
 }
 
@@ -197,7 +233,7 @@ pub fn scan_with(text: &[u8], stack: &mut [u8]) -> Scanned
         let place = c.place;
         let top = c.top;
         let depth = c.depth;
-        let l = leap_from(text, end, place, top, i);
+        let l = leap_here(text, end, place, top, i);
         let p = l.place;
         let t = l.top;
         let j = l.index;
