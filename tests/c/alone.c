@@ -9,6 +9,9 @@ static auttervil_session session;
 static uint32_t trace[32];
 static auttervil_call calls[1];
 static auttervil_result results[1];
+static const char text[] = "<scxml><state id='off'/></scxml>";
+static char message[AUTTERVIL_MESSAGE_BYTES];
+static auttervil_scratch scratch;
 
 uint64_t play(void);
 
@@ -18,6 +21,11 @@ uint64_t play(void)
     auttervil_builder b;
     auttervil_tables tables;
     auttervil_compiled compiled;
+    const size_t first = auttervil_prolog_length(text, sizeof text - 1);
+    auttervil_reading reading = auttervil_read(text + first, sizeof text - 1 - first, numbers, sizeof numbers / sizeof numbers[0], names, sizeof names);
+    if (reading.answer == AUTTERVIL_BAD_TEXT)
+        return auttervil_show_offset(message, sizeof message, text, sizeof text - 1, first + reading.offset);
+    reading = auttervil_read_with(&scratch, text, sizeof text - 1, numbers, sizeof numbers / sizeof numbers[0], names, sizeof names);
     auttervil_begin(&b, most, numbers, sizeof numbers / sizeof numbers[0], names, sizeof names);
     auttervil_add_row(&b, AUTTERVIL_KIND_STATE, NULL, "off");
     auttervil_add_row(&b, AUTTERVIL_KIND_STATE, NULL, "on");
@@ -25,7 +33,7 @@ uint64_t play(void)
     auttervil_add_host(&b, 1);
     auttervil_add_transition(&b, "off", "push", "on");
     if (auttervil_finish(&b, &tables) != AUTTERVIL_FAULT_NONE)
-        return b.fault;
+        return b.fault + reading.answer;
     compiled = auttervil_compile(&tables, place, sizeof place / sizeof place[0], name_place, sizeof name_place);
     if (!auttervil_is_compatible() || auttervil_check(&compiled.chart) != AUTTERVIL_DONE || auttervil_room(&compiled.chart) > 32)
         return auttervil_fingerprint(&compiled.chart);

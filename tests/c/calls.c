@@ -355,8 +355,8 @@ static void reading(void)
             unknown++;
         else
             CHECK(number < 200 || auttervil_strstatus(number) == auttervil_strplace(number));
-    /* 0 to 11 and three statuses; 32 of lent places. */
-    CHECK(unknown == 300 - 15 - 32);
+    /* 0 to 12 and three statuses; 37 of lent places. */
+    CHECK(unknown == 300 - 16 - 37);
     CHECK(auttervil_strplace(199) == NULL && auttervil_strplace(AUTTERVIL_NO_ROOM) == NULL);
     CHECK(strcmp(auttervil_strstatus(AUTTERVIL_SESSION_MISALIGNED), "the session is misaligned") == 0);
     CHECK(strcmp(auttervil_strstatus(AUTTERVIL_TRACE_OVERLAP), "the trace overlaps another lent place") == 0);

@@ -6,7 +6,7 @@
 
 #include "test.h"
 
-enum { PAGE = 4096, BYTES = 16 * PAGE };
+enum { PAGE = 4096, BYTES = 16 * PAGE + (int)(sizeof(auttervil_scratch) / 4096 + 1) * PAGE };
 
 /* Pages between two that may not be touched. */
 typedef struct fenced {
@@ -16,7 +16,7 @@ typedef struct fenced {
 enum side { IN_FRONT, BEHIND };
 
 static lent a, door;
-static fenced numbers, names, place, name_place, trace, text, session_place, internal, external;
+static fenced numbers, names, place, name_place, trace, text, session_place, internal, external, work;
 
 static fenced make_fenced(void)
 {
@@ -242,6 +242,39 @@ static void performing(const lent *l, enum side side)
     CHECK(listed);
 }
 
+/* A text that may not be written, and arrays of exactly the size of its tables, or a cell or byte less; each beginning of the text too. */
+static void reading(enum side side)
+{
+    static const char scxml[] = "<scxml initial='b'><state id='a'><onentry><raise event='e'/></onentry></state><state id='b'><transition event='e' target='a'/></state></scxml>";
+    static uint64_t plain[64];
+    static uint8_t plain_names[256];
+    const size_t length = sizeof scxml - 1;
+    const auttervil_tables tables = auttervil_read(scxml, length, plain, 64, plain_names, 256).tables;
+    const char *lent_text = (const char *)copy_at_fence(text, scxml, length, side);
+    auttervil_scratch *lent_scratch = (auttervil_scratch *)(void *)at_fence(work, sizeof *lent_scratch, side);
+    size_t less, end;
+    int right = tables.cells == 55 && tables.bytes == 192;
+    set_writable(place, 1);
+    set_writable(name_place, 1);
+    for (less = 0; less < 3; less++) {
+        const size_t cells = tables.cells - (less == 1);
+        const size_t bytes = tables.bytes - (less == 2);
+        uint64_t *in_cells = (uint64_t *)(void *)at_fence(place, 8 * cells, side);
+        uint8_t *in_bytes = at_fence(name_place, bytes, side);
+        right = right && auttervil_read(lent_text, length, in_cells, cells, in_bytes, bytes).answer == (less == 0 ? AUTTERVIL_DONE : AUTTERVIL_SIZE);
+        right = right && auttervil_read_with(lent_scratch, lent_text, length, in_cells, cells, in_bytes, bytes).answer == (less == 0 ? AUTTERVIL_DONE : AUTTERVIL_SIZE);
+        right = right && (less > 0 || (memcmp(in_cells, plain, 8 * cells) == 0 && memcmp(in_bytes, plain_names, bytes) == 0));
+    }
+    for (end = 0; end < length; end++) {
+        auttervil_reading cut;
+        lent_text = (const char *)copy_at_fence(text, scxml, end, side);
+        cut = auttervil_read_with(lent_scratch, lent_text, end, plain, 64, plain_names, 256);
+        right = right && cut.answer == AUTTERVIL_BAD_TEXT && cut.offset == end && auttervil_position_of(lent_text, end, end).column == end + 1;
+        right = right && auttervil_prolog_length(lent_text, end) == 0 && auttervil_show_offset(NULL, 0, lent_text, end, end) > end;
+    }
+    CHECK(right);
+}
+
 int main(void)
 {
     static const char *const of_a[] = {"e4", "e1", "e2", "*", "nothing"};
@@ -261,6 +294,7 @@ int main(void)
     session_place = make_fenced();
     internal = make_fenced();
     external = make_fenced();
+    work = make_fenced();
     for (side = IN_FRONT; side <= BEHIND; side++) {
         compiling(&a, (enum side)side);
         compiling(&door, (enum side)side);
@@ -274,6 +308,7 @@ int main(void)
         changed(&door, (enum side)side, 5000);
         performing(&a, (enum side)side);
         performing(&door, (enum side)side);
+        reading((enum side)side);
     }
     return report();
 }

@@ -11,18 +11,31 @@
 
 #include "test.h"
 
-enum { PAGE = 4096, BELOW = 1 << 18, MOST_STACK = 1 << 16, PAINT = 0x5a };
+enum { PAGE = 4096, BELOW = 1 << 18, MOST_STACK = 1 << 16, LARGEST_STACK = 1 << 22, PAINT = 0x5a };
 /* How a process ends. */
 enum { RETURNED = 10, IN_GUARD = 11, ELSEWHERE = 12 };
 
 static lent a;
 static auttervil_call calls[3];
 static auttervil_result results[3];
+static const char scxml[] = "<scxml><state id='a'><onentry><raise event='e'/></onentry><transition event='e' target='a'/></state></scxml>";
+AUTTERVIL_PLACES(from_text, 4, 4, 4, 4, 4, 4);
+static auttervil_scratch scratch;
 static uint8_t *below; /* shared with the processes; then the page, then the stack */
 static ucontext_t here, there;
 
 static void nothing(void)
 {
+}
+
+static void read_text(void)
+{
+    (void)AUTTERVIL_READ(scxml, sizeof scxml - 1, from_text);
+}
+
+static void read_with(void)
+{
+    (void)AUTTERVIL_READ_WITH(&scratch, scxml, sizeof scxml - 1, from_text);
 }
 
 static void sizes(void)
@@ -145,13 +158,13 @@ int main(void)
     static const struct {
         const char *name;
         void (*call)(void);
-    } all[] = {{"sizes", sizes}, {"compile", compile}, {"check", check_chart}, {"room", room}, {"fingerprint", fingerprint}, {"start", start},
+    } all[] = {{"read", read_text}, {"read_with", read_with}, {"sizes", sizes}, {"compile", compile}, {"check", check_chart}, {"room", room}, {"fingerprint", fingerprint}, {"start", start},
                {"post", post}, {"run", run}, {"step", step}, {"perform", perform}};
-    /* A page more than the calls may take, for what the process takes at the top of its stack and for the linker. */
+    /* A page more than the calls may take, for what the process takes at the top of its stack and for the linker. A read works on its stack. */
     const size_t enough = MOST_STACK + PAGE;
     size_t i, stack;
     int is_left, how;
-    below = (uint8_t *)mmap(NULL, BELOW + PAGE + enough, PROT_READ | PROT_WRITE, MAP_SHARED | MAP_ANONYMOUS, -1, 0);
+    below = (uint8_t *)mmap(NULL, BELOW + PAGE + LARGEST_STACK, PROT_READ | PROT_WRITE, MAP_SHARED | MAP_ANONYMOUS, -1, 0);
     if (below == MAP_FAILED || mprotect(below + BELOW, PAGE, PROT_NONE) != 0) {
         printf("no pages\n");
         return 1;
@@ -169,7 +182,7 @@ int main(void)
             faults += how == IN_GUARD;
         }
         printf("%s: %u of %u stacks too small\n", all[i].name, faults, MOST_STACK / 512);
-        CHECK(ends(all[i].call, enough, &is_left) == RETURNED && is_left);
+        CHECK(ends(all[i].call, all[i].call == read_text ? LARGEST_STACK : enough, &is_left) == RETURNED && is_left);
         CHECK(faults > 0 || all[i].call == sizes || all[i].call == fingerprint);
     }
     CHECK(ends(nothing, 4096, &is_left) == RETURNED && is_left);

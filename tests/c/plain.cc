@@ -25,9 +25,25 @@ static void lamp_is_lit()
     CHECK(auttervil_step(&a.session, nullptr, "push", 4, 9, a.trace, COUNT(a.trace)).status == AUTTERVIL_CHART_NULL);
 }
 
+AUTTERVIL_PLACES_FOR_TEXT(read);
+static auttervil_scratch scratch;
+
+static void text_is_read()
+{
+    static const char text[] = "<scxml><state id='off'><transition event='push' target='on'/></state><state id='on'/></scxml>";
+    char message[AUTTERVIL_MESSAGE_BYTES];
+    auttervil_reading reading = AUTTERVIL_READ(text, sizeof text - 1, read);
+    auttervil_compiled compiled = AUTTERVIL_COMPILE(&reading.tables, read);
+    CHECK(reading.answer == AUTTERVIL_DONE && compiled.answer == AUTTERVIL_DONE && auttervil_find_row(&compiled.chart, "on") == 2);
+    reading = AUTTERVIL_READ_WITH(&scratch, text, 30, read);
+    CHECK(reading.answer == AUTTERVIL_BAD_TEXT && reading.offset == 30 && auttervil_prolog_length(text, sizeof text - 1) == 0);
+    CHECK(auttervil_position_of(text, 30, reading.offset).column == 31 && auttervil_show_offset(message, sizeof message, text, 30, 30) == strlen(message));
+}
+
 int main()
 {
     lamp_is_lit();
+    text_is_read();
     make_chart_a(&a);
     auttervil_started started = auttervil_start(&a.session, &a.chart, a.trace, COUNT(a.trace));
     CHECK(started.answer == AUTTERVIL_DONE && started.count == 5);

@@ -6,7 +6,7 @@
 
 #include "test.h"
 
-enum { STACK = 1 << 20, PAINT = 0x5a };
+enum { STACK = 1 << 20, LARGEST_STACK = 1 << 23, PAINT = 0x5a };
 
 /* A call to be measured: of a chart, with a name. */
 typedef struct made {
@@ -15,9 +15,17 @@ typedef struct made {
 } made;
 
 static lent charts[2];
+AUTTERVIL_PLACES_FOR_TEXT(from_text);
+static auttervil_scratch scratch;
+/* An element of each kind, and a fault that only the last pass can find. */
+static const char *const texts[2] = {
+    "<scxml initial='p'><parallel id='p'><transition event='done.state.p' target='f'/><state id='a' initial='b'><state id='b'><onentry><raise event='e'/>"
+    "<if cond=\"In('a')\"><log label='7'/><elseif cond=\"In('b')\"/><else/></if></onentry><onexit/></state><history id='h' type='deep'><transition target='b'/>"
+    "</history></state><state id='c'><initial><transition target='d'/></initial><final id='d'/></state></parallel><final id='f'/></scxml>",
+    "<scxml><state id='a'><transition event='e' target='a b'/></state></scxml>"};
 static union {
     max_align_t aligned;
-    uint8_t bytes[STACK];
+    uint8_t bytes[LARGEST_STACK];
 } stack __attribute__((aligned(4096)));
 
 static void *nothing(void *m)
@@ -53,6 +61,20 @@ static void *room(void *m)
 static void *fingerprint(void *m)
 {
     (void)auttervil_fingerprint(&((made *)m)->l->chart);
+    return m;
+}
+
+static void *read_text(void *m)
+{
+    const char *text = texts[((made *)m)->l == &charts[1]];
+    (void)AUTTERVIL_READ(text, strlen(text), from_text);
+    return m;
+}
+
+static void *read_with(void *m)
+{
+    const char *text = texts[((made *)m)->l == &charts[1]];
+    (void)AUTTERVIL_READ_WITH(&scratch, text, strlen(text), from_text);
     return m;
 }
 
@@ -97,22 +119,28 @@ static void *perform(void *m)
     return m;
 }
 
-/* The bytes of the stack that the call changed, from its top down. */
-static size_t used_by(void *(*call)(void *), made *m)
+/* The bytes of a stack of this size that the call changed, from its top down. */
+static size_t used_of(size_t size, void *(*call)(void *), made *m)
 {
     pthread_t thread;
     pthread_attr_t how;
     size_t low = 0;
-    memset(stack.bytes, PAINT, STACK);
-    if (pthread_attr_init(&how) != 0 || pthread_attr_setstack(&how, stack.bytes, STACK) != 0 || pthread_create(&thread, &how, call, m) != 0) {
+    memset(stack.bytes, PAINT, size);
+    if (pthread_attr_init(&how) != 0 || pthread_attr_setstack(&how, stack.bytes, size) != 0 || pthread_create(&thread, &how, call, m) != 0) {
         printf("no thread\n");
         exit(1);
     }
     pthread_join(thread, NULL);
     pthread_attr_destroy(&how);
-    while (low < STACK && stack.bytes[low] == PAINT)
+    while (low < size && stack.bytes[low] == PAINT)
         low++;
-    return STACK - low;
+    return size - low;
+}
+
+/* A read works on its stack. */
+static size_t used_by(void *(*call)(void *), made *m)
+{
+    return used_of(call == read_text ? LARGEST_STACK : STACK, call, m);
 }
 
 int main(void)
@@ -120,7 +148,7 @@ int main(void)
     static const struct {
         const char *name;
         void *(*call)(void *);
-    } calls[] = {{"auttervil_sizes", sizes}, {"auttervil_compile", compile}, {"auttervil_check", check_chart}, {"auttervil_room", room},
+    } calls[] = {{"auttervil_read", read_text}, {"auttervil_read_with", read_with}, {"auttervil_sizes", sizes}, {"auttervil_compile", compile}, {"auttervil_check", check_chart}, {"auttervil_room", room},
                  {"auttervil_fingerprint", fingerprint}, {"auttervil_start", start}, {"auttervil_step", step}, {"auttervil_perform", perform},
                  {"auttervil_post", post}, {"auttervil_run", run},
     };
@@ -147,7 +175,7 @@ int main(void)
     }
     for (i = 0; i < COUNT(calls); i++) {
         printf("%s: %lu bytes of stack\n", calls[i].name, (unsigned long)most[i]);
-        CHECK(most[i] < STACK / 2);
+        CHECK(most[i] < (calls[i].call == read_text ? LARGEST_STACK : STACK) / 2);
     }
     return report();
 }

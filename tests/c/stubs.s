@@ -2,7 +2,7 @@
 # size of 1; what does not fit two registers stands where the caller has room for it.
     .text
     .globl auttervil_raw2_version, auttervil_raw2_numbers_size, auttervil_raw2_names_size, auttervil_raw2_compile, auttervil_raw2_check
-    .globl auttervil_raw2_room, auttervil_raw2_fingerprint
+    .globl auttervil_raw2_room, auttervil_raw2_fingerprint, auttervil_raw2_read, auttervil_raw2_read_with
     .globl auttervil_raw2_start, auttervil_raw2_post, auttervil_raw2_run, auttervil_raw2_step, auttervil_raw2_perform
 auttervil_raw2_version:
     movl $2, %eax
@@ -22,6 +22,9 @@ auttervil_raw2_perform:
     xorl %eax, %eax
     xorl %edx, %edx
     ret
+auttervil_raw2_read:
+auttervil_raw2_read_with:
+    movq $0, 24(%rdi)
 auttervil_raw2_step:
     movq %rdi, %rax
     movq $0, (%rdi)
