@@ -1,4 +1,4 @@
-# make demo    a container's day as a C program plays it, and a picture of its chart (build/lifecycle.svg) where Graphviz is installed
+# make demo    a container's day as a C program plays it from the text of its chart, and a picture of its chart (build/lifecycle.svg) where Graphviz is installed
 # make test    proves every crate, tries every must-fail edit, runs the second program, the tests in C and every check of this repository
 # make lib     build/libauttervil.a, the static library for C; so does make alone
 # make install PREFIX=/..  header, library and auttervil.pc; make uninstall PREFIX=/.. takes them away
@@ -42,21 +42,21 @@ lib: build/libauttervil.a
 build/libauttervil.a: crates.txt $(shell find crates -name '*.rt' -o -name '*.antt')
 	@bash prove
 
-build/lifecycle: $(LIFECYCLE)/lifecycle.c $(LIFECYCLE)/chart.h include/auttervil.h $(LIB)
+build/lifecycle: $(LIFECYCLE)/lifecycle.c $(LIFECYCLE)/text.h $(LIFECYCLE)/chart.h include/auttervil.h $(LIB)
 	@$(CC) -std=c99 -O2 -Wall -Wextra -Iinclude $(LIFECYCLE)/lifecycle.c -o build/lifecycle $(LIB)
 
 lifecycle: build/lifecycle
-	@build/lifecycle < $(LIFECYCLE)/day.txt
+	@build/lifecycle $(LIFECYCLE)/lifecycle.scxml < $(LIFECYCLE)/day.txt
 
 # The chart at noon, when a reload has been paused.
 picture: build/lifecycle second
-	@sed '/^resume/,$$d' $(LIFECYCLE)/day.txt | build/lifecycle --tables | build/second/release/picture > build/lifecycle.dot
+	@sed '/^resume/,$$d' $(LIFECYCLE)/day.txt | build/lifecycle --tables $(LIFECYCLE)/lifecycle.scxml | build/second/release/picture > build/lifecycle.dot
 	@if command -v dot > /dev/null; then dot -Tsvg build/lifecycle.dot -o build/lifecycle.svg && echo 'The chart at noon: build/lifecycle.svg'; \
 	else echo 'The chart at noon: build/lifecycle.dot (Graphviz, which is not installed, would make a picture of it)'; fi
 
 # Writes what the example prints anew, for reading before it is committed.
 expected: build/lifecycle
-	@build/lifecycle < $(LIFECYCLE)/day.txt > $(LIFECYCLE)/expected.txt
+	@build/lifecycle $(LIFECYCLE)/lifecycle.scxml < $(LIFECYCLE)/day.txt > $(LIFECYCLE)/expected.txt
 
 test-c:
 	@bash tests/c/run

@@ -3,13 +3,14 @@
  *
  * The line 'new' starts another container, an empty one or one that begins with # does nothing.
  *
- *     lifecycle < day.txt              the trace in words
- *     lifecycle --tables < day.txt     nothing but the chart and the active rows at the end, for second's picture
+ *     lifecycle lifecycle.scxml < day.txt              the chart from its text; the trace in words
+ *     lifecycle < day.txt                              the same chart, built by calls
+ *     lifecycle --tables [lifecycle.scxml] < day.txt   nothing but the chart and the active rows at the end, for second's picture
  */
 #include <stdio.h>
 #include <string.h>
 
-#include "chart.h"
+#include "text.h"
 
 /* Entries of the trace, which have to be enough for any round of the chart; rounds of a call; and calls for one event: no chart keeps the init for ever. */
 enum { ROOM = 256, ROUNDS = 100, CALLS = 100 };
@@ -77,9 +78,23 @@ static void print_active(const auttervil_chart *chart)
     printf(" ]\n");
 }
 
+/* The chart from its text, where there is one, else built; with this id for the state of mounted volumes. */
+static uint32_t try_id(const document *d, const char *id)
+{
+    static document renamed;
+    auttervil_builder b;
+    auttervil_tables tables;
+    auttervil_reading reading;
+    if (d == NULL)
+        return compile_chart(&b, id, &tables).answer;
+    rename_mounted(&renamed, d, id);
+    (void)read_chart(&renamed, &reading);
+    return reading.answer;
+}
+
 /* The runtime of the incident kept names in slots of 64 bytes: an id of 60 fitted, its done event did not. Here such a chart is refused when it is
- * compiled. There is no session yet, and so no host action that could mount anything. */
-static void show_incident(void)
+ * read or compiled. There is no session yet, and so no host action that could mount anything. */
+static void show_incident(const document *d)
 {
     static const char id[] = "mounted-volume-of-the-orders-database-with-its-write-ahead-log";
     static const size_t lengths[] = {52, 53, 60};
@@ -87,14 +102,24 @@ static void show_incident(void)
     printf("The incident, with ids cut from \"%s\":\n", id);
     for (i = 0; i < sizeof lengths / sizeof lengths[0]; i++) {
         char cut[64] = {0};
-        auttervil_builder b;
-        auttervil_tables tables;
-        auttervil_compiled compiled;
+        uint32_t answer;
         memcpy(cut, id, lengths[i]);
-        compiled = compile_chart(&b, cut, &tables);
-        printf("    an id of %u bytes: compile answers %u, %s\n", (unsigned)lengths[i], (unsigned)compiled.answer, auttervil_strstatus(compiled.answer));
+        answer = try_id(d, cut);
+        printf("    an id of %u bytes: answer %u, %s\n", (unsigned)lengths[i], (unsigned)answer, auttervil_strstatus(answer));
     }
     printf("    host actions asked for so far: %u\n\n", host_actions);
+}
+
+/* A chart with a typo is refused before anything runs too, and the message says where. */
+static void show_typo(const document *d)
+{
+    static document mistyped;
+    auttervil_reading reading;
+    replace(&mistyped, d, "target=\"mounted\"", "target=\"mountd\"");
+    (void)read_chart(&mistyped, &reading);
+    printf("A typo in a target:\n");
+    print_refusal(stdout, &mistyped, &reading);
+    printf("\n");
 }
 
 static void print_rounds(const auttervil_chart *chart, auttervil_ran ran)
@@ -197,19 +222,46 @@ static int play(const auttervil_chart *chart, int quiet)
     return 1;
 }
 
+/* The chart and its tables, which stay in the places of chart.h. */
+static auttervil_compiled get_chart(const document *d, const char *path, auttervil_tables *tables)
+{
+    auttervil_builder b;
+    auttervil_reading reading;
+    auttervil_compiled compiled;
+    if (d == NULL) {
+        compiled = compile_chart(&b, "mounted", tables);
+        if (compiled.answer != AUTTERVIL_DONE)
+            fprintf(stderr, "chart: %s; builder: %s: %s\n", auttervil_strstatus(compiled.answer), auttervil_strfault(b.fault), text(b.culprit));
+        return compiled;
+    }
+    compiled = read_chart(d, &reading);
+    *tables = reading.tables;
+    if (reading.answer != AUTTERVIL_DONE) {
+        fprintf(stderr, "%s: ", path);
+        print_refusal(stderr, d, &reading);
+    }
+    return compiled;
+}
+
 int main(int count, char **arguments)
 {
-    int quiet = count > 1 && strcmp(arguments[1], "--tables") == 0;
-    auttervil_builder b;
+    static document from_file;
+    const int quiet = count > 1 && strcmp(arguments[1], "--tables") == 0;
+    const char *path = count > 1 + quiet ? arguments[1 + quiet] : NULL;
+    const document *d = path == NULL ? NULL : &from_file;
     auttervil_tables tables;
     auttervil_compiled compiled;
-    if (!quiet)
-        show_incident();
-    compiled = compile_chart(&b, "mounted", &tables);
-    if (compiled.answer != AUTTERVIL_DONE) {
-        fprintf(stderr, "chart: %s; builder: %s: %s\n", auttervil_strstatus(compiled.answer), auttervil_strfault(b.fault), text(b.culprit));
+    if (path != NULL && !load(&from_file, path)) {
+        fprintf(stderr, "%s: cannot be read\n", path);
         return 1;
     }
+    if (!quiet)
+        show_incident(d);
+    if (!quiet && d != NULL)
+        show_typo(d);
+    compiled = get_chart(d, path, &tables);
+    if (compiled.answer != AUTTERVIL_DONE)
+        return 1;
     if (auttervil_room(&compiled.chart) > ROOM) {
         fprintf(stderr, "chart: a round may write %lu entries, more than the trace has\n", (unsigned long)auttervil_room(&compiled.chart));
         return 1;
