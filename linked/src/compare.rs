@@ -86,6 +86,7 @@ pub fn add(mine: &mut [u64], theirs: &[u64]) {
 }
 
 /// A place between guards. Everything in it is known, so that every change is seen.
+#[derive(Clone)]
 pub struct Guarded<T> {
     pub cells: Vec<T>,
     lent: Range<usize>,

@@ -30,10 +30,45 @@ pub struct Stepped {
     pub count: usize,
 }
 
+/// What reading a text gives: the offset of a fault, and how much of the two places the tables take.
+#[repr(C)]
+#[derive(Clone, Copy, PartialEq, Eq, Debug)]
+pub struct Read {
+    pub answer: c_uint,
+    pub offset: usize,
+    pub cells: usize,
+    pub bytes: usize,
+}
+
 const _: () = assert!(size_of::<Started>() == 16 && size_of::<Ran>() == 16 && size_of::<Stepped>() == 24);
+const _: () = assert!(size_of::<Read>() == 32);
 
 extern "C" {
     pub fn auttervil_raw2_version() -> c_uint;
+    pub fn auttervil_raw2_read(
+        text: *const u8,
+        text_count: usize,
+        numbers: *mut u64,
+        numbers_count: usize,
+        names: *mut u8,
+        names_count: usize,
+    ) -> Read;
+    pub fn auttervil_raw2_read_with(
+        text: *const u8,
+        text_count: usize,
+        numbers: *mut u64,
+        numbers_count: usize,
+        names: *mut u8,
+        names_count: usize,
+        cells: *mut u64,
+        cells_count: usize,
+        counters: *mut u32,
+        counters_count: usize,
+        places: *mut u16,
+        places_count: usize,
+        bytes: *mut u8,
+        bytes_count: usize,
+    ) -> Read;
     pub fn auttervil_raw2_numbers_size(numbers: *const u64, numbers_count: usize) -> usize;
     pub fn auttervil_raw2_names_size(numbers: *const u64, numbers_count: usize) -> usize;
     pub fn auttervil_raw2_compile(

@@ -9,3 +9,4 @@ pub mod posts;
 pub mod seeds;
 pub mod sessions;
 pub mod story;
+pub mod texts;

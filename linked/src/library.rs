@@ -49,6 +49,60 @@ pub fn version() -> u32 {
     unsafe { auttervil_raw2_version() }
 }
 
+/// Reads a text; the tables stand at the beginning of both places.
+pub fn read(text: &[u8], numbers: &mut [u64], names: &mut [u8]) -> Read {
+    unsafe {
+        auttervil_raw2_read(
+            text.as_ptr(),
+            text.len(),
+            numbers.as_mut_ptr(),
+            numbers.len(),
+            names.as_mut_ptr(),
+            names.len(),
+        )
+    }
+}
+
+/// What a read works in, of the sizes that the header's `auttervil_scratch` has.
+pub struct Scratch {
+    pub cells: Vec<u64>,
+    pub counters: Vec<u32>,
+    pub places: Vec<u16>,
+    pub bytes: Vec<u8>,
+}
+
+impl Scratch {
+    pub fn filled(with: u8) -> Scratch {
+        Scratch {
+            cells: vec![u64::from(with); 33_000],
+            counters: vec![u32::from(with); 3_000],
+            places: vec![u16::from(with); 140_000],
+            bytes: vec![with; 85_000],
+        }
+    }
+
+    pub fn read(&mut self, text: &[u8], numbers: &mut [u64], names: &mut [u8]) -> Read {
+        unsafe {
+            auttervil_raw2_read_with(
+                text.as_ptr(),
+                text.len(),
+                numbers.as_mut_ptr(),
+                numbers.len(),
+                names.as_mut_ptr(),
+                names.len(),
+                self.cells.as_mut_ptr(),
+                self.cells.len(),
+                self.counters.as_mut_ptr(),
+                self.counters.len(),
+                self.places.as_mut_ptr(),
+                self.places.len(),
+                self.bytes.as_mut_ptr(),
+                self.bytes.len(),
+            )
+        }
+    }
+}
+
 pub fn numbers_size(numbers: &[u64]) -> usize {
     unsafe { auttervil_raw2_numbers_size(numbers.as_ptr(), numbers.len()) }
 }

@@ -5,8 +5,9 @@ use linked::calls;
 use linked::compare::{self, Counts, Kinds};
 use linked::library;
 use linked::posts;
-use linked::seeds::try_all;
+use linked::seeds::{try_all, Tally};
 use linked::story;
+use linked::texts;
 use std::ops::Range;
 use std::process::ExitCode;
 
@@ -30,8 +31,12 @@ impl Outcome {
     fn add(&mut self, seeds: u64, failures: Vec<String>, demands: Vec<(String, bool)>) {
         self.passed += seeds - failures.len() as u64;
         self.failures.extend(failures);
+        self.demand(seeds >= ENOUGH, demands);
+    }
+
+    fn demand(&mut self, enough: bool, demands: Vec<(String, bool)>) {
         for (what, met) in demands {
-            match met || seeds < ENOUGH {
+            match met || !enough {
                 true => self.passed += 1,
                 false => self.failures.push(format!("not met often enough: {what}")),
             }
@@ -47,7 +52,8 @@ fn main() -> ExitCode {
     let mut outcome = Outcome::default();
     compare_charts(seeds.clone(), &mut outcome);
     compare_posts(seeds.clone(), &mut outcome);
-    compare_calls(seeds, &mut outcome);
+    compare_calls(seeds.clone(), &mut outcome);
+    compare_texts(seeds, &mut outcome);
     outcome.add(1, story::play().err().into_iter().collect(), Vec::new());
     outcome.add(1, is_of_this_number().err().into_iter().collect(), Vec::new());
     let Outcome { passed, mut failures } = outcome;
@@ -150,6 +156,24 @@ fn compare_calls(seeds: Range<u64>, outcome: &mut Outcome) {
     println!("{whole:>10}  lists of calls to their end\n{part:>10}  lists that end before it");
     demands.push(("whole lists of calls, and lists that end early".to_string(), whole.min(part) >= OFTEN));
     outcome.add(count, failures, demands);
+}
+
+/// Texts in random spellings, a tenth of the seeds, and every change of one byte of a few texts: every answer
+/// that a read can have.
+fn compare_texts(seeds: Range<u64>, outcome: &mut Outcome) {
+    let count = (seeds.end - seeds.start).div_ceil(10);
+    let (mut counts, failures) =
+        try_all(seeds.start..seeds.start + count, texts::Counts::default(), texts::try_seed);
+    let (changed, more) = try_all(0..texts::places(), texts::Counts::default(), texts::try_place);
+    counts.join(&changed);
+    let mut demands = Vec::new();
+    for answer in [0, 1, 2, 3, 4, 5, 12] {
+        println!("{:>10}  texts with answer {answer}", counts.answers[answer]);
+        demands.push((format!("a text with answer {answer}"), counts.answers[answer] >= OFTEN));
+    }
+    outcome.add(count, failures, Vec::new());
+    outcome.add(texts::places(), more, Vec::new());
+    outcome.demand(seeds.end - seeds.start >= ENOUGH, demands);
 }
 
 /// The archive is the one that these declarations are for.

@@ -15,6 +15,7 @@ pub mod faults;
 pub mod plant;
 pub mod read;
 pub mod recogniser;
+pub mod samples;
 pub mod scan;
 pub mod spell;
 pub mod values;
