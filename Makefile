@@ -6,7 +6,7 @@
 # make chart-a   plays chart A by the second program and prints its trace in words
 # make bench   how long the library takes, beside the second program, an ordinary engine and where it is installed Qt 6 SCXML (docs/bench.md)
 # make bench-host   an event as a host sends it, alone, and which wanted ratios are missed (OPTIONS=--strict: fails then); bench-qt installs Qt 6 SCXML first
-#                   (Debian), bench-instructions counts instructions, bench-worst measures the dearest calls by rows, bench-matching prints the table of matching alone
+#                   (Debian), bench-instructions counts instructions, bench-worst measures the dearest calls by rows, bench-matching prints the table of matching alone, bench-reading that of reading texts
 # make examples   writes the computed examples anew (crates/examples)
 # make cases   writes what the programs over the crates read and print anew
 # make expected   writes what the life cycle prints anew
@@ -23,7 +23,7 @@ VERSION = $(shell sed -n 's/^\#define AUTTERVIL_VERSION "\(.*\)"/\1/p' include/a
 LIFECYCLE = examples/lifecycle
 
 .DEFAULT_GOAL := lib
-.PHONY: test demo lib bench bench-matching bench-host bench-worst bench-qt bench-instructions agree examples cases second linked clean lifecycle picture chart-a test-c expected absolute install uninstall
+.PHONY: test demo lib bench bench-matching bench-reading bench-host bench-worst bench-qt bench-instructions agree examples cases second linked clean lifecycle picture chart-a test-c expected absolute install uninstall
 
 test:
 	@bash tests/run
@@ -91,10 +91,16 @@ bench-matching: lib build/libmatch_bench.a
 bench: bench-matching
 	@$(CARGO) --profile measured $(LINKED) --bin bench
 	@build/linked/measured/bench
+	@$(MAKE) --no-print-directory bench-reading
 	@AUTTERVIL_LIBRARY=$(CURDIR)/build $(CARGO) $(BENCH) --bin rounds
 	@mkdir -p build/rounds
 	@build/bench/release/rounds build/rounds
 	@$(MAKE) --no-print-directory bench-host bench-worst
+
+# Texts of 1 to 32 KB, by the library and the second program.
+bench-reading: lib
+	@$(CARGO) --profile measured $(LINKED) --bin reading
+	@build/linked/measured/reading $(OPTIONS)
 
 # An event as a host sends it: the library, the engine of bench/, a switch, and Qt 6 SCXML if pkg-config knows it.
 HOST = build/host

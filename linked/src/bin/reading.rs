@@ -1,0 +1,168 @@
+//! reading: how long the library and the second program take to read texts of 1 to 32 KB, in one run. Prints
+//! the table of docs/bench.md, and which of R-1's wanted times are missed; with --strict it fails then.
+
+use linked::library::{self, Scratch};
+use second::generate::{self, Flavour};
+use second::limits::MAX_TRANSITIONS;
+use second::random::Random;
+use second::text::read::read;
+use second::text::recogniser::MAX_TEXT;
+use second::text::spell::spell;
+use std::hint::black_box;
+use std::process::ExitCode;
+use std::time::{Duration, Instant};
+
+const KILOBYTES: [usize; 6] = [1, 2, 4, 8, 16, 32];
+/// The shortest of so many turns is taken of each text and reader; in each turn all are measured.
+const TURNS: usize = 40;
+/// Of so many random charts the one is taken whose text comes nearest to the size.
+const CHARTS: u64 = 300;
+
+/// What is wanted: the longest text in so much time, and at most so many times the second program's.
+const MOST_TIME: Duration = Duration::from_millis(5);
+const MOST_RATIO: f64 = 3.0;
+
+/// Kinds of texts, each with what makes one of at most so many bytes.
+const KINDS: [(&str, fn(usize) -> Vec<u8>); 5] = [
+    ("random spelling", random_spelling),
+    ("references to ids that begin alike", references),
+    ("names that begin alike", names),
+    ("actions", actions),
+    ("a comment", comment),
+];
+
+fn random_spelling(size: usize) -> Vec<u8> {
+    let mut best = Vec::new();
+    for seed in 0..CHARTS {
+        let random = &mut Random::seeded(seed);
+        let rows = random.between(2, (size / 60).clamp(3, 250));
+        let flavour = Flavour { blocks: 60, ..Flavour::with_rows(random, rows) };
+        let text = spell(&generate::chart(random, flavour), random);
+        if text.len() <= size && text.len() > best.len() {
+            best = text;
+        }
+    }
+    best
+}
+
+/// At most so many units one after the other between a beginning and an end, as many as fit.
+fn repeated(begin: &str, most: usize, unit: impl Fn(usize) -> String, end: &str, size: usize) -> Vec<u8> {
+    let mut text = begin.to_string();
+    for k in 0..most {
+        let unit = unit(k);
+        if text.len() + unit.len() + end.len() > size {
+            break;
+        }
+        text += &unit;
+    }
+    (text + end).into_bytes()
+}
+
+/// A part of the text is states, the rest transitions that name two of them.
+fn references(size: usize) -> Vec<u8> {
+    let states = (size / 130).clamp(1, 250);
+    let state = |k: usize| format!("<state id='s{k:03}'/>");
+    let rows: String = (0..states).map(state).collect();
+    let unit = |k: usize| {
+        let (one, other) = (k % states, states - 1 - k % states);
+        format!("<transition cond=\"In('s{one:03}')\" target='s{other:03}'/>")
+    };
+    repeated(
+        &format!("<scxml>{rows}<state id='s'>"),
+        MAX_TRANSITIONS as usize,
+        unit,
+        "</state></scxml>",
+        size,
+    )
+}
+
+/// Events, each another until there are nearly as many as a chart may have, and then those again.
+fn names(size: usize) -> Vec<u8> {
+    let name = |k: usize| format!("event.{:03}", k % 760);
+    let unit = |k: usize| {
+        let k = 4 * k;
+        format!("<transition event='{} {} {} {}'/>", name(k), name(k + 1), name(k + 2), name(k + 3))
+    };
+    repeated("<scxml><state id='s'>", MAX_TRANSITIONS as usize, unit, "</state></scxml>", size)
+}
+
+/// States with full blocks.
+fn actions(size: usize) -> Vec<u8> {
+    let block = "<if cond=\"In('s')\"><log label='65535'/><else/><raise event='e'/></if>".repeat(6);
+    let unit = |k: usize| format!("<state id='s{k}'><onentry>{block}</onentry></state>");
+    repeated("<scxml><state id='s'/>", 250, unit, "</scxml>", size)
+}
+
+fn comment(size: usize) -> Vec<u8> {
+    repeated("<!--", size, |_| " word".to_string(), "--><scxml><state id='s'/></scxml>", size)
+}
+
+struct Times {
+    read: Duration,
+    read_with: Duration,
+    second: Duration,
+}
+
+fn time(call: impl FnOnce()) -> Duration {
+    let began = Instant::now();
+    call();
+    began.elapsed()
+}
+
+fn measure(text: &[u8]) -> Times {
+    let (mut numbers, mut names) = (vec![0; 26_154], vec![0; 49_152]);
+    let mut scratch = Scratch::filled(0);
+    let mut times = Times { read: Duration::MAX, read_with: Duration::MAX, second: Duration::MAX };
+    for _ in 0..TURNS {
+        let text = black_box(text);
+        let library = time(|| _ = black_box(library::read(text, &mut numbers, &mut names)));
+        let lent = time(|| _ = black_box(scratch.read(text, &mut numbers, &mut names)));
+        let second = time(|| _ = black_box(read(text)));
+        times.read = times.read.min(library);
+        times.read_with = times.read_with.min(lent);
+        times.second = times.second.min(second);
+    }
+    times
+}
+
+/// Prints a line of the table; what is wanted and missed.
+fn measured(kind: &str, text: &[u8]) -> Vec<String> {
+    let Times { read, read_with, second } = measure(text);
+    let answer = library::read(text, &mut [0; 26_154], &mut [0; 49_152]).answer;
+    let micros = |time: Duration| time.as_nanos() as f64 / 1_000.0;
+    let ratio = micros(read) / micros(second);
+    println!(
+        "| {kind} | {} | {answer} | {:.1} µs | {:.1} µs | {:.1} µs | {ratio:.2} |",
+        text.len(),
+        micros(read),
+        micros(read_with),
+        micros(second)
+    );
+    let mut missed = Vec::new();
+    if read > MOST_TIME || read_with > MOST_TIME {
+        missed.push(format!("{kind}, {} bytes: more than {MOST_TIME:?}", text.len()));
+    }
+    if ratio > MOST_RATIO {
+        missed.push(format!("{kind}, {} bytes: {ratio:.2} times the second program's", text.len()));
+    }
+    missed
+}
+
+fn main() -> ExitCode {
+    println!("| text | bytes | answer | read | read_with | second | ratio |");
+    println!("|---|---|---|---|---|---|---|");
+    let mut missed = Vec::new();
+    for (kind, make) in KINDS {
+        for size in KILOBYTES {
+            let text = make((size * 1_024).min(MAX_TEXT));
+            missed.extend(measured(kind, &text));
+        }
+    }
+    println!("\nwanted and missed: {}", if missed.is_empty() { "nothing" } else { "" });
+    missed.iter().for_each(|what| println!("  {what}"));
+    let strict = std::env::args().any(|argument| argument == "--strict");
+    match strict && !missed.is_empty() {
+        true => ExitCode::FAILURE,
+        false => ExitCode::SUCCESS,
+    }
+}
