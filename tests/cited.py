@@ -41,7 +41,7 @@ def imports(text, keyword):
     return names, modules
 
 
-KNOWN = set('_ : = → -> × ⊥ "C" Type Unit abbrev bool data ensures enum extern fn module mut now pub record struct u8 u16 u32 u64 unfoldable usize where'.split())
+KNOWN = set('_ : = → -> × ⊥ "C" | ↦ Type Unit abbrev bool data ensures enum extern elim fn in let module mut now pub record struct u8 u16 u32 u64 unfoldable usize where'.split())
 
 
 class Declaration:

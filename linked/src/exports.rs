@@ -62,12 +62,16 @@ extern "C" {
         names_count: usize,
         cells: *mut u64,
         cells_count: usize,
-        counters: *mut u32,
-        counters_count: usize,
-        places: *mut u16,
-        places_count: usize,
         bytes: *mut u8,
         bytes_count: usize,
+        ids: *mut u16,
+        ids_count: usize,
+        spots: *mut u16,
+        spots_count: usize,
+        sources: *mut u16,
+        sources_count: usize,
+        ranks: *mut u16,
+        ranks_count: usize,
     ) -> Read;
     pub fn auttervil_raw2_numbers_size(numbers: *const u64, numbers_count: usize) -> usize;
     pub fn auttervil_raw2_names_size(numbers: *const u64, numbers_count: usize) -> usize;

@@ -66,18 +66,22 @@ pub fn read(text: &[u8], numbers: &mut [u64], names: &mut [u8]) -> Read {
 /// What a read works in, of the sizes that the header's `auttervil_scratch` has.
 pub struct Scratch {
     pub cells: Vec<u64>,
-    pub counters: Vec<u32>,
-    pub places: Vec<u16>,
     pub bytes: Vec<u8>,
+    pub ids: Vec<u16>,
+    pub spots: Vec<u16>,
+    pub sources: Vec<u16>,
+    pub ranks: Vec<u16>,
 }
 
 impl Scratch {
     pub fn filled(with: u8) -> Scratch {
         Scratch {
-            cells: vec![u64::from(with); 33_000],
-            counters: vec![u32::from(with); 3_000],
-            places: vec![u16::from(with); 140_000],
-            bytes: vec![with; 85_000],
+            cells: vec![u64::from(with); 242_950],
+            bytes: vec![with; 49_152],
+            ids: vec![u16::from(with); 65_536],
+            spots: vec![u16::from(with); 65_540],
+            sources: vec![u16::from(with); 32_768],
+            ranks: vec![u16::from(with); 32_768],
         }
     }
 
@@ -92,12 +96,16 @@ impl Scratch {
                 names.len(),
                 self.cells.as_mut_ptr(),
                 self.cells.len(),
-                self.counters.as_mut_ptr(),
-                self.counters.len(),
-                self.places.as_mut_ptr(),
-                self.places.len(),
                 self.bytes.as_mut_ptr(),
                 self.bytes.len(),
+                self.ids.as_mut_ptr(),
+                self.ids.len(),
+                self.spots.as_mut_ptr(),
+                self.spots.len(),
+                self.sources.as_mut_ptr(),
+                self.sources.len(),
+                self.ranks.as_mut_ptr(),
+                self.ranks.len(),
             )
         }
     }

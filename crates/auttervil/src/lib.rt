@@ -13,6 +13,7 @@ ghost use Rattle.room.specs.Room.{roomOf};
 ghost use Rattle.session.specs.Sessions.{postOf, runOf, runEffects};
 ghost use Rattle.lent.specs.Places.{sessionIn, lengthsFit, startIn, startInEffects};
 ghost use Rattle.calls.specs.Performing.{Performs, callsIn};
+ghost use Rattle.reading.specs.Calls.{callOf};
 ghost use Rattle.read_text.specs.Whole.{placesFit, readWith};
 ghost use Rattle.auttervil.specs.Exports.{CompilesTo, chartAnswer, StartsTo, PostsTo, RunsTo, StepsTo, readOutcome};
 use definition::Answer;
@@ -250,11 +251,32 @@ pub struct ReadResult {
     pub bytes: usize,
 }
 
-// SCXML text into tables (R-1): 0 and the tables at the beginning of both places, or 12, 1 to 5 and both as they were. The other six are work places: 242,950 numbers and 49,152
-// bytes for the tables, 65,536 numbers for ids, 65,540 for the spots that tags stand in, 32,768 each for the sources and the numbers of transitions. What they hold counts for
-// nothing and is lost; work places of other lengths are answered by 199, and nothing is written.
+// SCXML text into tables (R-1): 0 and the tables at the beginning of both places, or 12, 1 to 5 and both as they were. The work places are on the stack.
 #[no_mangle]
 pub extern "C" fn auttervil_raw2_read(
+    text: &[u8],
+    place: &mut [u64],
+    name_place: &mut [u8],
+) -> ReadResult
+    ensures { λ r. ⌜ readOutcome r (now (place .exit)) (now («name_place» .exit)) ≡ callOf (now (text .entry)) (now (place .entry)) (now («name_place» .entry)) ⌝ }
+{
+    let read = read_text::read(text, place, name_place);
+    let answer = read.answer;
+    let offset = read.offset;
+    let cells = read.cells;
+    let bytes = read.bytes;
+    ReadResult {
+        answer: answer,
+        offset: offset,
+        cells: cells,
+        bytes: bytes,
+    }
+}
+
+// The same for a host with a small stack, which lends six work places: 242,950 numbers and 49,152 bytes for the tables, 65,536 numbers for ids, 65,540 for the spots that tags stand in, 32,768 each for the sources and the numbers of transitions. What they hold counts for
+// nothing and is lost; work places of other lengths are answered by 199, and nothing is written.
+#[no_mangle]
+pub extern "C" fn auttervil_raw2_read_with(
     text: &[u8],
     place: &mut [u64],
     name_place: &mut [u8],

@@ -139,7 +139,7 @@ fallen-then c after ts aimed fell rows e f = f ∙ ap (λ (xs : List ℕ). withI
 
 -- a chart without histories has none that fall
 pub none-fall : (chart : List ℕ) (histories fell none : List ℕ) → histories ≡ historyRows (chartOf chart) → isEmpty histories ≡ true → HistoryRows chart fell → none ≡ [] → none ≡ fell
-unfolding historyRows
+unfolding historyRows isHistoryRow
 none-fall chart histories fell none e n h q =
     q ∙ sym (no-member fell (λ x m.
     clash (isEmpty histories) n
