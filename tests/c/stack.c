@@ -23,6 +23,7 @@ static const char *const texts[2] = {
     "<if cond=\"In('a')\"><log label='7'/><elseif cond=\"In('b')\"/><else/></if></onentry><onexit/></state><history id='h' type='deep'><transition target='b'/>"
     "</history></state><state id='c'><initial><transition target='d'/></initial><final id='d'/></state></parallel><final id='f'/></scxml>",
     "<scxml><state id='a'><transition event='e' target='a b'/></state></scxml>"};
+static size_t lengths[2]; /* of them */
 static union {
     max_align_t aligned;
     uint8_t bytes[LARGEST_STACK];
@@ -66,15 +67,15 @@ static void *fingerprint(void *m)
 
 static void *read_text(void *m)
 {
-    const char *text = texts[((made *)m)->l == &charts[1]];
-    (void)AUTTERVIL_READ(text, strlen(text), from_text);
+    const int which = ((made *)m)->l == &charts[1];
+    (void)AUTTERVIL_READ(texts[which], lengths[which], from_text);
     return m;
 }
 
 static void *read_with(void *m)
 {
-    const char *text = texts[((made *)m)->l == &charts[1]];
-    (void)AUTTERVIL_READ_WITH(&scratch, text, strlen(text), from_text);
+    const int which = ((made *)m)->l == &charts[1];
+    (void)AUTTERVIL_READ_WITH(&scratch, texts[which], lengths[which], from_text);
     return m;
 }
 
@@ -155,6 +156,8 @@ int main(void)
     static const char *const events[2][8] = {{"e4", "e1", "e2", "nothing"}, {"close", "open", "close", "key", "any", "reset", "quit", "."}};
     size_t most[COUNT(calls)] = {0};
     size_t none, i, chart, turn;
+    for (i = 0; i < 2; i++)
+        lengths[i] = strlen(texts[i]);
     make_chart_a(&charts[0]);
     make_door(&charts[1]);
     none = used_by(nothing, NULL);

@@ -383,6 +383,27 @@ static void the_incident_and_a_typo(void)
     CHECK(fclose(file) == 0);
 }
 
+/* The example of docs/grammar.md is accepted as it stands there. */
+static void the_documented_example(void)
+{
+    static document page;
+    char *text, *end;
+    auttervil_reading reading;
+    auttervil_compiled compiled;
+    CHECK(load(&page, "docs/grammar.md") && page.length < sizeof page.bytes);
+    page.bytes[page.length < sizeof page.bytes ? page.length : sizeof page.bytes - 1] = 0;
+    text = strstr(page.bytes, "## An example\n");
+    text = text == NULL ? NULL : strstr(text, "```\n");
+    end = text == NULL ? NULL : strstr(text + 4, "```\n");
+    if (end == NULL) {
+        CHECK(end != NULL);
+        return;
+    }
+    reading = AUTTERVIL_READ(text + 4, (size_t)(end - text) - 4, any);
+    compiled = AUTTERVIL_COMPILE(&reading.tables, any);
+    CHECK(compiled.answer == AUTTERVIL_DONE && auttervil_row_count(&compiled.chart) == 11 && auttervil_transition_count(&compiled.chart) == 7);
+}
+
 /* Each beginning of the text ends too soon, up to the end of its root. */
 static void beginnings(size_t step)
 {
@@ -454,8 +475,8 @@ static void carets(void)
     /* At the beginning, at the end of a line, in CR LF, behind the text. */
     CHECK(shows(TEXT("ab\ncd"), 0, "line 1, column 1:\nab\n^") && shows(TEXT("ab\ncd"), 2, "line 1, column 3:\nab\n  ^"));
     CHECK(shows(TEXT("ab\r\ncd"), 2, "line 1, column 3:\nab\n  ^") && shows(TEXT("ab\r\ncd"), 3, "line 1, column 4:\nab\n   ^"));
-    CHECK(shows(TEXT("ab\ncd"), 5, "line 2, column 3:\ncd\n  ^") && shows(TEXT("ab\ncd"), 99, "line 2, column 3:\ncd\n  ^"));
-    CHECK(shows(TEXT("ab\n"), 3, "line 2, column 1:\n\n^") && shows("", 0, 0, "line 1, column 1:\n\n^") && shows(NULL, 0, 5, "line 1, column 1:\n\n^"));
+    CHECK(shows(TEXT("ab\ncd"), 5, "line 2, column 3, the end of the text:\ncd\n  ^") && shows(TEXT("ab\ncd"), 99, "line 2, column 3, the end of the text:\ncd\n  ^"));
+    CHECK(shows(TEXT("ab\n"), 3, "line 2, column 1, the end of the text:\n\n^") && shows("", 0, 0, "line 1, column 1, the end of the text:\n\n^") && shows(NULL, 0, 5, "line 1, column 1, the end of the text:\n\n^"));
     /* A byte that no one sees, or that moves the cursor, has one column. */
     CHECK(shows(TEXT("\xEF\xBB\xBF<scxml/>"), 0, "line 1, column 1:\n\?\?\?<scxml/>\n^") && shows(TEXT("a\x1b[2J\0b\x7f"), 6, "line 1, column 7:\na?[2J?b?\n      ^"));
     /* A text that cannot be there has no message, and its buffer an empty one. */
@@ -483,7 +504,7 @@ static void long_lines(void)
     CHECK(shows(long_line(300), 72, 40, "line 1, column 41:\n012345678901234567890123456789012345678901234567890123456789012345678901\n                                        ^"));
     CHECK(shows(long_line(300), 300, 0, "line 1, column 1:\n012345678901234567890123456789012345678901234567890123456789012345678901...\n^"));
     CHECK(shows(long_line(300), 300, 150, "line 1, column 151:\n...456789012345678901234567890123456789012345678901234567890123456789012345...\n                                       ^"));
-    CHECK(shows(long_line(300), 300, 300, "line 1, column 301:\n...890123456789012345678901234567890123456789012345678901234567890123456789\n                                                                           ^"));
+    CHECK(shows(long_line(300), 300, 300, "line 1, column 301, the end of the text:\n...890123456789012345678901234567890123456789012345678901234567890123456789\n                                                                           ^"));
     /* Wherever it is, also between other lines and with a tab in front, the caret is below the X, and the message fits. */
     for (column = 0; column < 300; column++) {
         size_t length, line, caret;
@@ -562,6 +583,7 @@ int main(int count, char **arguments)
     bad_scratch();
     the_text_is_the_built_chart();
     the_incident_and_a_typo();
+    the_documented_example();
     beginnings(count > 1 ? (size_t)atoi(arguments[1]) : 1);
     lines_and_columns();
     carets();
