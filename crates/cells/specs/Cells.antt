@@ -1,24 +1,24 @@
 -- The cells of rows and transitions as a content has them: where its lists and blocks are in their bins and kind, parent, id, source, condition and type stand.
-use mathlib.Core.Path.{_≡_, refl, sym, ap, ap₂, subst, _∙_}
+use mathlib.Core.Path.{_≡_, refl, ap, ap₂, subst, _∙_}
 use mathlib.Core.Bool.{cond}
-use mathlib.Core.List.{List, [], _∷_, _++_, map}
-use Prim.Native.Nat.{ℕ, zero, suc, _+_, _*_, _≤_, _<_}
+use mathlib.Core.List.{List, [], _∷_, _++_}
+use Prim.Native.Nat.{ℕ, suc, _+_, _*_, _≤_, _<_}
 use native.Mathlib.Omega.{arith}
-use lib.ListN.{length, getD, take, drop, length-append}
+use lib.ListN.{length, getD, take, drop}
 use lib.Seq.{take-add, drop-drop}
-use Rattle.definition.specs.Rows.{flat, from}
-use Rattle.reading.specs.Content.{Act, Row, Transition, Content, placeOf}
-use Rattle.reading.specs.Layout.{actCells, idCell, orNone, rowCells, transitionCells}
-use Rattle.lay.specs.Sizes.{all-cells, map-length}
+use Rattle.definition.specs.Rows.{from}
+use Rattle.reading.specs.Content.{Row, Transition, Content}
+use Rattle.reading.specs.Layout.{idCell, orNone, rowCells, transitionCells}
 use Rattle.bins.specs.Bins.{startOf}
-use Rattle.bins.specs.Binned.{Item, valuesOf}
+use Rattle.bins.specs.Binned.{Item}
+use Rattle.items.specs.Items.{binCount}
 use Rattle.items.specs.Order.{noTransition}
 use Rattle.items.specs.Picked.{noRow}
 use Rattle.items.specs.Held.{RowHeld, TransitionHeld}
 use Rattle.cells.specs.Starts.{tableBase, startIn, entriesIn}
-use Rattle.cells.specs.Parts.{bins, blocks, rowAt, RowIn}
+use Rattle.cells.specs.Parts.{blocks, rowAt, RowIn}
 use Rattle.cells.specs.Ends.{transitionAt, TransitionIn}
-use Rattle.cells.specs.Sums.{start-next, start-four, start-one, cells-read}
+use Rattle.cells.specs.Sums.{start-four, start-one, cells-read}
 
 -- the lists and blocks of n rows and t transitions are in their bins
 pub record Held (slots : List (List ℕ)) (n t : ℕ) (items : List Item) (c : Content) : Type 0 where
@@ -42,15 +42,15 @@ pub record Said (slots : List (List ℕ)) (n t : ℕ) (out : List ℕ) (c : Cont
   pub row : (i : ℕ) → i < n → RowSaid slots out i (getD (c .rows) i noRow)
   pub transition : (r : ℕ) → r < t → TransitionSaid out n r (getD (c .transitions) r noTransition)
 
-module _ (slots : List (List ℕ)) (n t : ℕ) (c : ℕ → ℕ) (next : List ℕ) (begins : (k : ℕ) → k ≤ bins n t → startIn (tableBase n t) next k ≡ tableBase n t + startOf c k) where
+module _ (slots : List (List ℕ)) (n t : ℕ) (c : ℕ → ℕ) (next : List ℕ) (begins : (k : ℕ) → k ≤ binCount n t → startIn (tableBase n t) next k ≡ tableBase n t + startOf c k) where
   abbrev S : ℕ → ℕ
   S k = startOf c k
 
-  four : (first from a : ℕ) → first ≤ bins n t → from ≤ bins n t → S from ≡ S first + a * 4 → entriesIn (tableBase n t) next first from 4 ≡ a
-  four = start-four (bins n t) (tableBase n t) c next begins
+  four : (first from a : ℕ) → first ≤ binCount n t → from ≤ binCount n t → S from ≡ S first + a * 4 → entriesIn (tableBase n t) next first from 4 ≡ a
+  four = start-four (binCount n t) (tableBase n t) c next begins
 
-  one : (first from a : ℕ) → first ≤ bins n t → from ≤ bins n t → S from ≡ S first + a * 1 → entriesIn (tableBase n t) next first from 1 ≡ a
-  one = start-one (bins n t) (tableBase n t) c next begins
+  one : (first from a : ℕ) → first ≤ binCount n t → from ≤ binCount n t → S from ≡ S first + a * 1 → entriesIn (tableBase n t) next first from 1 ≡ a
+  one = start-one (binCount n t) (tableBase n t) c next begins
 
   -- ---- rows
 

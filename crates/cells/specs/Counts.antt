@@ -1,20 +1,20 @@
 -- How much the bins hold, by what each row and transition of a content has: the starts of the bins, and the counts of all lists and blocks.
 use mathlib.Core.Path.{_≡_, refl, sym, ap, _∙_}
-use mathlib.Core.List.{List, [], _∷_, _++_, map}
-use Prim.Native.Nat.{ℕ, zero, suc, _+_, _*_, _≤_, _<_}
+use mathlib.Core.List.{List, _++_, map}
+use Prim.Native.Nat.{ℕ, suc, _+_, _*_, _<_}
 use native.Mathlib.Omega.{arith}
 use lib.ListN.{length, getD, length-append}
 use Rattle.definition.specs.Rows.{flat}
 use Rattle.reading.specs.Content.{Act, Row, Transition, Content, placeOf}
 use Rattle.reading.specs.Layout.{actCells, rowActs, rowList, targetList, descriptorList, transitionActs}
-use Rattle.lay.specs.Sizes.{references, descriptors, actions, all-cells, map-length}
+use Rattle.lay.specs.Sizes.{descriptors, all-cells, map-length}
 use Rattle.bins.specs.Bins.{startOf}
 use Rattle.bins.specs.Binned.{Item, valuesOf}
 use Rattle.items.specs.Items.{rowBlockKey, binCount}
 use Rattle.items.specs.Order.{noTransition}
 use Rattle.items.specs.Picked.{noRow}
-use Rattle.items.specs.Held.{RowHeld, TransitionHeld}
-use Rattle.cells.specs.Parts.{bins, blocks}
+use Rattle.items.specs.Held.{RowHeld}
+use Rattle.cells.specs.Parts.{blocks}
 use Rattle.cells.specs.Sums.{start-next, starts-sum}
 use Rattle.cells.specs.Cells.{Held}
 
@@ -28,13 +28,13 @@ rowBlocks x = flat rowActs (x .rows)
 module _ (slots : List (List ℕ)) (n t : ℕ) (c : ℕ → ℕ) (items : List Item) (x : Content) (full : (k : ℕ) → k < binCount n t → length (valuesOf items k) ≡ c k) (held : Held slots n t items x) where
   -- ---- what the counts are
 
-  count-is : (k : ℕ) (l : List ℕ) → k < bins n t → valuesOf items k ≡ l → c k ≡ length l
+  count-is : (k : ℕ) (l : List ℕ) → k < binCount n t → valuesOf items k ≡ l → c k ≡ length l
   count-is k l h e = sym (full k h) ∙ ap length e
 
-  block-is : (k : ℕ) (l : List Act) → k < bins n t → valuesOf items k ≡ flat (actCells slots) l → startOf c (k + 1) ≡ startOf c k + length l * 4
+  block-is : (k : ℕ) (l : List Act) → k < binCount n t → valuesOf items k ≡ flat (actCells slots) l → startOf c (k + 1) ≡ startOf c k + length l * 4
   block-is k l h e = let s = start-next c k in let q = count-is k (flat (actCells slots) l) h e in let z = all-cells slots l in omega arith
 
-  row-block : (i p k k' : ℕ) (l : List Act) → k < bins n t → k ≡ rowBlockKey n t i p → k' ≡ k + 1 → valuesOf items (rowBlockKey n t i p) ≡ flat (actCells slots) l →
+  row-block : (i p k k' : ℕ) (l : List Act) → k < binCount n t → k ≡ rowBlockKey n t i p → k' ≡ k + 1 → valuesOf items (rowBlockKey n t i p) ≡ flat (actCells slots) l →
       startOf c k' ≡ startOf c k + length l * 4
   row-block i p k k' l h e q v = ap (startOf c) q ∙ block-is k l h (ap (valuesOf items) e ∙ v)
 
@@ -50,7 +50,7 @@ module _ (slots : List (List ℕ)) (n t : ℕ) (c : ℕ → ℕ) (items : List I
       let v = full (i * 2 + 1) (omega arith) in
       omega arith
 
-  single-is : (k : ℕ) (l : List ℕ) → k < bins n t → valuesOf items k ≡ l → startOf c (k + 1) ≡ startOf c k + length l * 1
+  single-is : (k : ℕ) (l : List ℕ) → k < binCount n t → valuesOf items k ≡ l → startOf c (k + 1) ≡ startOf c k + length l * 1
   single-is k l h e = let s = start-next c k in let q = count-is k l h e in omega arith
 
   -- ---- rows and transitions
@@ -142,12 +142,12 @@ module _ (slots : List (List ℕ)) (n t : ℕ) (c : ℕ → ℕ) (items : List I
       let q = ap (startOf c) w in
       omega arith
 
-  pub block-sum : startOf c (bins n t) ≡ startOf c (blocks n t + n * 3) + length (flat transitionActs (x .transitions)) * 4
+  pub block-sum : startOf c (binCount n t) ≡ startOf c (blocks n t + n * 3) + length (flat transitionActs (x .transitions)) * 4
   block-sum =
       let e = starts-sum c transitionActs noTransition 1 4 (x .transitions) (blocks n t + n * 3)
       (λ r h. let u = transitions-count in move (blocks n t + n * 3 + suc r * 1) (blocks n t + n * 3 + r + 1) (blocks n t + n * 3 + r * 1) (blocks n t + n * 3 + r)
       (length (getD (x .transitions) r noTransition .block) * 4) (omega arith) (omega arith) (act-starts r (omega arith))) in
       let u = transitions-count in
-      let w : bins n t ≡ blocks n t + n * 3 + length (x .transitions) * 1 = omega arith in
+      let w : binCount n t ≡ blocks n t + n * 3 + length (x .transitions) * 1 = omega arith in
       let q = ap (startOf c) w in
       omega arith

@@ -1,17 +1,18 @@
 -- The header's six counts, and all cells together.
-use mathlib.Core.Path.{_≡_, refl, sym, ap, _∙_}
-use mathlib.Core.List.{List, [], _∷_, _++_}
-use Prim.Native.Nat.{ℕ, suc, _+_, _*_, _≤_, _<_}
+use mathlib.Core.Path.{_≡_, ap, _∙_}
+use mathlib.Core.List.{List, [], _∷_}
+use Prim.Native.Nat.{ℕ, _+_, _*_, _≤_, _<_}
 use native.Mathlib.Omega.{arith}
-use lib.ListN.{length, getD, set, take, drop, length-set}
-use lib.Seq.{sets, sets-eq, length-sets, getD-set-other}
+use lib.ListN.{length, getD, set, take}
+use lib.Seq.{sets-eq, length-sets, getD-set-other}
+use Rattle.items.specs.Items.{binCount}
 use Rattle.cells.specs.Starts.{tableBase, rising-less, EntriesRoom, entriesIn}
-use Rattle.cells.specs.Parts.{bins, blocks, CellsRoom, rowAt, RowIn, row-kept, RowsLaid, moved}
+use Rattle.cells.specs.Parts.{blocks, CellsRoom, rowAt, RowIn, row-kept, RowsLaid, moved}
 use Rattle.cells.specs.Ends.{transitionAt, TransitionIn, transition-kept, OwnKept, own-after, own-by, TransitionsLaid}
 
 abbrev pub counts : List ℕ → ℕ → ℕ → ℕ → List ℕ
 counts next n t names =
-    n ∷ t ∷ entriesIn (tableBase n t) next 0 (n * 2 + t) 1 ∷ entriesIn (tableBase n t) next (n * 2 + t) (blocks n t) 1 ∷ entriesIn (tableBase n t) next (blocks n t) (bins n t) 4 ∷ names ∷ []
+    n ∷ t ∷ entriesIn (tableBase n t) next 0 (n * 2 + t) 1 ∷ entriesIn (tableBase n t) next (n * 2 + t) (blocks n t) 1 ∷ entriesIn (tableBase n t) next (blocks n t) (binCount n t) 4 ∷ names ∷ []
 
 pub record HeaderLaid (out out' next : List ℕ) (n t names : ℕ) : Type 0 where
   pub size : length out' ≡ length out
@@ -20,19 +21,19 @@ pub record HeaderLaid (out out' next : List ℕ) (n t names : ℕ) : Type 0 wher
 
 module _ (out next : List ℕ) (n t : ℕ) (p : CellsRoom out next n t) where
   pub references-room : EntriesRoom next (tableBase n t) 0 (n * 2 + t) 1
-  references-room = record { rising = rising-less (tableBase n t) next (n * 2 + t) (bins n t) (p .rising) (omega arith); before = omega arith; some = omega arith }
+  references-room = record { rising = rising-less (tableBase n t) next (n * 2 + t) (binCount n t) (p .rising) (omega arith); before = omega arith; some = omega arith }
 
   pub descriptors-room : EntriesRoom next (tableBase n t) (n * 2 + t) (blocks n t) 1
-  descriptors-room = record { rising = rising-less (tableBase n t) next (blocks n t) (bins n t) (p .rising) (omega arith); before = omega arith; some = omega arith }
+  descriptors-room = record { rising = rising-less (tableBase n t) next (blocks n t) (binCount n t) (p .rising) (omega arith); before = omega arith; some = omega arith }
 
-  pub actions-room : EntriesRoom next (tableBase n t) (blocks n t) (bins n t) 4
+  pub actions-room : EntriesRoom next (tableBase n t) (blocks n t) (binCount n t) 4
   actions-room = record { rising = p .rising; before = omega arith; some = omega arith }
 
   pub header-there : (j : ℕ) → j < 6 → j < length out
   header-there j h = let r = p .room in omega arith
 
   pub header-laid : (names x y z : ℕ) → x ≡ entriesIn (tableBase n t) next 0 (n * 2 + t) 1 → y ≡ entriesIn (tableBase n t) next (n * 2 + t) (blocks n t) 1 →
-      z ≡ entriesIn (tableBase n t) next (blocks n t) (bins n t) 4 → HeaderLaid out (set (set (set (set (set (set out 0 n) 1 t) 2 x) 3 y) 4 z) 5 names) next n t names
+      z ≡ entriesIn (tableBase n t) next (blocks n t) (binCount n t) 4 → HeaderLaid out (set (set (set (set (set (set out 0 n) 1 t) 2 x) 3 y) 4 z) 5 names) next n t names
   header-laid names x y z a b c =
       let r = p .room in
       record {

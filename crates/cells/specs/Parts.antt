@@ -2,21 +2,18 @@
 use mathlib.Core.Path.{_≡_, refl, sym, ap, subst, _∙_}
 use mathlib.Core.Bool.{Bool, true, false}
 use mathlib.Core.List.{List}
-use Prim.Native.Nat.{ℕ, suc, _+_, _*_, _-_, _^_, _≤_, _<_}
+use Prim.Native.Nat.{ℕ, _+_, _*_, _-_, _≤_, _<_}
 use native.Mathlib.Omega.{arith}
 use lib.Dec.{eqb}
 use lib.ListN.{length, getD}
 use borrow.Author.Tests.{eqb-true, eqb-false}
-use Rattle.cells.specs.Starts.{Few, tableBase, startIn, Rising, PartRoom, entriesIn, PartLaid}
-
--- the bins of n rows and t transitions
-abbrev pub bins : ℕ → ℕ → ℕ
-bins n t = n * 2 + t + t + n * 3 + t
+use Rattle.items.specs.Items.{binCount}
+use Rattle.cells.specs.Starts.{Few, tableBase, Rising, PartRoom, entriesIn, PartLaid}
 
 pub record CellsRoom (out next : List ℕ) (n t : ℕ) : Type 0 where
   pub few : Few n t
   pub room : tableBase n t ≤ length out
-  pub rising : Rising (tableBase n t) next (bins n t)
+  pub rising : Rising (tableBase n t) next (binCount n t)
 
 -- ---- a row
 
@@ -49,7 +46,7 @@ pub record RowLaid (out out' next : List ℕ) (n t i : ℕ) : Type 0 where
 
 -- a part that ends within the bins
 pub part-room : (out next : List ℕ) (n t : ℕ) → CellsRoom out next n t → (size : List ℕ) → length size ≡ length out → (at first from to width : ℕ) →
-    at + 1 < tableBase n t → first ≤ from → from ≤ to → to ≤ bins n t → 0 < width → PartRoom size next (tableBase n t) at first from to width
+    at + 1 < tableBase n t → first ≤ from → from ≤ to → to ≤ binCount n t → 0 < width → PartRoom size next (tableBase n t) at first from to width
 part-room out next n t c size e at first from to width a f g h w =
     let r = c .room in let u = c .few .rows in let v = c .few .transitions in let l = c .rising .there in
     record {

@@ -1,25 +1,23 @@
 -- The tables as a whole: a header, the cells of rows and transitions and full bins are the tables of the content whose lists and blocks the bins hold.
 use mathlib.Core.Path.{_≡_, refl, sym, ap, ap₂, subst, _∙_}
 use mathlib.Core.List.{List, [], _∷_, _++_, map, append-assoc}
-use Prim.Native.Nat.{ℕ, zero, suc, _+_, _*_, _≤_, _<_}
+use Prim.Native.Nat.{ℕ, _+_, _*_, _≤_, _<_}
 use native.Mathlib.Omega.{arith}
 use lib.ListN.{length, getD, take, drop, length-append, length-drop}
-use lib.Seq.{take-add, take-at, drop-drop, getD-take, getD-drop, ext-getD, length-take-le}
+use lib.Seq.{take-add, getD-drop, ext-getD, length-take-le}
 use Rattle.definition.specs.Rows.{flat, from}
-use Rattle.reading.specs.Content.{Act, Row, Transition, Content, placeOf}
+use Rattle.reading.specs.Content.{Content, placeOf}
 use Rattle.reading.specs.Layout.{actCells, rowActs, rowCells, transitionCells, rowList, targetList, descriptorList, transitionActs, numbersOf}
 use Rattle.lay.specs.Sizes.{references, descriptors, actions}
 use Rattle.bins.specs.Bins.{startOf}
 use Rattle.bins.specs.Binned.{Item, valuesOf, Binned, binned-end}
-use Rattle.items.specs.Items.{rowBlockKey, binCount}
+use Rattle.items.specs.Items.{binCount}
 use Rattle.items.specs.Order.{noTransition}
 use Rattle.items.specs.Picked.{noRow}
-use Rattle.items.specs.Held.{RowHeld, TransitionHeld}
-use Rattle.cells.specs.Starts.{tableBase, startIn, Rising, Few}
-use Rattle.cells.specs.Parts.{bins, blocks, CellsRoom, rowAt, RowIn}
-use Rattle.cells.specs.Ends.{transitionAt, TransitionIn}
+use Rattle.cells.specs.Starts.{tableBase, startIn, Few}
+use Rattle.cells.specs.Parts.{blocks, CellsRoom}
 use Rattle.cells.specs.Sums.{full-start, full-rising, start-four, start-one}
-use Rattle.cells.specs.Cells.{Held, RowSaid, TransitionSaid, Said, RowKnown, rows-laid, TransitionKnown, transitions-laid}
+use Rattle.cells.specs.Cells.{Held, Said, RowKnown, rows-laid, TransitionKnown, transitions-laid}
 use Rattle.cells.specs.Counts.{rowRefs, rowBlocks, list-starts, entry-starts, exit-starts, block-starts, target-starts, descriptor-starts, act-starts, list-sum, target-sum, descriptor-sum, row-block-sum, block-sum}
 use Rattle.cells.specs.Header.{counts, CellsLaid}
 
@@ -39,13 +37,13 @@ pub record Filled (slots : List (List ℕ)) (n t : ℕ) (counts : ℕ → ℕ) (
   pub said : Said slots n t out c
 
 module _ (slots : List (List ℕ)) (n t : ℕ) (c : ℕ → ℕ) (out next : List ℕ) (items : List Item) (x : Content) (f : Filled slots n t c out next items x) where
-  begins : (k : ℕ) → k ≤ bins n t → startIn (tableBase n t) next k ≡ tableBase n t + startOf c k
-  begins = full-start (bins n t) (tableBase n t) c out next items (f .binned) (f .full)
+  begins : (k : ℕ) → k ≤ binCount n t → startIn (tableBase n t) next k ≡ tableBase n t + startOf c k
+  begins = full-start (binCount n t) (tableBase n t) c out next items (f .binned) (f .full)
 
   pub filled-room : CellsRoom out next n t
   filled-room =
       let r = f .binned .room in
-      record { few = f .few; room = omega arith; rising = full-rising (bins n t) (tableBase n t) c out next items (f .binned) (f .full) }
+      record { few = f .few; room = omega arith; rising = full-rising (binCount n t) (tableBase n t) c out next items (f .binned) (f .full) }
 
   module _ (names : ℕ) (out' : List ℕ) (l : CellsLaid out out' next n t names) where
     row-known : (i : ℕ) → i < n → RowKnown slots n t c next begins out' i (getD (x .rows) i noRow)
@@ -74,7 +72,7 @@ module _ (slots : List (List ℕ)) (n t : ℕ) (c : ℕ → ℕ) (out next : Lis
 
     -- ---- the parts of the tables
 
-    long : tableBase n t + startOf c (bins n t) ≤ length out'
+    long : tableBase n t + startOf c (binCount n t) ≤ length out'
     long = let r = f .binned .room in let s = l .size in omega arith
 
     header-is : names ≡ length slots → take 6 out' ≡ length (x .rows) ∷ length (x .transitions) ∷ length (references x) ∷ length (descriptors x) ∷ length (actions x) ∷ length slots ∷ []
@@ -84,9 +82,9 @@ module _ (slots : List (List ℕ)) (n t : ℕ) (c : ℕ → ℕ) (out next : Lis
         let u = length-append (rowRefs x) (flat targetList (x .transitions)) in
         let v = length-append (rowBlocks x) (flat transitionActs (x .transitions)) in
         l .front ∙
-        six (f .held .rows-are) (f .held .transitions-are) (start-one (bins n t) (tableBase n t) c next begins 0 (n * 2 + t) (length (references x)) (omega arith) (omega arith) (omega arith))
-        (start-one (bins n t) (tableBase n t) c next begins (n * 2 + t) (blocks n t) (length (descriptors x)) (omega arith) (omega arith) (omega arith))
-        (start-four (bins n t) (tableBase n t) c next begins (blocks n t) (bins n t) (length (actions x)) (omega arith) (omega arith) (omega arith)) e
+        six (f .held .rows-are) (f .held .transitions-are) (start-one (binCount n t) (tableBase n t) c next begins 0 (n * 2 + t) (length (references x)) (omega arith) (omega arith) (omega arith))
+        (start-one (binCount n t) (tableBase n t) c next begins (n * 2 + t) (blocks n t) (length (descriptors x)) (omega arith) (omega arith) (omega arith))
+        (start-four (binCount n t) (tableBase n t) c next begins (blocks n t) (binCount n t) (length (actions x)) (omega arith) (omega arith) (omega arith)) e
       where
         six : {a0 a1 a2 a3 a4 a5 b0 b1 b2 b3 b4 b5 : ℕ} → a0 ≡ b0 → a1 ≡ b1 → a2 ≡ b2 → a3 ≡ b3 → a4 ≡ b4 → a5 ≡ b5 → _≡_ {A = List ℕ} (a0 ∷ a1 ∷ a2 ∷ a3 ∷ a4 ∷ a5 ∷ []) (b0 ∷ b1 ∷ b2 ∷ b3 ∷ b4 ∷ b5 ∷ [])
         six p0 p1 p2 p3 p4 p5 = cc
@@ -123,18 +121,18 @@ module _ (slots : List (List ℕ)) (n t : ℕ) (c : ℕ → ℕ) (out next : Lis
         no-more' : (k : ℕ) → k ≡ k + 0
         no-more' k = omega arith
 
-    behind-is : take (startOf c (bins n t)) (drop (tableBase n t) out') ≡ behindCells slots x
+    behind-is : take (startOf c (binCount n t)) (drop (tableBase n t) out') ≡ behindCells slots x
     behind-is =
         let s = l .size in let a = length-drop (tableBase n t) out in let b = length-drop (tableBase n t) out' in
-        ap (take (startOf c (bins n t)))
+        ap (take (startOf c (binCount n t)))
         (ext-getD 0 (drop (tableBase n t) out') (drop (tableBase n t) out) (omega arith)
         (λ j h. getD-drop (tableBase n t) out' j 0 ∙ l .behind (tableBase n t + j) (omega arith) ∙ sym (getD-drop (tableBase n t) out j 0))) ∙
-        binned-end (bins n t) (tableBase n t) c out next items (f .binned) (bins n t) (omega arith) (f .full) ∙ f .together
+        binned-end (binCount n t) (tableBase n t) c out next items (f .binned) (binCount n t) (omega arith) (f .full) ∙ f .together
 
-    pub tables-are : names ≡ length slots → take (tableBase n t + startOf c (bins n t)) out' ≡ numbersOf slots x
+    pub tables-are : names ≡ length slots → take (tableBase n t + startOf c (binCount n t)) out' ≡ numbersOf slots x
     unfolding numbersOf
     tables-are e =
-        take-add (6 + n * 11 + t * 9) (startOf c (bins n t)) out' ∙
+        take-add (6 + n * 11 + t * 9) (startOf c (binCount n t)) out' ∙
         ap₂ (λ (a b : List ℕ). a ++ b)
         (take-add (6 + n * 11) (t * 9) out' ∙ ap₂ (λ (a b : List ℕ). a ++ b) (take-add 6 (n * 11) out' ∙ ap₂ (λ (a b : List ℕ). a ++ b) (header-is e) rows-are) transitions-are)
         behind-is ∙
@@ -148,5 +146,5 @@ module _ (slots : List (List ℕ)) (n t : ℕ) (c : ℕ → ℕ) (out next : Lis
         regroup : (h a b d : List ℕ) → h ++ (a ++ b ++ d) ≡ h ++ a ++ b ++ d
         regroup h a b d = sym (append-assoc (h ++ a) b d ∙ append-assoc h a (b ++ d) ∙ ap (λ (k : List ℕ). h ++ k) (sym (append-assoc a b d)))
 
-    pub tables-long : names ≡ length slots → tableBase n t + startOf c (bins n t) ≡ length (numbersOf slots x)
-    tables-long e = sym (length-take-le (tableBase n t + startOf c (bins n t)) out' long) ∙ ap length (tables-are e)
+    pub tables-long : names ≡ length slots → tableBase n t + startOf c (binCount n t) ≡ length (numbersOf slots x)
+    tables-long e = sym (length-take-le (tableBase n t + startOf c (binCount n t)) out' long) ∙ ap length (tables-are e)

@@ -1,8 +1,8 @@
 -- The counts of all bins against rule 1: a content of more references, descriptors or actions is refused with 1.
 use mathlib.Core.Path.{_≡_, refl, sym, ap, _∙_}
 use mathlib.Core.Bool.{Bool, true, false, _&&_}
-use mathlib.Core.List.{List, _++_}
-use Prim.Native.Nat.{ℕ, zero, suc, _+_, _*_, _-_, _^_, _≤_, _<_}
+use mathlib.Core.List.{List}
+use Prim.Native.Nat.{ℕ, _+_, _*_, _-_, _^_, _≤_, _<_}
 use native.Mathlib.Omega.{arith}
 use native.Mathlib.Numerals.{add-one}
 use lib.Dec.{leb}
@@ -13,12 +13,12 @@ use Rattle.definition.specs.declared.Answer.the-variants.{Size}
 use Rattle.definition.specs.Rules.{keepsRules}
 use Rattle.reading.specs.Content.{Content}
 use Rattle.reading.specs.Layout.{targetList, transitionActs, numbersOf, namesOf}
-use Rattle.lay.specs.Sizes.{references, descriptors, actions, many-references, many-descriptors, many-actions}
-use Rattle.bins.specs.Bins.{startOf, start-up, countsIn}
+use Rattle.lay.specs.Sizes.{many-references, many-descriptors, many-actions}
+use Rattle.bins.specs.Bins.{startOf, countsIn}
 use Rattle.bins.specs.Binned.{Item, valuesOf}
 use Rattle.items.specs.Items.{binCount}
 use Rattle.cells.specs.Starts.{Few, tableBase}
-use Rattle.cells.specs.Parts.{bins, blocks}
+use Rattle.cells.specs.Parts.{blocks}
 use Rattle.cells.specs.Cells.{Held}
 use Rattle.cells.specs.Counts.{rowRefs, rowBlocks, list-sum, target-sum, descriptor-sum, row-block-sum, block-sum}
 
@@ -70,10 +70,10 @@ module _ (next : List ℕ) (from to cells k : ℕ) (w : Summing next from to cel
 
 pub record TotalsRoom (next : List ℕ) (n t : ℕ) : Type 0 where
   pub few : Few n t
-  pub there : bins n t ≤ length next
+  pub there : binCount n t ≤ length next
 
 abbrev pub isWithin : (ℕ → ℕ) → ℕ → ℕ → Bool
-isWithin c n t = leb (startOf c (n * 2 + t)) 69632 && leb (startOf c (blocks n t) - startOf c (n * 2 + t)) 2048 && leb (startOf c (bins n t) - startOf c (blocks n t)) 163840
+isWithin c n t = leb (startOf c (n * 2 + t)) 69632 && leb (startOf c (blocks n t) - startOf c (n * 2 + t)) 2048 && leb (startOf c (binCount n t) - startOf c (blocks n t)) 163840
 
 module _ (next : List ℕ) (n t : ℕ) (p : TotalsRoom next n t) where
   pub references-sum : SumRoom next 0 (n * 2 + t)
@@ -82,7 +82,7 @@ module _ (next : List ℕ) (n t : ℕ) (p : TotalsRoom next n t) where
   pub descriptors-sum : SumRoom next (n * 2 + t) (blocks n t)
   descriptors-sum = let r = p .there in let a = p .few .rows in let b = p .few .transitions in record { there = omega arith; before = omega arith; few = omega arith }
 
-  pub actions-sum : SumRoom next (blocks n t) (bins n t)
+  pub actions-sum : SumRoom next (blocks n t) (binCount n t)
   actions-sum = let r = p .there in let a = p .few .rows in let b = p .few .transitions in record { there = omega arith; before = omega arith; few = omega arith }
 
   module _ (a : ℕ) (s : Summed next 0 (n * 2 + t) a) where
@@ -106,11 +106,11 @@ module _ (next : List ℕ) (n t : ℕ) (p : TotalsRoom next n t) where
             lt-leb (startOf (countsIn next) (blocks n t) - startOf (countsIn next) (n * 2 + t)) 2048 (omega arith),
           ) refl)
 
-      pub within-actions : b ≤ 2048 → (d : ℕ) → Summed next (blocks n t) (bins n t) d → leb d 163840 ≡ isWithin (countsIn next) n t
+      pub within-actions : b ≤ 2048 → (d : ℕ) → Summed next (blocks n t) (binCount n t) d → leb d 163840 ≡ isWithin (countsIn next) n t
       within-actions g d s'' =
           let e = references-are in let e' = descriptors-are in
           let i = s'' .is in
-          let e'' : startOf (countsIn next) (bins n t) - startOf (countsIn next) (blocks n t) ≡ d = omega arith in
+          let e'' : startOf (countsIn next) (binCount n t) - startOf (countsIn next) (blocks n t) ≡ d = omega arith in
           sym
           (rw (
             le-leb (startOf (countsIn next) (n * 2 + t)) 69632 (omega arith),
@@ -131,17 +131,17 @@ module _ (c : ℕ → ℕ) (n t : ℕ) where
   pub record Totals : Type 0 where
     pub references-few : startOf c (n * 2 + t) ≤ 69632
     pub descriptors-few : startOf c (blocks n t) - startOf c (n * 2 + t) ≤ 2048
-    pub actions-few : startOf c (bins n t) - startOf c (blocks n t) ≤ 163840
+    pub actions-few : startOf c (binCount n t) - startOf c (blocks n t) ≤ 163840
 
   pub within-totals : isWithin c n t ≡ true → Totals
   within-totals e =
-      three (leb (startOf c (n * 2 + t)) 69632) (leb (startOf c (blocks n t) - startOf c (n * 2 + t)) 2048) (leb (startOf c (bins n t) - startOf c (blocks n t)) 163840) true e
+      three (leb (startOf c (n * 2 + t)) 69632) (leb (startOf c (blocks n t) - startOf c (n * 2 + t)) 2048) (leb (startOf c (binCount n t) - startOf c (blocks n t)) 163840) true e
       (λ q. absurd (clash q)) (λ q. absurd (clash' q)) (λ q. absurd (clash'' q))
       (λ q r s z.
       record {
         references-few = leb-true (startOf c (n * 2 + t)) 69632 q;
         descriptors-few = leb-true (startOf c (blocks n t) - startOf c (n * 2 + t)) 2048 r;
-        actions-few = leb-true (startOf c (bins n t) - startOf c (blocks n t)) 163840 s;
+        actions-few = leb-true (startOf c (binCount n t) - startOf c (blocks n t)) 163840 s;
       })
     where
       no : true ≡ false → ⊥
@@ -151,13 +151,13 @@ module _ (c : ℕ → ℕ) (n t : ℕ) where
       clash q = no (sym e ∙ rw q refl)
 
       clash' : leb (startOf c (blocks n t) - startOf c (n * 2 + t)) 2048 ≡ false → ⊥
-      clash' q = no (sym e ∙ rw q (second (leb (startOf c (n * 2 + t)) 69632) (leb (startOf c (bins n t) - startOf c (blocks n t)) 163840)))
+      clash' q = no (sym e ∙ rw q (second (leb (startOf c (n * 2 + t)) 69632) (leb (startOf c (binCount n t) - startOf c (blocks n t)) 163840)))
         where
           second : (a d : Bool) → (a && false && d) ≡ false
           second true d = refl
           second false d = refl
 
-      clash'' : leb (startOf c (bins n t) - startOf c (blocks n t)) 163840 ≡ false → ⊥
+      clash'' : leb (startOf c (binCount n t) - startOf c (blocks n t)) 163840 ≡ false → ⊥
       clash'' q = no (sym e ∙ rw q (third (leb (startOf c (n * 2 + t)) 69632) (leb (startOf c (blocks n t) - startOf c (n * 2 + t)) 2048)))
         where
           third : (a b : Bool) → (a && b && false) ≡ false
@@ -165,7 +165,7 @@ module _ (c : ℕ → ℕ) (n t : ℕ) where
           third true false = refl
           third false b = refl
 
-  pub within-size : Few n t → Totals → tableBase n t + startOf c (bins n t) ≤ 242950
+  pub within-size : Few n t → Totals → tableBase n t + startOf c (binCount n t) ≤ 242950
   within-size f w =
       let a = f .rows in let b = f .transitions in let x = w .references-few in let y = w .descriptors-few in let z = w .actions-few in omega arith
 
@@ -179,8 +179,8 @@ module _ (slots : List (List ℕ)) (n t : ℕ) (c : ℕ → ℕ) (items : List I
       let h = block-sum slots n t c items x full held in
       let u = length-append (rowRefs x) (flat targetList (x .transitions)) in
       let v = length-append (rowBlocks x) (flat transitionActs (x .transitions)) in
-      three (leb (startOf c (n * 2 + t)) 69632) (leb (startOf c (blocks n t) - startOf c (n * 2 + t)) 2048) (leb (startOf c (bins n t) - startOf c (blocks n t)) 163840) false e
+      three (leb (startOf c (n * 2 + t)) 69632) (leb (startOf c (blocks n t) - startOf c (n * 2 + t)) 2048) (leb (startOf c (binCount n t) - startOf c (blocks n t)) 163840) false e
       (λ q. let l = leb-false (startOf c (n * 2 + t)) 69632 q in many-references slots x (omega arith))
       (λ q. let l = leb-false (startOf c (blocks n t) - startOf c (n * 2 + t)) 2048 q in many-descriptors slots x (omega arith))
-      (λ q. let l = leb-false (startOf c (bins n t) - startOf c (blocks n t)) 163840 q in many-actions slots x (omega arith))
+      (λ q. let l = leb-false (startOf c (binCount n t) - startOf c (blocks n t)) 163840 q in many-actions slots x (omega arith))
       (λ p q r z. absurd (let o : _≡_ {A = ℕ} 0 1 = cc in omega arith))

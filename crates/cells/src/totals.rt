@@ -2,13 +2,12 @@
 ghost use mathlib.Core.Path.{_≡_};
 ghost use Rattle.bins.specs.Bins.{countsIn};
 ghost use Rattle.cells.specs.Totals.{CountIs, SumRoom, Summed, TotalsRoom, isWithin};
+use tables::limits::ROOM_FOR_ACTIONS;
+use tables::limits::ROOM_FOR_DESCRIPTORS;
+use tables::limits::ROOM_FOR_REFERENCES;
 
-const ROOM_FOR_REFERENCES: u64 = 69632;
-
-const ROOM_FOR_DESCRIPTORS: u64 = 2048;
-
-// four for each action
-const ROOM_FOR_ACTION_CELLS: u64 = 163840;
+// Four for each action.
+const ROOM_FOR_ACTION_CELLS: u64 = ROOM_FOR_ACTIONS * 4;
 
 fn wide(x: u32) -> u64
     ensures { λ r. ⌜ CountIs x r ⌝ }

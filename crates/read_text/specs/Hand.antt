@@ -1,10 +1,10 @@
 -- Tables in a work place, handed out.
-use mathlib.Core.Path.{_≡_, refl, sym, ap, ap₂, subst, _∙_}
+use mathlib.Core.Path.{_≡_, refl, sym, ap, ap₂, _∙_}
 use mathlib.Core.Bool.{Bool, true, false, _&&_}
 use mathlib.Core.List.{List, _++_}
 use Prim.Native.Nat.{ℕ, zero, suc, _+_, _*_, _-_, _^_, _≤_, _<_}
 use native.Mathlib.Omega.{arith}
-use lib.Dec.{eqb, leb}
+use lib.Dec.{leb}
 use lib.ListN.{length, take, drop, length-append}
 use lib.Seq.{take-at}
 use borrow.Author.Tests.{lt-leb, le-leb}
@@ -12,13 +12,12 @@ use Rattle.definition.specs.declared.Answer.{Answer}
 use Rattle.definition.specs.declared.Answer.the-variants.{Done, Size, Names, Tree, Lists, Transitions, NotAName, Full, BadChart, BadSession, NoRoom, SessionEnded}
 use Rattle.definition.specs.Rules.{keepsRules}
 use Rattle.definition.specs.Answers.{answerNo}
-use Rattle.reading.specs.Tags.{Markup, tagsOf}
+use Rattle.reading.specs.Tags.{tagsOf}
 use Rattle.reading.specs.Content.{contentOf, slotsOf}
 use Rattle.reading.specs.Layout.{numbersOf, namesOf}
 use Rattle.reading.specs.Calls.{haveRoom, Outcome, callOf}
 use Rattle.values.specs.Ids.{Noted, idsFrom}
 use Rattle.lay.specs.Sizes.{names-size}
-use Rattle.lay.specs.Copies.{CopyRoom}
 use Rattle.lay.specs.Names.{NamesRoom}
 use Rattle.reader.specs.Judged.{WellRead}
 use Rattle.reader.specs.Outcomes.{call-small, call-refused, call-tables}

@@ -1,21 +1,20 @@
 -- Rows and transitions of a text, counted and numbered.
-use mathlib.Core.Path.{_≡_, refl, sym, ap, subst, _∙_}
-use mathlib.Core.List.{List, []}
-use Prim.Native.Nat.{ℕ, _+_, _≤_, _<_}
+use mathlib.Core.Path.{_≡_, sym, subst, _∙_}
+use mathlib.Core.List.{List}
+use Prim.Native.Nat.{ℕ, _≤_, _<_}
 use native.Mathlib.Omega.{arith}
 use lib.ListN.{length, take}
 use Rattle.definition.specs.declared.Answer.the-variants.{Size}
 use Rattle.definition.specs.Rules.{keepsRules}
 use Rattle.reading.specs.Tags.{tagsOf}
 use Rattle.reading.specs.Faults.{idsOf}
-use Rattle.reading.specs.Content.{Content, contentFrom, contentOf}
+use Rattle.reading.specs.Content.{contentOf}
 use Rattle.reading.specs.Layout.{numbersOf, namesOf}
 use Rattle.lay.specs.Sizes.{many-rows, many-transitions}
 use Rattle.items.specs.Items.{sourcesOf, Ranked}
 use Rattle.items.specs.Order.{rows-count, transitions-count}
 use Rattle.items.specs.Placing.{RankRoom}
 use Rattle.walks.specs.declared.sources.Counts.{Counts}
-use Rattle.walks.specs.Said.{WalkRoom}
 use Rattle.walks.specs.Sources.{SourceRoom, Sourced}
 use Rattle.walks.specs.Plan.{textFacts}
 use Rattle.read_text.specs.declared.number.Numbered.{Numbered}

@@ -1,8 +1,7 @@
 -- What is known of a text before its tables are laid.
-use mathlib.Core.Path.{_≡_, refl, sym, ap, subst, _∙_}
+use mathlib.Core.Path.{_≡_, subst}
 use mathlib.Core.List.{List}
-use Prim.Native.Nat.{ℕ, _≤_, _<_}
-use native.Mathlib.Omega.{arith}
+use Prim.Native.Nat.{ℕ, _≤_}
 use lib.ListN.{length}
 use Rattle.definition.specs.declared.Answer.the-variants.{Size}
 use Rattle.definition.specs.Rules.{keepsRules}
@@ -14,7 +13,7 @@ use Rattle.values.specs.Ids.{Noted, idsFrom}
 use Rattle.lay.specs.Sizes.{many-names}
 use Rattle.reader.specs.declared.Judged.{Judged}
 use Rattle.reader.specs.declared.Judged.the-variants.{Faulty as JudgedFaulty, Well as JudgedWell}
-use Rattle.reader.specs.Judged.{Places, WellRead, JudgedAs}
+use Rattle.reader.specs.Judged.{WellRead, JudgedAs}
 use Rattle.slots.specs.declared.Slots.{Slots}
 use Rattle.slots.specs.declared.Slots.the-variants.{Many as ManySlots, Count as CountSlots}
 use Rattle.slots.specs.Walk.{Begun, Gathered}
@@ -23,7 +22,7 @@ use Rattle.read_text.specs.declared.number.Numbered.the-variants.{Many a
 use Rattle.read_text.specs.declared.survey.Surveyed.{Surveyed}
 use Rattle.read_text.specs.declared.survey.Surveyed.the-variants.{Faulty, Many, Planned}
 use Rattle.read_text.specs.Hand.{Well, tablesOf, slotsIn}
-use Rattle.read_text.specs.Number.{NumberRoom, NumberedBy, NumberedAs}
+use Rattle.read_text.specs.Number.{NumberedBy, NumberedAs}
 
 pub record SurveyRoom (text levels ids names spots noted next ranks : List ℕ) : Type 0 where
   pub deep : length levels ≡ 32768

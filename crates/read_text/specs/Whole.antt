@@ -1,26 +1,22 @@
 -- The whole call, with its work places.
 use mathlib.Core.Path.{_≡_, refl, sym, ap, subst, _∙_}
-use mathlib.Core.Bool.{Bool, true, false, not, _&&_, cond}
+use mathlib.Core.Bool.{Bool, true, false, not, _&&_}
 use mathlib.Core.List.{List}
-use Prim.Native.Nat.{ℕ, _≤_, _<_}
-use native.Mathlib.Omega.{arith}
+use Prim.Native.Nat.{ℕ}
 use lib.Dec.{eqb}
 use lib.ListN.{length}
 use borrow.Author.Tests.{eqb-true, not-true, not-false}
-use Rattle.definition.specs.declared.Answer.the-variants.{Size as Refused}
-use Rattle.reading.specs.Layout.{readOf, faulty}
 use Rattle.reading.specs.Calls.{Outcome, callOf}
 use Rattle.reader.specs.Outcomes.{refusal, call-faulty, call-size}
-use Rattle.walks.specs.declared.plan.Plan.{Plan}
 use Rattle.read_text.specs.declared.hand_out.Read.{Read}
 use Rattle.read_text.specs.declared.survey.Surveyed.{Surveyed}
 use Rattle.read_text.specs.declared.survey.Surveyed.the-variants.{Faulty, Many, Planned}
 use Rattle.read_text.specs.declared.fill.Laid.{Laid}
 use Rattle.read_text.specs.declared.fill.Laid.the-variants.{Many as ManyLaid, Size}
 use Rattle.read_text.specs.Outcome.{refused, outcomeOf}
-use Rattle.read_text.specs.Hand.{Well, HandRoom}
-use Rattle.read_text.specs.Survey.{SurveyRoom, Oversize, PlannedBy, SurveyedAs}
-use Rattle.read_text.specs.Fill.{FillRoom, LaidAs}
+use Rattle.read_text.specs.Hand.{HandRoom}
+use Rattle.read_text.specs.Survey.{Oversize, PlannedBy, SurveyedAs}
+use Rattle.read_text.specs.Fill.{LaidAs}
 
 -- ---- the work places
 

@@ -1,7 +1,8 @@
 // The tables of a text laid in a work place: the cells of all lists and blocks are counted, the counts held against rule 1, and then each cell has its place.
 ghost use mathlib.Core.Path.{_≡_};
 ghost use Prim.Native.Nat.{_<_};
-ghost use Rattle.read_text.specs.Fill.{FillRoom, CountedAs, FillReady, FilledAs, LaidAs};
+ghost use Rattle.read_text.specs.Count.{FillRoom, CountedAs};
+ghost use Rattle.read_text.specs.Fill.{FillReady, FilledAs, LaidAs};
 use bins::starts;
 use cells::lay_cells;
 use cells::totals::is_within;

@@ -1,6 +1,8 @@
 // Rows and transitions counted and numbered: "by source row, then by place" (1.18).
 ghost use Rattle.read_text.specs.Number.{NumberRoom, NumberedAs};
 use items::rank;
+use tables::limits::MOST_ROWS;
+use tables::limits::MOST_TRANSITIONS;
 use walks::sources::sources;
 
 // More than rule 1 allows, or so many rows and transitions.
@@ -8,10 +10,6 @@ pub enum Numbered {
     Many,
     Count(usize, usize),
 }
-
-const MOST_ROWS: usize = 256;
-
-const MOST_TRANSITIONS: usize = 512;
 
 // The number in the tables of each transition of the text is its rank.
 pub fn number(
@@ -29,11 +27,11 @@ pub fn number(
     let counts = sources(text, levels, &mut cells, spots, noted);
     let rows = counts.rows;
     let many = counts.transitions;
-    if MOST_ROWS < rows {
+    if MOST_ROWS < rows as u64 {
         return Numbered::Many;
     }
     let transitions = rank(noted, many, rows, next, ranks);
-    if MOST_TRANSITIONS < transitions {
+    if MOST_TRANSITIONS < transitions as u64 {
         return Numbered::Many;
     }
     Numbered::Count(rows, transitions)

@@ -1,5 +1,5 @@
 use borrow.Author.Needs.{needs}
-use Rattle.read_text.specs.Fill.{count-clear, count-room, count-totals, count-many, count-starts, count-begun}
+use Rattle.read_text.specs.Count.{count-clear, count-room, count-totals, count-many, count-starts, count-begun}
 use Rattle.read_text.proofs.fill.count_tables.Statement.{statement}
 use Rattle.read_text.proofs.fill.count_tables.Tie as tie
 
