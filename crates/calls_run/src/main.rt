@@ -30,7 +30,7 @@ use lines::size;
 use session::Session;
 
 // Room for all lines.
-const TEXT: usize = 1048576;
+const TEXT: usize = 524288;
 
 // How much of each buffer is lent.
 pub struct Lent {

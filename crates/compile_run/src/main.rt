@@ -19,7 +19,7 @@ use lines::sum_bytes;
 use lines::sum_words;
 
 // Room for all lines.
-const TEXT: usize = 1048576;
+const TEXT: usize = 524288;
 
 // How much of each buffer is lent.
 struct Lent {

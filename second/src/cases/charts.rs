@@ -22,9 +22,9 @@ use std::fmt::Write as _;
 
 /// The first seed of the generated charts, and how many there are.
 const FIRST_SEED: u64 = 9_000_000;
-const GENERATED: u64 = 60;
+const GENERATED: u64 = 48;
 /// How many charts with cells changed at will.
-const CHANGED: usize = 60;
+const CHANGED: usize = 50;
 
 struct Case {
     about: String,
