@@ -4,4 +4,5 @@ pub mod Number
 pub mod Survey
 pub mod Count
 pub mod Fill
+pub mod Tabled
 pub mod Whole

@@ -9,14 +9,12 @@ use borrow.Author.Tests.{eqb-true, not-true, not-false}
 use Rattle.reading.specs.Calls.{Outcome, callOf}
 use Rattle.reader.specs.Outcomes.{refusal, call-faulty, call-size}
 use Rattle.read_text.specs.declared.hand_out.Read.{Read}
-use Rattle.read_text.specs.declared.survey.Surveyed.{Surveyed}
-use Rattle.read_text.specs.declared.survey.Surveyed.the-variants.{Faulty, Many, Planned}
-use Rattle.read_text.specs.declared.fill.Laid.{Laid}
-use Rattle.read_text.specs.declared.fill.Laid.the-variants.{Many as ManyLaid, Size}
 use Rattle.read_text.specs.Outcome.{refused, outcomeOf}
 use Rattle.read_text.specs.Hand.{HandRoom}
-use Rattle.read_text.specs.Survey.{Oversize, PlannedBy, SurveyedAs}
-use Rattle.read_text.specs.Fill.{LaidAs}
+use Rattle.read_text.specs.declared.tabled.Tabled.{Tabled}
+use Rattle.read_text.specs.declared.tabled.Tabled.the-variants.{Faulty, Many, Size}
+use Rattle.read_text.specs.Survey.{Oversize}
+use Rattle.read_text.specs.Tabled.{TabledAs}
 
 -- ---- the work places
 
@@ -84,34 +82,25 @@ oversize : (text place namePlace : List ℕ) → Oversize text → (r : Read) �
 oversize text place namePlace o r i =
     ap (λ (x : Read). outcomeOf x place namePlace) i ∙ sym (call-size text place namePlace (o .well .levels) (o .well .ids) (o .well .count) (o .well .is) (o .is))
 
-module _ (text ids names ranks : List ℕ) (known : Surveyed) (s : SurveyedAs text ids names ranks known) where
-  pub read-faulty : (at : ℕ) → known ≡ Faulty at → (place namePlace : List ℕ) (r : Read) → r ≡ refused 12 at → outcomeOf r place namePlace ≡ callOf text place namePlace
+module _ (text names work : List ℕ) (tabled : Tabled) (s : TabledAs text names work tabled) where
+  pub read-faulty : (at : ℕ) → tabled ≡ Faulty at → (place namePlace : List ℕ) (r : Read) → r ≡ refused 12 at → outcomeOf r place namePlace ≡ callOf text place namePlace
   read-faulty at e place namePlace r i =
-      let k = subst (SurveyedAs text ids names ranks) e s in
+      let k = subst (TabledAs text names work) e s in
       ap (λ (x : Read). outcomeOf x place namePlace) i ∙ sym (call-faulty text place namePlace at (k .is .is))
 
-  pub read-many : known ≡ Many → (place namePlace : List ℕ) (r : Read) → r ≡ refused 1 0 → outcomeOf r place namePlace ≡ callOf text place namePlace
-  read-many e place namePlace r i = let k = subst (SurveyedAs text ids names ranks) e s in oversize text place namePlace (k .is) r i
+  pub read-many : tabled ≡ Many → (place namePlace : List ℕ) (r : Read) → r ≡ refused 1 0 → outcomeOf r place namePlace ≡ callOf text place namePlace
+  read-many e place namePlace r i = let k = subst (TabledAs text names work) e s in oversize text place namePlace (k .is) r i
 
-  module _ (n t i m : ℕ) (e : known ≡ Planned n t i m) where
-    pub read-planned : PlannedBy text ids names ranks n t i m
-    read-planned = let k = subst (SurveyedAs text ids names ranks) e s in k .is
-
-    module _ (work : List ℕ) (laid : Laid) (l : LaidAs text work laid) where
-      pub read-over : laid ≡ ManyLaid → (place namePlace : List ℕ) (r : Read) → r ≡ refused 1 0 → outcomeOf r place namePlace ≡ callOf text place namePlace
-      read-over q place namePlace r j = let k = subst (LaidAs text work) q l in oversize text place namePlace (k .is) r j
-
-      pub read-hand : (size : ℕ) → laid ≡ Size size → (nameWork : List ℕ) → length nameWork ≡ 49152 → HandRoom text names m work size nameWork
-      read-hand size q nameWork b =
-          let k = subst (LaidAs text work) q l in
-          let w = read-planned in
-          record {
-            well = w .well;
-            noted = w .names-noted;
-            slots-are = w .names-are;
-            few = w .names-few;
-            room = b;
-            there = k .is .there;
-            size-is = k .is .size-is;
-            tables-are = k .is .tables-are;
-          }
+  pub read-hand : (size m : ℕ) → tabled ≡ Size size m → (nameWork : List ℕ) → length nameWork ≡ 49152 → HandRoom text names m work size nameWork
+  read-hand size m e nameWork b =
+      let k = subst (TabledAs text names work) e s in
+      record {
+        well = k .is .well;
+        noted = k .is .names-noted;
+        slots-are = k .is .names-are;
+        few = k .is .names-few;
+        room = b;
+        there = k .is .tables .there;
+        size-is = k .is .tables .size-is;
+        tables-are = k .is .tables .tables-are;
+      }

@@ -4,19 +4,17 @@ ghost use lib.ListN.{length};
 ghost use Rattle.reading.specs.Calls.{callOf};
 ghost use Rattle.read_text.specs.Outcome.{outcomeOf};
 ghost use Rattle.read_text.specs.Whole.{placesFit, ReadRoom, readWith};
-use crate::fill::Laid;
-use crate::fill::lay_tables;
 use crate::hand_out::Read;
 use crate::hand_out::hand_out;
 use crate::hand_out::refusal;
-use crate::survey::Surveyed;
-use crate::survey::survey;
-use walks::plan::Plan;
+use crate::tabled::Tabled;
+use crate::tabled::lay_text;
 
 pub mod fill;
 pub mod hand_out;
 pub mod number;
 pub mod survey;
+pub mod tabled;
 
 // What a call with work places of other lengths gets: no number of document 01 or of a later request, and nothing is written.
 pub const NO_WORK_PLACE: u32 = 199;
@@ -56,7 +54,7 @@ fn read_in(
     let mut levels = [0u8; 32768];
     let mut names = [0u16; 1536];
     let mut next = [0u32; 2816];
-    let known = survey(
+    let tabled = lay_text(
         text,
         &mut levels,
         ids,
@@ -65,43 +63,21 @@ fn read_in(
         noted,
         &mut next,
         ranks,
+        work,
     );
-    match known {
-        Surveyed::Faulty(at) => refusal(12, at),
-        Surveyed::Many => refusal(1, 0),
-        Surveyed::Planned(n, t, i, m) => {
-            let plan = Plan {
-                rows: n,
-                transitions: t,
-                ids: i,
-                slots: m,
-                fill: false,
-            };
-            let laid = lay_tables(
-                text,
-                &mut levels,
-                spots,
-                ids,
-                &names,
-                ranks,
-                work,
-                &mut next,
-                plan,
-            );
-            match laid {
-                Laid::Many => refusal(1, 0),
-                Laid::Size(size) => hand_out(
-                    text,
-                    &names,
-                    m,
-                    work,
-                    size,
-                    name_work,
-                    place,
-                    name_place,
-                ),
-            }
-        }
+    match tabled {
+        Tabled::Faulty(at) => refusal(12, at),
+        Tabled::Many => refusal(1, 0),
+        Tabled::Size(size, m) => hand_out(
+            text,
+            &names,
+            m,
+            work,
+            size,
+            name_work,
+            place,
+            name_place,
+        ),
     }
 }
 
