@@ -1,5 +1,4 @@
 use borrow.Author.Needs.{needs}
-use mathlib.Core.Path.{_∙_}
 use Rattle.read_text.specs.Whole.{read-faulty, read-many, read-hand}
 use Rattle.read_text.proofs.read_in.Statement.{statement}
 use Rattle.read_text.proofs.read_in.Tie as tie
