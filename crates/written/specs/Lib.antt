@@ -2,3 +2,8 @@ pub mod Pieces
 pub mod Begins
 pub mod Walks
 pub mod Walked
+pub mod Written
+pub mod Texts
+pub mod Sound
+pub mod RowTexts
+pub mod Printed
