@@ -7,3 +7,5 @@ pub mod Texts
 pub mod Sound
 pub mod RowTexts
 pub mod Printed
+pub mod Spelt
+pub mod Values
