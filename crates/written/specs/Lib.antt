@@ -9,3 +9,5 @@ pub mod RowTexts
 pub mod Printed
 pub mod Spelt
 pub mod Values
+pub mod Numbers
+pub mod Blocks

@@ -38,7 +38,8 @@ ActFits n (cancels m) = isName m ≡ true
 
 -- with k ifs open, each end closes one, and all are closed at the end
 unfoldable pub balanced : ℕ → List Act → Bool
-balanced k [] = eqb k 0
+balanced zero [] = true
+balanced (suc k) [] = false
 balanced k (raises m ∷ rest) = balanced k rest
 balanced k (hosts m ∷ rest) = balanced k rest
 balanced k (ifIn i ∷ rest) = balanced (suc k) rest

@@ -15,7 +15,7 @@ use Rattle.names.specs.Spelling.{name-spelt}
 use Rattle.names.specs.Spelling.{spelt as speltBytes}
 use Rattle.laws.specs.Bools.{and-left, and-right, and-true, and-false, or-elim, no, not-so, clash, bool-case}
 use Rattle.laws.specs.Lists.{same-eq}
-use Rattle.written.specs.Walks.{reads, not-false}
+use Rattle.written.specs.Sound.{AllOf, no-more, more}
 
 -- ---- bytes
 
@@ -89,3 +89,16 @@ token-plain b h = let r = token-range b h in plain-byte b (let l : 45 ≤ b = r 
   where
     less : isToken 60 ≡ false
     less = unfold isToken in refl
+
+-- a name has no quote, no "&" and no "<"
+pub spelt-plain : (n : List ℕ) (fresh : Bool) → spelt fresh n ≡ true → AllOf Plain n
+unfolding spelt
+spelt-plain [] fresh h = no-more
+spelt-plain (b ∷ bs) fresh h = by (isToken b) refl (eqb b 46) refl (not fresh) h (spelt-plain bs false) (spelt-plain bs true)
+  where
+    by : (t : Bool) → isToken b ≡ t → (d : Bool) → eqb b 46 ≡ d → (f : Bool) → cond t (spelt false bs) (cond (d && f) (spelt true bs) false) ≡ true →
+        (spelt false bs ≡ true → AllOf Plain bs) → (spelt true bs ≡ true → AllOf Plain bs) → AllOf Plain (b ∷ bs)
+    by true e d g f h i j = more (token-plain b e) (i h)
+    by false e true g true h i j = let dot = eqb-true b 46 g in more (plain-byte b (omega arith) (omega arith) (λ e. omega arith)) (j h)
+    by false e true g false h i j = absurd (no h)
+    by false e false g f h i j = absurd (no h)
