@@ -11,3 +11,4 @@ pub mod Spelt
 pub mod Values
 pub mod Numbers
 pub mod Blocks
+pub mod Inner
