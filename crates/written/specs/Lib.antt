@@ -12,3 +12,4 @@ pub mod Values
 pub mod Numbers
 pub mod Blocks
 pub mod Inner
+pub mod Placed
