@@ -13,3 +13,5 @@ pub mod Numbers
 pub mod Blocks
 pub mod Inner
 pub mod Placed
+pub mod Laid
+pub mod Stand
