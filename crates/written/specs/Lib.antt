@@ -15,3 +15,4 @@ pub mod Inner
 pub mod Placed
 pub mod Laid
 pub mod Stand
+pub mod Items
