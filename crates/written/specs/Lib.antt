@@ -16,3 +16,5 @@ pub mod Placed
 pub mod Laid
 pub mod Stand
 pub mod Items
+pub mod Says
+pub mod BlockSays
