@@ -18,3 +18,4 @@ pub mod Stand
 pub mod Items
 pub mod Says
 pub mod BlockSays
+pub mod InnerSays
