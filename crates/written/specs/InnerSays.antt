@@ -37,7 +37,7 @@ descriptors-solid (d ∷ ds) (more f g) = more (descriptor-solid d f) (descripto
 pub descriptors-read : (ds : List (List ℕ)) → AllOf DescriptorFits ds → namesIn (spaced ds) ≡ ds
 descriptors-read ds f = items-spaced 0 ds (descriptors-solid ds f)
 
-given-whole : (v : List ℕ) → cond (isEmpty v) [] v ≡ v
+pub given-whole : (v : List ℕ) → cond (isEmpty v) [] v ≡ v
 unfolding isEmpty
 given-whole [] = refl
 given-whole (b ∷ bs) = refl
@@ -132,7 +132,7 @@ transitionsSaid i m [] = []
 transitionsSaid i m (t ∷ ts) = (transitionFact i (t .descriptors) (t .condition) (t .internal) (t .targets) ∷ actsSaid 4 m (t .block)) ++ transitionsSaid i (suc m) ts
 
 module _ (rs : List Row) (ids : List (List ℕ)) (n : ℕ) (known : Known rs ids n) where
-  transitions-say : (i k m : ℕ) (st : List Spot) (ts : List Transition) → AllOf (TransitionFits n) ts → Says ids (inRow i false ∷ st) k m (flat (transitionPieces rs) ts) (transitionsSaid i m ts) (inRow i false ∷ st) k (further m ts)
+  pub transitions-say : (i k m : ℕ) (st : List Spot) (ts : List Transition) → AllOf (TransitionFits n) ts → Says ids (inRow i false ∷ st) k m (flat (transitionPieces rs) ts) (transitionsSaid i m ts) (inRow i false ∷ st) k (further m ts)
   unfolding flat transitionsSaid
   transitions-say i k m st [] no-more = says-none
   transitions-say i k m st (t ∷ ts) (more f g) = says-both (transition-says rs ids n known i k m st t f) (transitions-say i k (suc m) st ts g)
@@ -151,7 +151,7 @@ module _ (rs : List Row) (ids : List (List ℕ)) (n : ℕ) (known : Known rs ids
     no-acts : (p : ℕ) → isEmpty acts ≡ true → [] ≡ actsSaid p i acts
     no-acts p e = ap (map (actionFact (block p i))) (sym (empty-list acts e))
 
-    entry-says : Says ids (inRow i w ∷ st) k m (blockElement rs 7 acts) (actsSaid 1 i acts) (inRow i w ∷ st) k m
+    pub entry-says : Says ids (inRow i w ∷ st) k m (blockElement rs 7 acts) (actsSaid 1 i acts) (inRow i w ∷ st) k m
     entry-says = by (isEmpty acts) refl
       where
         by : (z : Bool) → isEmpty acts ≡ z → Says ids (inRow i w ∷ st) k m (cond z [] (elementPieces 7 7 [] (blockPieces rs false acts))) (actsSaid 1 i acts) (inRow i w ∷ st) k m
@@ -160,7 +160,7 @@ module _ (rs : List Row) (ids : List (List ℕ)) (n : ℕ) (known : Known rs ids
             element-says (inRow i w) st k m 7 7 [] (record { facts = []; inside = inBlock (block 1 i); around = inRow i w; rows = k; transitions = m }) (λ (j : ℕ). entry-turn i k m j w) refl refl
             (blockPieces rs false acts) (actsSaid 1 i acts) (block-said rs ids n known (inBlock (block 1 i)) (inRow i w ∷ st) k m acts f)
 
-    exit-says : Says ids (inRow i w ∷ st) k m (blockElement rs 8 acts) (actsSaid 2 i acts) (inRow i w ∷ st) k m
+    pub exit-says : Says ids (inRow i w ∷ st) k m (blockElement rs 8 acts) (actsSaid 2 i acts) (inRow i w ∷ st) k m
     exit-says = by (isEmpty acts) refl
       where
         by : (z : Bool) → isEmpty acts ≡ z → Says ids (inRow i w ∷ st) k m (cond z [] (elementPieces 8 8 [] (blockPieces rs false acts))) (actsSaid 2 i acts) (inRow i w ∷ st) k m
@@ -190,13 +190,13 @@ module _ (rs : List Row) (ids : List (List ℕ)) (n : ℕ) (known : Known rs ids
     abbrev listSaid : List Fact
     listSaid = listFact i (r .list) ∷ actsSaid 3 i (r .block)
 
-    default-says : Says ids (inRow i true ∷ st) k m (defaultPieces rs 6 3 r) listSaid (inRow i false ∷ st) k m
+    pub default-says : Says ids (inRow i true ∷ st) k m (defaultPieces rs 6 3 r) listSaid (inRow i false ∷ st) k m
     default-says =
         element-says (inRow i true) st k m 6 6 (attr 3 (idsText rs (r .list)) ∷ []) (listTurn i k m (r .list))
         (λ (j : ℕ). default-by i k m j (idsText rs (r .list)) ∙ ap (listTurn i k m) (rows-read rs ids n known (r .list) l)) refl refl (blockPieces rs false (r .block)) (actsSaid 3 i (r .block))
         (block-said rs ids n known (inBlock (block 3 i)) (inRow i false ∷ st) k m (r .block) b)
 
-    initial-says : Says ids (inRow i false ∷ st) k m (startTag 5 [] ∷ (defaultPieces rs 11 1 r ++ endTag 5 ∷ [])) listSaid (inRow i false ∷ st) k m
+    pub initial-says : Says ids (inRow i false ∷ st) k m (startTag 5 [] ∷ (defaultPieces rs 11 1 r ++ endTag 5 ∷ [])) listSaid (inRow i false ∷ st) k m
     initial-says =
         says-both (starts-says (inRow i false) st k m 5 [] (record { facts = []; inside = inRow i true; around = inRow i false; rows = k; transitions = m }) (λ (j : ℕ). initial-turn i k m j false))
         (says-as (append-nil listSaid)

@@ -19,3 +19,5 @@ pub mod Items
 pub mod Says
 pub mod BlockSays
 pub mod InnerSays
+pub mod RowSays
+pub mod RowsSaid
