@@ -21,3 +21,4 @@ pub mod BlockSays
 pub mod InnerSays
 pub mod RowSays
 pub mod RowsSaid
+pub mod Back
