@@ -49,13 +49,13 @@ unfolding actsIn
 no-acts p i j l fs = refl
 
 -- a list that stands as an element, with its block
-list-acts : (p i j : ℕ) (l : List ℕ) (acts : List Act) (z : Bool) → actsIn p i (cond z (listFact j l ∷ actsSaid 3 j acts) []) ≡ cond z (actsIn p i (actsSaid 3 j acts)) []
+pub list-acts : (p i j : ℕ) (l : List ℕ) (acts : List Act) (z : Bool) → actsIn p i (cond z (listFact j l ∷ actsSaid 3 j acts) []) ≡ cond z (actsIn p i (actsSaid 3 j acts)) []
 unfolding actsIn
 list-acts p i j l acts true = refl
 list-acts p i j l acts false = refl
 
 -- transitions have blocks of their own
-transitions-acts : (p i s m : ℕ) → eqb 4 p ≡ false → (ts : List Transition) → actsIn p i (transitionsSaid s m ts) ≡ []
+pub transitions-acts : (p i s m : ℕ) → eqb 4 p ≡ false → (ts : List Transition) → actsIn p i (transitionsSaid s m ts) ≡ []
 unfolding transitionsSaid
 transitions-acts p i s m h [] = unfold actsIn in refl
 transitions-acts p i s m h (t ∷ ts) =
@@ -67,7 +67,7 @@ transitions-acts p i s m h (t ∷ ts) =
 
 -- the blocks of a row are those that it says
 module _ (p i j m : ℕ) (r : Row) (ts : List Transition) where
-  inner-acts : actsIn p i (innerSaid j m r ts) ≡
+  pub inner-acts : actsIn p i (innerSaid j m r ts) ≡
       actsIn p i (actsSaid 1 j (r .entry)) ++ (actsIn p i (actsSaid 2 j (r .exit)) ++ (cond (isHistoryKind (r .kind) || isElementList r) (actsIn p i (actsSaid 3 j (r .block))) [] ++ actsIn p i (transitionsSaid j m ts)))
   unfolding innerSaid
   inner-acts =
@@ -78,11 +78,11 @@ module _ (p i j m : ℕ) (r : Row) (ts : List Transition) where
       (acts-both p i (listFacts j r (r .kind)) (transitionsSaid j m ts) ∙
       ap (λ (l : List Act). l ++ actsIn p i (transitionsSaid j m ts)) (list-acts p i j (r .list) (r .block) (isHistoryKind (r .kind) || isElementList r))))
 
-cond-none : (z : Bool) (l : List Act) → l ≡ [] → cond z l [] ≡ []
+pub cond-none : (z : Bool) (l : List Act) → l ≡ [] → cond z l [] ≡ []
 cond-none true l h = h
 cond-none false l h = refl
 
-four-none : {a b c d : List Act} → a ≡ [] → b ≡ [] → c ≡ [] → d ≡ [] → a ++ (b ++ (c ++ d)) ≡ []
+pub four-none : {a b c d : List Act} → a ≡ [] → b ≡ [] → c ≡ [] → d ≡ [] → a ++ (b ++ (c ++ d)) ≡ []
 four-none {a = a} {b = b} {c = c} {d = d} e f g h = ap (λ (x : List Act). x ++ (b ++ (c ++ d))) e ∙ ap (λ (x : List Act). x ++ (c ++ d)) f ∙ ap (λ (x : List Act). x ++ d) g ∙ h
 
 -- the parts of a row's own blocks
@@ -91,7 +91,7 @@ pub data Part : ℕ → Type 0 where
   exit-part : Part 2
   list-part : Part 3
 
-not-four : {p : ℕ} → Part p → eqb 4 p ≡ false
+pub not-four : {p : ℕ} → Part p → eqb 4 p ≡ false
 not-four entry-part = refl
 not-four exit-part = refl
 not-four list-part = refl
@@ -103,17 +103,17 @@ partOf exit-part r = r .exit
 partOf list-part r = r .block
 
 -- another row says nothing of row i
-inner-other : {p : ℕ} → Part p → (i j m : ℕ) (r : Row) (ts : List Transition) → (j ≡ i → ⊥) → actsIn p i (innerSaid j m r ts) ≡ []
+pub inner-other : {p : ℕ} → Part p → (i j m : ℕ) (r : Row) (ts : List Transition) → (j ≡ i → ⊥) → actsIn p i (innerSaid j m r ts) ≡ []
 inner-other {p = p} q i j m r ts h =
     inner-acts p i j m r ts ∙
     four-none (acts-there p i 1 j (other-owner p i 1 j h) (r .entry)) (acts-there p i 2 j (other-owner p i 2 j h) (r .exit))
     (cond-none (isHistoryKind (r .kind) || isElementList r) _ (acts-there p i 3 j (other-owner p i 3 j h) (r .block))) (transitions-acts p i j m (not-four q) ts)
 
-row-skipped : (p i k q : ℕ) (n l : List ℕ) (fs : List Fact) → actsIn p i (rowFact k q n l ∷ fs) ≡ actsIn p i fs
+pub row-skipped : (p i k q : ℕ) (n l : List ℕ) (fs : List Fact) → actsIn p i (rowFact k q n l ∷ fs) ≡ actsIn p i fs
 unfolding actsIn
 row-skipped p i k q n l fs = refl
 
-rows-other : {p : ℕ} → Part p → (c : Content) (rs : List Row) (i j m : ℕ) → i < j → actsIn p i (rowsSaid c j m rs) ≡ []
+pub rows-other : {p : ℕ} → Part p → (c : Content) (rs : List Row) (i j m : ℕ) → i < j → actsIn p i (rowsSaid c j m rs) ≡ []
 unfolding rowsSaid
 rows-other q c [] i j m h = unfold actsIn in refl
 rows-other {p = p} q c (r ∷ rs) i j m h =

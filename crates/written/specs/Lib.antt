@@ -22,3 +22,4 @@ pub mod InnerSays
 pub mod RowSays
 pub mod RowsSaid
 pub mod Back
+pub mod BackRows
