@@ -23,3 +23,5 @@ pub mod RowSays
 pub mod RowsSaid
 pub mod Back
 pub mod BackRows
+pub mod BackTransitions
+pub mod Order
