@@ -25,3 +25,4 @@ pub mod Back
 pub mod BackRows
 pub mod BackTransitions
 pub mod Order
+pub mod Faultless

@@ -28,7 +28,7 @@ unfoldable all : ℕ
 unfolding kinds needed opened ends bits adds has added isComplete mayEnd after opens kindOf
 all = 0
 
-namespace-plain : AllOf Plain namespace
+pub namespace-plain : AllOf Plain namespace
 namespace-plain =
     (more (plain-byte 104 (omega arith) (omega arith) (λ e. omega arith))
     (more (plain-byte 116 (omega arith) (omega arith) (λ e. omega arith))
@@ -63,14 +63,14 @@ namespace-plain =
     (more (plain-byte 108 (omega arith) (omega arith) (λ e. omega arith))
     no-more)))))))))))))))))))))))))))))))
 
-versionText-plain : AllOf Plain versionText
+pub versionText-plain : AllOf Plain versionText
 versionText-plain =
     (more (plain-byte 49 (omega arith) (omega arith) (λ e. omega arith))
     (more (plain-byte 46 (omega arith) (omega arith) (λ e. omega arith))
     (more (plain-byte 48 (omega arith) (omega arith) (λ e. omega arith))
     no-more)))
 
-deep-plain : AllOf Plain deep
+pub deep-plain : AllOf Plain deep
 deep-plain =
     (more (plain-byte 100 (omega arith) (omega arith) (λ e. omega arith))
     (more (plain-byte 101 (omega arith) (omega arith) (λ e. omega arith))
