@@ -80,18 +80,31 @@ descriptors-long i ds f = long-none (itemsAt i (spaced ds)) (subst (AllOf Short)
 
 -- ---- attributes
 
-module _ (ids : List (List ℕ)) where
-  -- id of a row, event of a raise or a send, sendid, id of a send
-  pub data Named : ℕ → ℕ → Type 0 where
-    state-id : Named 1 0
-    parallel-id : Named 2 0
-    final-id : Named 3 0
-    history-id : Named 4 0
-    raise-event : Named 9 0
-    send-event : Named 15 0
-    send-id : Named 15 2
-    cancel-id : Named 16 0
+-- id of a row, event of a raise or a send, sendid, id of a send
+pub data Named : ℕ → ℕ → Type 0 where
+  state-id : Named 1 0
+  parallel-id : Named 2 0
+  final-id : Named 3 0
+  history-id : Named 4 0
+  raise-event : Named 9 0
+  send-event : Named 15 0
+  send-id : Named 15 2
+  cancel-id : Named 16 0
 
+-- In, of an if, an elseif or a transition
+pub data Tested : ℕ → ℕ → Type 0 where
+  if-cond : Tested 12 0
+  elseif-cond : Tested 14 0
+  transition-cond : Tested 6 2
+
+-- lists of rows
+pub data Listed : ℕ → ℕ → Type 0 where
+  root-initial : Listed 0 2
+  state-initial : Listed 1 1
+  transition-target : Listed 6 3
+  initial-target : Listed 11 1
+
+module _ (ids : List (List ℕ)) where
   pub name-clean : (e j : ℕ) → Named e j → (v : List ℕ) → isName v ≡ true → Clean ids e (attr j v)
   unfolding partFaults attribute attrs
   name-clean e j state-id v h = record { clean = λ (i : ℕ). name-long (valueAt i 1 (attr 0 v)) v h }
@@ -139,11 +152,6 @@ module _ (ids : List (List ℕ)) where
     row-among : (i : ℕ) → Ref n i → Among ids (idOf rs i)
     row-among i r = record { short = name-short (idOf rs i) (named i r); there = among i r }
 
-    pub data Tested : ℕ → ℕ → Type 0 where
-      if-cond : Tested 12 0
-      elseif-cond : Tested 14 0
-      transition-cond : Tested 6 2
-
     pub in-clean : (e j : ℕ) → Tested e j → (i : ℕ) → Ref n i → Clean ids e (attr j (inText rs i))
     unfolding partFaults attribute attrs
     in-clean e j if-cond x r = record { clean = λ (i : ℕ). condition-none (valueAt i 12 (attr 0 (inText rs x))) (idOf rs x) (named x r) (row-among x r) }
@@ -160,12 +168,6 @@ module _ (ids : List (List ℕ)) where
 
     references-none : (k : ℕ) (is : List ℕ) → AllOf (Ref n) is → flat (referenceFault ids) (itemsAt k (idsText rs is)) ≡ []
     references-none k is f = reference-none ids (itemsAt k (idsText rs is)) (subst (AllOf (Among ids)) (sym (items-spaced k (map (idOf rs) is) (all-solid is f))) (all-among is f))
-
-    pub data Listed : ℕ → ℕ → Type 0 where
-      root-initial : Listed 0 2
-      state-initial : Listed 1 1
-      transition-target : Listed 6 3
-      initial-target : Listed 11 1
 
     pub list-clean : (e j : ℕ) → Listed e j → (is : List ℕ) → AllOf (Ref n) is → Clean ids e (attr j (idsText rs is))
     unfolding partFaults attribute attrs

@@ -26,3 +26,4 @@ pub mod BackRows
 pub mod BackTransitions
 pub mod Order
 pub mod Faultless
+pub mod Noted
