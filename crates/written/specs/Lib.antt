@@ -27,3 +27,5 @@ pub mod BackTransitions
 pub mod Order
 pub mod Faultless
 pub mod Noted
+pub mod RowsNoted
+pub mod Whole

@@ -25,13 +25,13 @@ pub record Notes (ids : List (List ℕ)) (ps : List Piece) (is : List (List ℕ)
   pub noted : (i : ℕ) (ts : List Markup) → idsOf (tagsAt i ps ++ ts) ≡ is ++ idsOf ts
   pub faultless : (i : ℕ) → flat (tagFaults ids) (tagsAt i ps) ≡ []
 
-one-fault : (ids : List (List ℕ)) (m : Markup) → tagFaults ids m ≡ [] → flat (tagFaults ids) (m ∷ []) ≡ []
+pub one-fault : (ids : List (List ℕ)) (m : Markup) → tagFaults ids m ≡ [] → flat (tagFaults ids) (m ∷ []) ≡ []
 unfolding flat
 one-fault ids m h = ap (λ (l : List ℕ). l ++ []) h
 
 -- ---- a tag that is no row's
 
-abbrev started : Shape → ℕ → ℕ → List Part → Markup
+abbrev pub started : Shape → ℕ → ℕ → List Part → Markup
 started s i e ps = record { at = i; shape = s; element = e; parts = ps }
 
 quiet-id : (s : Shape) (i e : ℕ) (ps : List Part) (ts : List Markup) → isRowTag e ≡ false → idsOf (started s i e ps ∷ ts) ≡ idsOf ts
