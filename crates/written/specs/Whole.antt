@@ -136,3 +136,86 @@ module _ (c : Content) (s : Sound c) where
 
   id-of : (i : ℕ) → idOf (c .rows) (suc i) ≡ idOf (s .others) i
   id-of i = ap (λ (l : List Row). idOf l (suc i)) (s .rows-are) ∙ unfold idOf in refl
+
+  lengths : count ≡ length (s .root ∷ s .others)
+  lengths = ap (length {A = Row}) (s .rows-are)
+
+  named : (i : ℕ) → Ref count i → isName (idOf (c .rows) i) ≡ true
+  named i r = past-root (s .root) (s .others) count i lengths r (λ (j : ℕ) (e : i ≡ suc j) (h : j < length (s .others)). ap (λ (x : ℕ). isName (idOf (c .rows) x)) e ∙ ap isName (id-of j) ∙ ids-named count (s .others) (0 ∷ []) 1 (s .laid) (s .rows-fit) j h)
+
+  found : (i : ℕ) → Ref count i → rowNamed ids (idOf (c .rows) i) ≡ i
+  found i r =
+      past-root (s .root) (s .others) count i lengths r
+      (λ (j : ℕ) (e : i ≡ suc j) (h : j < length (s .others)). ap (λ (x : ℕ). rowNamed ids (idOf (c .rows) x)) e ∙ ap (rowNamed ids) (id-of j) ∙ ap suc (id-place (s .others) (s .differ) j h) ∙ sym e)
+
+  among : (i : ℕ) → Ref count i → isAmong (idOf (c .rows) i) ids ≡ true
+  among i r =
+      past-root (s .root) (s .others) count i lengths r
+      (λ (j : ℕ) (e : i ≡ suc j) (h : j < length (s .others)). ap (λ (x : ℕ). isAmong (idOf (c .rows) x) ids) e ∙ ap (λ (v : List ℕ). isAmong v ids) (id-of j) ∙ id-among (s .others) j h)
+
+  known : Known (c .rows) ids count
+  known = record { named = named; found = found }
+
+  all-fit : AllOf (RowFits count) (c .rows)
+  all-fit = subst (AllOf (RowFits count)) (sym (s .rows-are)) (more (s .root-fits) (s .rows-fit))
+
+  small : 1 + length (s .others) ≤ 65535
+  small = let a = s .few in let b : count ≡ suc (length (s .others)) = lengths in omega arith
+
+  fit : Fits 0 [] (pieces c) 1 []
+  fit = pieces-fit c count named (s .transitions-fit) (s .root) (s .others) (s .rows-are) (s .root-kind) (s .laid) (s .root-fits) (s .rows-fit) small
+
+  notes : Notes ids (pieces c) ids
+  notes = pieces-noted c ids count named among (s .transitions-fit) (s .root) (s .others) (s .rows-are) (s .root-kind) (s .laid) (s .root-fits) (s .rows-fit)
+
+  -- the tags read are those that were written
+  pub written-tags : tagsOf (print c) ≡ tagsAt 0 (pieces c)
+  unfolding tagsOf
+  written-tags = ap (λ (l : List ℕ). tagsFrom start (draft 0 48 [] 0 []) 0 l) (print-text c all-fit) ∙ text-tags fit 0 48 0 0
+
+  -- what is written is of the grammar
+  pub written-text : isText (print c) ≡ true
+  written-text = shown ∙ ap accepts (ap (run start) (print-text c all-fit) ∙ text-run fit) ∙ ended
+    where
+      shown : isText (print c) ≡ accepts (run start (print c))
+      shown = unfold isText in refl
+
+      ended : accepts (live Between 1 []) ≡ true
+      ended = unfold accepts in refl
+
+  pub written-grammar : length (print c) ≤ 32768 → inGrammar (print c) ≡ true
+  unfolding inGrammar
+  written-grammar h = rw (le-leb (length (print c)) 32768 h, written-text)
+
+  ids-read : idsOf (tagsAt 0 (pieces c)) ≡ ids
+  ids-read = ap idsOf (sym (append-nil (tagsAt 0 (pieces c)))) ∙ notes .noted 0 [] ∙ ap (λ (l : List (List ℕ)). ids ++ l) none-more ∙ append-nil ids
+    where
+      none-more : idsOf [] ≡ []
+      none-more = unfold idsOf in refl
+
+  -- and has no fault
+  pub written-faultless : firstFault (tagsOf (print c)) ≡ none
+  written-faultless = ap firstFault written-tags ∙ shown ∙ ap (λ (l : List (List ℕ)). least (flat (tagFaults l) (tagsAt 0 (pieces c)))) ids-read ∙ ap least (notes .faultless 0) ∙ ended
+    where
+      shown : firstFault (tagsAt 0 (pieces c)) ≡ least (flat (tagFaults (idsOf (tagsAt 0 (pieces c)))) (tagsAt 0 (pieces c)))
+      shown = unfold firstFault faults in refl
+
+      ended : least [] ≡ none
+      ended = unfold least in refl
+
+  -- "Reading what was written gives an equal chart."
+  pub written-content : contentOf (tagsOf (print c)) ≡ c
+  written-content =
+      ap contentOf written-tags ∙ shown ∙ ap (λ (l : List (List ℕ)). contentFrom (factsFrom l [] 0 0 (tagsAt 0 (pieces c)))) ids-read ∙
+      ap contentFrom (pieces-said c ids count known (s .transitions-fit) (s .root) (s .others) (s .rows-are) (s .root-parent) (s .laid) (s .root-fits) (s .rows-fit) 0) ∙ content-again c count all-fit (s .ordered)
+    where
+      shown : contentOf (tagsAt 0 (pieces c)) ≡ contentFrom (factsFrom (idsOf (tagsAt 0 (pieces c))) [] 0 0 (tagsAt 0 (pieces c)))
+      shown = unfold contentOf in refl
+
+-- "two documents read to equal charts exactly when they are written alike" (4.4): contents that are written alike are equal
+pub written-alike : (c d : Content) → Sound c → Sound d → print c ≡ print d → c ≡ d
+written-alike c d s u e = sym (written-content c s) ∙ ap (λ (t : List ℕ). contentOf (tagsOf t)) e ∙ written-content d u
+
+-- "writing twice changes nothing" (4.4)
+pub written-twice : (c : Content) → Sound c → print (contentOf (tagsOf (print c))) ≡ print c
+written-twice c s = ap print (written-content c s)
