@@ -29,3 +29,4 @@ pub mod Faultless
 pub mod Noted
 pub mod RowsNoted
 pub mod Whole
+pub mod TableBlocks
