@@ -30,3 +30,4 @@ pub mod Noted
 pub mod RowsNoted
 pub mod Whole
 pub mod TableBlocks
+pub mod TableRows
