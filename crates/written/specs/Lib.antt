@@ -31,3 +31,4 @@ pub mod RowsNoted
 pub mod Whole
 pub mod TableBlocks
 pub mod TableRows
+pub mod AcceptedRows

@@ -28,7 +28,7 @@ use Rattle.accepted.specs.Sound.{Sound, accepted-rule1, accepted-rule2, accepte
 use Rattle.written.specs.Sound.{AllOf, no-more, more, Ref, BlockFits, Shaped, RowFits}
 use Rattle.written.specs.TableBlocks.{accepted-root, block-fits, no-block}
 
-empty-mem : (x : ℕ) → false ≡ mem x []
+pub empty-mem : (x : ℕ) → false ≡ mem x []
 unfolding mem
 empty-mem x = refl
 
@@ -36,7 +36,7 @@ empty-mem x = refl
 
 module _ (c : Chart) (i : ℕ) (f : listFits c i ≡ true) where
   -- a row that is no history: without a list it has no block for it
-  no-list-block : isHistory (kind c i) ≡ false → isEmpty (listed c i) ≡ true → isEmpty ((c .row) i .block) ≡ true
+  pub no-list-block : isHistory (kind c i) ≡ false → isEmpty (listed c i) ≡ true → isEmpty ((c .row) i .block) ≡ true
   unfolding listFits initialFits
   no-list-block h e = by (isDomainKind c i) (isHistory (kind c i)) h (isEmpty (listed c i)) e f
     where
@@ -49,7 +49,7 @@ module _ (c : Chart) (i : ℕ) (f : listFits c i ≡ true) where
       by false false q false w g = absurd (no w)
 
   -- a row with no use for a list
-  no-use : isDomainKind c i ≡ false → isHistory (kind c i) ≡ false → (isEmpty (listed c i) && isEmpty ((c .row) i .block)) ≡ true
+  pub no-use : isDomainKind c i ≡ false → isHistory (kind c i) ≡ false → (isEmpty (listed c i) && isEmpty ((c .row) i .block)) ≡ true
   unfolding listFits
   no-use d h = by (isDomainKind c i) d (isHistory (kind c i)) h f
     where
@@ -59,7 +59,7 @@ module _ (c : Chart) (i : ℕ) (f : listFits c i ≡ true) where
       by false e true q g = absurd (no (sym q))
       by false e false q g = g
 
-  history-default : isDomainKind c i ≡ false → isHistory (kind c i) ≡ true → defaultFits c i ≡ true
+  pub history-default : isDomainKind c i ≡ false → isHistory (kind c i) ≡ true → defaultFits c i ≡ true
   unfolding listFits
   history-default d h = by (isDomainKind c i) d (isHistory (kind c i)) h f
     where
@@ -105,7 +105,7 @@ module _ (c : Chart) (i : ℕ) (f : listFits c i ≡ true) where
       none e = no (empty-mem x ∙ ap (mem x) (sym e) ∙ m)
 
 -- by the kind's number
-not-domain : (c : Chart) (i : ℕ) (k : Kind) → kind c i ≡ k → isRoot k ≡ false → isState k ≡ false → isDomainKind c i ≡ false
+pub not-domain : (c : Chart) (i : ℕ) (k : Kind) → kind c i ≡ k → isRoot k ≡ false → isState k ≡ false → isDomainKind c i ≡ false
 unfolding isDomainKind isCompound
 not-domain c i k e r s = rw (e, r, s)
 
@@ -134,30 +134,30 @@ module _ (numbers names : List ℕ) (h : keepsRules numbers names ≡ Done) wher
   abbrev sound : Sound chart
   sound = accepted-sound numbers names h
 
-  row-range : (i : ℕ) → i < rowCount numbers → rowInRange numbers i ≡ true
+  pub row-range : (i : ℕ) → i < rowCount numbers → rowInRange numbers i ≡ true
   unfolding rule1
   row-range i l =
       each-below (rowInRange numbers) (rowCount numbers)
       (and7 (countsFit numbers) (sizesFit numbers names (compiledSize numbers) (length names)) (each (rowCount numbers) (rowInRange numbers)) _ _ _ _ (accepted-rule1 numbers names h) .2) i l
 
-  row-lists : (i : ℕ) → i < rowCount numbers → rowListsFit chart i ≡ true
+  pub row-lists : (i : ℕ) → i < rowCount numbers → rowListsFit chart i ≡ true
   unfolding rule4
   row-lists i l = each-below (rowListsFit chart) (rowCount numbers) (and-left (each (rowCount numbers) (rowListsFit chart)) _ (sound .listRule)) i l
 
-  row-branches : (i : ℕ) → i < rowCount numbers → rowBranchesFit chart i ≡ true
+  pub row-branches : (i : ℕ) → i < rowCount numbers → rowBranchesFit chart i ≡ true
   unfolding rule5
   row-branches i l =
       each-below (rowBranchesFit chart) (rowCount numbers)
       (and3 (each (transitionCount numbers) (transitionFits chart)) (each (rowCount numbers) (rowBranchesFit chart)) (each (transitionCount numbers) (transitionBranchesFit chart)) (sound .transitionRule) .1) i l
 
-  row-id : (i : ℕ) → i < rowCount numbers → idFits numbers names i ≡ true
+  pub row-id : (i : ℕ) → i < rowCount numbers → idFits numbers names i ≡ true
   unfolding rule2
   row-id i l =
       each-below (idFits numbers names) (rowCount numbers)
       (and3 (each (nameCount numbers) (slotFits names)) (each (rowCount numbers) (idFits numbers names)) (each (actionCount numbers) (actionNamed numbers names)) (accepted-rule2 numbers names h) .1) i l
 
   -- the parts of a row stand in their tables
-  record Inside (i : ℕ) : Type 0 where
+  pub record Inside (i : ℕ) : Type 0 where
     pub kinds : rowCell numbers i 0 ≤ 5
     pub entries : rowCell numbers i 3 + rowCell numbers i 4 ≤ actionCount numbers
     pub exits : rowCell numbers i 5 + rowCell numbers i 6 ≤ actionCount numbers
@@ -167,7 +167,7 @@ module _ (numbers names : List ℕ) (h : keepsRules numbers names ≡ Done) wher
   unfolding blockFits
   block-inside start count f = leb-true (start + count) (actionCount numbers) (and-left (inside (actionCount numbers) start count) _ f)
 
-  row-inside : (i : ℕ) → i < rowCount numbers → Inside i
+  pub row-inside : (i : ℕ) → i < rowCount numbers → Inside i
   unfolding rowInRange
   row-inside i l =
       let k = and7 (leb (rowCell numbers i 0) 5) _ _ (blockFits numbers (rowCell numbers i 3) (rowCell numbers i 4)) (blockFits numbers (rowCell numbers i 5) (rowCell numbers i 6))
