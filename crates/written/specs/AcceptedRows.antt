@@ -41,7 +41,7 @@ module _ (numbers names : List ℕ) (h : keepsRules numbers names ≡ Done) wher
 
   -- ---- names
 
-  id-parts-of : (i : ℕ) → suc i < rowCount numbers → (not (eqb (idAt numbers (suc i)) noNumber) ≡ true) × (isId (nameAt names (idAt numbers (suc i))) ≡ true) × (each (rowCount numbers) (idDiffers numbers names (suc i)) ≡ true)
+  pub id-parts-of : (i : ℕ) → suc i < rowCount numbers → (not (eqb (idAt numbers (suc i)) noNumber) ≡ true) × (isId (nameAt names (idAt numbers (suc i))) ≡ true) × (each (rowCount numbers) (idDiffers numbers names (suc i)) ≡ true)
   unfolding idFits
   id-parts-of i l = and3 (not (eqb (idAt numbers (suc i)) noNumber)) (isId (nameAt names (idAt numbers (suc i)))) _ (row-id numbers names h (suc i) l)
 

@@ -32,3 +32,5 @@ pub mod Whole
 pub mod TableBlocks
 pub mod TableRows
 pub mod AcceptedRows
+pub mod AcceptedTransitions
+pub mod Accepted
