@@ -34,3 +34,4 @@ pub mod TableRows
 pub mod AcceptedRows
 pub mod AcceptedTransitions
 pub mod Accepted
+pub mod Documents
