@@ -35,3 +35,5 @@ pub mod AcceptedRows
 pub mod AcceptedTransitions
 pub mod Accepted
 pub mod Documents
+pub mod Held
+pub mod SlotNames
