@@ -37,3 +37,4 @@ pub mod Accepted
 pub mod Documents
 pub mod Held
 pub mod SlotNames
+pub mod TablesBack
