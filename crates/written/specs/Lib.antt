@@ -38,3 +38,4 @@ pub mod Documents
 pub mod Held
 pub mod SlotNames
 pub mod TablesBack
+pub mod TableCells

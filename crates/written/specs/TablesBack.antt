@@ -29,6 +29,10 @@ ActNamed slots (sends v d none) = Slotted slots v
 ActNamed slots (sends v d (some w)) = (Slotted slots v) × (Slotted slots w)
 ActNamed slots (cancels v) = Slotted slots v
 
+pub record RowNamed (slots : List (List ℕ)) (r : Row) : Type 0 where
+  pub id-named : isEmpty (r .id) ≡ false → Slotted slots (r .id)
+  pub acts-named : AllOf (ActNamed slots) (rowActs r)
+
 module _ (numbers : List ℕ) (slots : List (List ℕ)) (few : length slots ≤ 65535) where
   abbrev name : ℕ → List ℕ
   name k = nameAt (namesOf slots) k
@@ -108,11 +112,7 @@ module _ (numbers : List ℕ) (slots : List (List ℕ)) (few : length slots ≤ 
 
   -- ---- rows
 
-  record RowNamed (r : Row) : Type 0 where
-    pub id-named : isEmpty (r .id) ≡ false → Slotted slots (r .id)
-    pub acts-named : AllOf (ActNamed slots) (rowActs r)
-
-  id-back : (v : List ℕ) → (isEmpty v ≡ false → Slotted slots v) → cond (eqb (idCell slots v) noNumber) [] (name (idCell slots v)) ≡ v
+  pub id-back : (v : List ℕ) → (isEmpty v ≡ false → Slotted slots v) → cond (eqb (idCell slots v) noNumber) [] (name (idCell slots v)) ≡ v
   id-back v f = by (isEmpty v) refl
     where
       by : (z : Bool) → isEmpty v ≡ z → cond (eqb (cond z noNumber (placeOf v slots)) noNumber) [] (name (cond z noNumber (placeOf v slots))) ≡ v
