@@ -39,3 +39,4 @@ pub mod Held
 pub mod SlotNames
 pub mod TablesBack
 pub mod TableCells
+pub mod TableTransitions

@@ -17,11 +17,11 @@ use Rattle.written.specs.Held.{Holds, holds-left, holds-right, holds-at,
 use Rattle.written.specs.SlotNames.{Slotted, slotted-name}
 use Rattle.written.specs.TablesBack.{ActNamed, RowNamed, acts-back, acts-left, acts-right, id-back}
 
-all-left : {A : Type 0} {P : A → Type 0} (xs ys : List A) → AllOf P (xs ++ ys) → AllOf P xs
+pub all-left : {A : Type 0} {P : A → Type 0} (xs ys : List A) → AllOf P (xs ++ ys) → AllOf P xs
 all-left [] ys f = no-more
 all-left (x ∷ xs) ys (more f g) = more f (all-left xs ys g)
 
-all-right : {A : Type 0} {P : A → Type 0} (xs ys : List A) → AllOf P (xs ++ ys) → AllOf P ys
+pub all-right : {A : Type 0} {P : A → Type 0} (xs ys : List A) → AllOf P (xs ++ ys) → AllOf P ys
 all-right [] ys f = f
 all-right (x ∷ xs) ys (more f g) = all-right xs ys g
 
@@ -67,7 +67,7 @@ module _ (numbers : List ℕ) (slots : List (List ℕ)) (few : length slots ≤ 
         ap (λ (c : ℕ). rowWith y0 y1 y2 y3 y4 y5 y6 y7 y8 c (rowCell numbers i 10)) (row-cell i 9 (y0 ∷ y1 ∷ y2 ∷ y3 ∷ y4 ∷ y5 ∷ y6 ∷ y7 ∷ y8 ∷ y9 ∷ y10 ∷ []) l h (omega arith)) ∙
         ap (λ (c : ℕ). rowWith y0 y1 y2 y3 y4 y5 y6 y7 y8 y9 c) (row-cell i 10 (y0 ∷ y1 ∷ y2 ∷ y3 ∷ y4 ∷ y5 ∷ y6 ∷ y7 ∷ y8 ∷ y9 ∷ y10 ∷ []) l h (omega arith))
 
-  list-held : (f : ℕ) (is : List ℕ) → Holds numbers (referenceBase numbers + f) is → referencesAt numbers f (length is) ≡ is
+  pub list-held : (f : ℕ) (is : List ℕ) → Holds numbers (referenceBase numbers + f) is → referencesAt numbers f (length is) ≡ is
   unfolding referencesAt part
   list-held f is h = held-part h
 
