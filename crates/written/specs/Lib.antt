@@ -40,3 +40,4 @@ pub mod SlotNames
 pub mod TablesBack
 pub mod TableCells
 pub mod TableTransitions
+pub mod TableContent

@@ -116,7 +116,7 @@ module _ (numbers : List ℕ) (slots : List (List ℕ)) (few : length slots ≤ 
       map-app [] ws = refl
       map-app (v ∷ vs) ws = ap (λ (l : List ℕ). place v ∷ l) (map-app vs ws)
 
-  transitions-back : (ts : List Transition) (i f d a : ℕ) → i + length ts ≤ transitionCount numbers → Holds numbers (transitionBase numbers + i * 9) (transitionCells slots f d a ts) →
+  pub transitions-back : (ts : List Transition) (i f d a : ℕ) → i + length ts ≤ transitionCount numbers → Holds numbers (transitionBase numbers + i * 9) (transitionCells slots f d a ts) →
       Holds numbers (referenceBase numbers + f) (flat targetList ts) → Holds numbers (descriptorBase numbers + d) (map place (flat descriptorList ts)) →
       Holds numbers (actionBase numbers + a * 4) (flat (actCells slots) (flat transitionActs ts)) → AllOf (TransitionNamed slots) ts → map (transitionBack numbers names) (from (length ts) i) ≡ ts
   unfolding from transitionCells flat
