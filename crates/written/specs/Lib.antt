@@ -41,3 +41,4 @@ pub mod TablesBack
 pub mod TableCells
 pub mod TableTransitions
 pub mod TableContent
+pub mod Uses
