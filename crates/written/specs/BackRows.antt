@@ -19,7 +19,7 @@ use Rattle.written.specs.Back.{acts-both, acts-here, acts-there, other-p
 -- ---- the blocks of a row
 
 -- a block that is not written is empty
-unwritten : (k : ℕ) (r : Row) → Shaped k r → (isHistoryKind k || isElementList r) ≡ false → r .block ≡ []
+pub unwritten : (k : ℕ) (r : Row) → Shaped k r → (isHistoryKind k || isElementList r) ≡ false → r .block ≡ []
 unwritten zero r (d, b) h = b
 unwritten (suc zero) r (d, b) h = by (isEmpty (r .list)) refl (isEmpty (r .block)) refl h
   where

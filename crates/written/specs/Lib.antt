@@ -42,3 +42,4 @@ pub mod TableCells
 pub mod TableTransitions
 pub mod TableContent
 pub mod Uses
+pub mod RowUses

@@ -42,7 +42,7 @@ uses-both {ps = ps} {qs = qs} a b =
 pub record AttrUses (e : ℕ) (xs : List Attr) (us : List (List ℕ)) : Type 0 where
   pub parts : (i : ℕ) → flat usesIn (partsAt i e xs) ≡ us
 
-attr-none : (e : ℕ) → AttrUses e [] []
+pub attr-none : (e : ℕ) → AttrUses e [] []
 attr-none e = record { parts = λ (i : ℕ). unfold partsAt flat in refl }
 
 attr-split : (e : ℕ) (xs ys : List Attr) (vs : List (List ℕ)) → ((i : ℕ) → flat usesIn (partsAt i e ys) ≡ vs) → (i : ℕ) → flat usesIn (partsAt i e (xs ++ ys)) ≡ flat usesIn (partsAt i e xs) ++ vs
@@ -196,7 +196,7 @@ module _ (rs : List Row) (n : ℕ) where
   end-only (sends v d w ∷ acts) e = absurd (no e)
   end-only (cancels v ∷ acts) e = absurd (no e)
 
-  block-uses : (skip : Bool) (acts : List Act) → AllOf (ActFits n) acts → Uses (blockPieces rs skip acts) (flat actUses (left skip acts))
+  pub block-uses : (skip : Bool) (acts : List Act) → AllOf (ActFits n) acts → Uses (blockPieces rs skip acts) (flat actUses (left skip acts))
   unfolding blockPieces flat
   block-uses false [] no-more = uses-none
   block-uses true [] no-more = uses-none
