@@ -32,7 +32,7 @@ all-taken zero xs f = no-more
 all-taken (suc n) [] f = no-more
 all-taken (suc n) (x ∷ xs) f = more (f 0 (omega arith)) (all-taken n xs (λ (k : ℕ) (h : k < n). f (suc k) (omega arith)))
 
-all-mapped : {A B : Type 0} {P : B → Type 0} (f : A → B) {Q : A → Type 0} → ((x : A) → Q x → P (f x)) → (xs : List A) → AllOf Q xs → AllOf P (map f xs)
+pub all-mapped : {A B : Type 0} {P : B → Type 0} (f : A → B) {Q : A → Type 0} → ((x : A) → Q x → P (f x)) → (xs : List A) → AllOf Q xs → AllOf P (map f xs)
 all-mapped f g [] no-more = no-more
 all-mapped f g (x ∷ xs) (more h m) = more (g x h) (all-mapped f g xs m)
 
@@ -51,7 +51,7 @@ module _ (numbers names : List ℕ) (h : keepsRules numbers names ≡ Done) wher
       (k .3, k .5)
 
   -- a name of the table is a descriptor
-  name-fits : (d : ℕ) → d < nameCount numbers → isDescriptor (nameAt names d) ≡ true
+  pub name-fits : (d : ℕ) → d < nameCount numbers → isDescriptor (nameAt names d) ≡ true
   unfolding rule2 slotFits
   name-fits d l =
       and-right (zerosAfter (slotAt names d)) (isDescriptor (nameAt names d))
@@ -59,7 +59,7 @@ module _ (numbers names : List ℕ) (h : keepsRules numbers names ≡ Done) wher
       (and3 (each (nameCount numbers) (slotFits names)) (each (rowCount numbers) (idFits numbers names)) (each (actionCount numbers) (actionNamed numbers names)) (accepted-rule2 numbers names h) .0) d l)
 
   -- the parts of a transition stand in their tables
-  record Inside (t : ℕ) : Type 0 where
+  pub record Inside (t : ℕ) : Type 0 where
     pub names-in : transitionCell numbers t 1 + transitionCell numbers t 2 ≤ descriptorCount numbers
     pub condition-in : optionalBelow (rowCount numbers) (transitionCell numbers t 3) ≡ true
     pub block-in : transitionCell numbers t 7 + transitionCell numbers t 8 ≤ actionCount numbers
@@ -70,7 +70,7 @@ module _ (numbers names : List ℕ) (h : keepsRules numbers names ≡ Done) wher
       let j = and-left (a && b && c) d k in
       (and-right a b (and-left (a && b) c j), and-right (a && b) c j, and-right (a && b && c && d && e) f g)
 
-  transition-inside : (t : ℕ) → t < transitionCount numbers → Inside t
+  pub transition-inside : (t : ℕ) → t < transitionCount numbers → Inside t
   unfolding transitionInRange blockFits
   transition-inside t l =
       let k = six (ltb (transitionCell numbers t 0) (rowCount numbers)) (inside (descriptorCount numbers) (transitionCell numbers t 1) (transitionCell numbers t 2) && leb (transitionCell numbers t 2) mostDescriptors)
@@ -114,10 +114,10 @@ module _ (numbers names : List ℕ) (h : keepsRules numbers names ≡ Done) wher
   unfolding descriptorInRange
   descriptor-range k l = ltb-true (descriptorCell numbers k) (nameCount numbers) (each-below (descriptorInRange numbers) (descriptorCount numbers) (rule1-parts .1) k l)
 
-  record Named (d : ℕ) : Type 0 where
+  pub record Named (d : ℕ) : Type 0 where
     pub below : d < nameCount numbers
 
-  named : (start count : ℕ) → start + count ≤ descriptorCount numbers → AllOf Named (descriptorsAt numbers start count)
+  pub named : (start count : ℕ) → start + count ≤ descriptorCount numbers → AllOf Named (descriptorsAt numbers start count)
   unfolding descriptorsAt part
   named start count l =
       all-taken count (drop (descriptorBase numbers + start) numbers)

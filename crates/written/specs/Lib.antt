@@ -43,3 +43,4 @@ pub mod TableTransitions
 pub mod TableContent
 pub mod Uses
 pub mod RowUses
+pub mod Origins

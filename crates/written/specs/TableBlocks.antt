@@ -53,15 +53,15 @@ module _ (numbers names : List ℕ) (root : isRoot (kind (chartOf numbers) 0) �
   act-fits (suc (suc (suc (suc (suc (suc k)))))) x y z l a r t = absurd (omega arith)
 
   -- the actions of a block by their numbers
-  abbrev look : ℕ → Act
+  abbrev pub look : ℕ → Act
   look a = actOf (nameAt names) (actionCell numbers a 0) (actionCell numbers a 1) (actionCell numbers a 2) (actionCell numbers a 3)
 
-  record Acts (a : ℕ) : Type 0 where
+  pub record Acts (a : ℕ) : Type 0 where
     pub low : actionCell numbers a 0 ≤ 5
     pub argument : argumentFits numbers (actionAt numbers a) (actionCell numbers a 1) ≡ true
     pub raised : raiseFits names (actionAt numbers a) ≡ true
 
-  look-fits : (a : ℕ) → Acts a → testFits (chartOf numbers) (actionAt numbers a) ≡ true → ActFits (rowCount numbers) (look a)
+  pub look-fits : (a : ℕ) → Acts a → testFits (chartOf numbers) (actionAt numbers a) ≡ true → ActFits (rowCount numbers) (look a)
   unfolding actionAt
   look-fits a f t = act-fits (actionCell numbers a 0) (actionCell numbers a 1) (actionCell numbers a 2) (actionCell numbers a 3) (f .low) (f .argument) (f .raised) t
 
@@ -105,7 +105,7 @@ module _ (numbers names : List ℕ) (root : isRoot (kind (chartOf numbers) 0) �
 
 -- ---- blocks of an accepted chart
 
-all-from : {P : ℕ → Type 0} (k i : ℕ) → ((j : ℕ) → i ≤ j → j < i + k → P j) → AllOf P (from k i)
+pub all-from : {P : ℕ → Type 0} (k i : ℕ) → ((j : ℕ) → i ≤ j → j < i + k → P j) → AllOf P (from k i)
 unfolding from
 all-from zero i f = no-more
 all-from (suc k) i f = more (f i (omega arith) (omega arith)) (all-from k (suc i) (λ (j : ℕ) (l : suc i ≤ j) (h : j < suc i + k). f j (omega arith) (omega arith)))
@@ -125,7 +125,7 @@ module _ (numbers names : List ℕ) (h : keepsRules numbers names ≡ Done) wher
   unfolding rule2
   action-named a l = each-below (actionNamed numbers names) (actionCount numbers) (and-right (each (nameCount numbers) (slotFits names) && each (rowCount numbers) (idFits numbers names)) (each (actionCount numbers) (actionNamed numbers names)) (accepted-rule2 numbers names h)) a l
 
-  act-stands : (a : ℕ) → a < actionCount numbers → Acts numbers names accepted-root a
+  pub act-stands : (a : ℕ) → a < actionCount numbers → Acts numbers names accepted-root a
   unfolding actionInRange actionNamed
   act-stands a l =
       let k = and4 (leb (actionCell numbers a 0) 5) (argumentFits numbers (actionAt numbers a) (actionCell numbers a 1)) _ _ (action-range a l) in
