@@ -147,7 +147,7 @@ module _ (numbers names : List ℕ) (h : keepsRules numbers names ≡ Done) wher
 
   -- ---- rows and transitions
 
-  few-rows : rowCount numbers ≤ 256
+  pub few-rows : rowCount numbers ≤ 256
   unfolding rule1 countsFit
   few-rows =
       leb-true (rowCount numbers) 256
@@ -167,11 +167,11 @@ module _ (numbers names : List ℕ) (h : keepsRules numbers names ≡ Done) wher
   root-parent : back 0 .parent ≡ noNumber
   root-parent = parent-is 0 ∙ eqb-true (parent chart 0) noNumber (and-right (isRoot (kind chart 0)) (eqb (parent chart 0) noNumber) (unfold parentFits in parent-fits chart tree 0 (some-row numbers names h)))
 
-  count-rows : length (content numbers names .rows) ≡ rowCount numbers
+  pub count-rows : length (content numbers names .rows) ≡ rowCount numbers
   unfolding content
   count-rows = map-length back (rowCount numbers) 0
 
-  with-root : (m : ℕ) → rowCount numbers ≡ suc m → content numbers names .rows ≡ back 0 ∷ map back (from m 1)
+  pub with-root : (m : ℕ) → rowCount numbers ≡ suc m → content numbers names .rows ≡ back 0 ∷ map back (from m 1)
   with-root m e = shown ∙ ap (λ (k : ℕ). map back (from k 0)) e ∙ first
     where
       shown : content numbers names .rows ≡ map back (from (rowCount numbers) 0)

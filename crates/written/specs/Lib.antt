@@ -44,3 +44,5 @@ pub mod TableContent
 pub mod Uses
 pub mod RowUses
 pub mod Origins
+pub mod Slots
+pub mod ReadBack

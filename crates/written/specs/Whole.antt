@@ -156,7 +156,7 @@ module _ (c : Content) (s : Sound c) where
   known : Known (c .rows) ids count
   known = record { named = named; found = found }
 
-  all-fit : AllOf (RowFits count) (c .rows)
+  pub all-fit : AllOf (RowFits count) (c .rows)
   all-fit = subst (AllOf (RowFits count)) (sym (s .rows-are)) (more (s .root-fits) (s .rows-fit))
 
   small : 1 + length (s .others) ≤ 65535
