@@ -46,3 +46,4 @@ pub mod RowUses
 pub mod Origins
 pub mod Slots
 pub mod ReadBack
+pub mod Erased
