@@ -47,3 +47,4 @@ pub mod Origins
 pub mod Slots
 pub mod ReadBack
 pub mod Erased
+pub mod ByContent
