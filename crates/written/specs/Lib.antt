@@ -48,3 +48,4 @@ pub mod Slots
 pub mod ReadBack
 pub mod Erased
 pub mod ByContent
+pub mod ReadNames

@@ -52,7 +52,7 @@ lit b p = record { lit = not-so (eqb b 0) (λ e. clash (isChar b) (p .char) (ap 
     none : isChar 0 ≡ false
     none = unfold isChar in refl
 
-all-lit : (v : List ℕ) → AllOf Plain v → AllOf Lit v
+pub all-lit : (v : List ℕ) → AllOf Plain v → AllOf Lit v
 all-lit [] no-more = no-more
 all-lit (b ∷ bs) (more f g) = more (lit b f) (all-lit bs g)
 
@@ -62,7 +62,7 @@ star-plain = plain-byte 42 (omega arith) (omega arith) (λ e. omega arith)
 dot-plain : Plain 46
 dot-plain = plain-byte 46 (omega arith) (omega arith) (λ e. omega arith)
 
-descriptor-plain : (d : List ℕ) → DescriptorFits d → AllOf Plain d
+pub descriptor-plain : (d : List ℕ) → DescriptorFits d → AllOf Plain d
 descriptor-plain d h =
     or-elim (same d star) (isName (bare d)) (λ e. subst (AllOf Plain) (sym (same-eq d star e)) (more star-plain no-more)) (λ n. by (bared d) (spelt-plain (bare d) true (name-is-spelt (bare d) n)))
     (and-right (leb (length d) 63) (same d star || isName (bare d)) (unfold isDescriptor in h))
@@ -71,7 +71,7 @@ descriptor-plain d h =
     by (whole e) n = subst (AllOf Plain) (sym e) n
     by (starred e) n = subst (AllOf Plain) (sym e) (all-both n (more dot-plain (more star-plain no-more)))
 
-descriptor-short : (d : List ℕ) → DescriptorFits d → length d ≤ 63
+pub descriptor-short : (d : List ℕ) → DescriptorFits d → length d ≤ 63
 descriptor-short d h = leb-true (length d) 63 (and-left (leb (length d) 63) (same d star || isName (bare d)) (unfold isDescriptor in h))
 
 -- ---- names of actions, rows and transitions
@@ -90,7 +90,7 @@ module _ (slots : List (List ℕ)) where
   acts-named (sends v d (some w) ∷ acts) (more f (more g k)) = more {x = sends v d (some w)} (g, f) (acts-named acts k)
   acts-named (cancels v ∷ acts) (more f g) = more f (acts-named acts g)
 
-  record Spoken (t : Transition) : Type 0 where
+  pub record Spoken (t : Transition) : Type 0 where
     pub spoken : AllOf (Slotted slots) (transitionUses t)
 
   each-spoken : (ts : List Transition) → AllOf (Slotted slots) (flat transitionUses ts) → AllOf Spoken ts
@@ -133,7 +133,7 @@ module _ (slots : List (List ℕ)) where
       low none g = always
       low (some i) g = let b = g .below in omega arith
 
-  transitions-named : (n : ℕ) → n ≤ 65535 → (ts : List Transition) → AllOf (TransitionFits n) ts → AllOf Spoken ts → AllOf (TransitionNamed slots) ts
+  pub transitions-named : (n : ℕ) → n ≤ 65535 → (ts : List Transition) → AllOf (TransitionFits n) ts → AllOf Spoken ts → AllOf (TransitionNamed slots) ts
   transitions-named n few [] no-more no-more = no-more
   transitions-named n few (t ∷ ts) (more f g) (more s u) = more (transition-named n few t f s) (transitions-named n few ts g u)
 
@@ -144,16 +144,16 @@ usesRows c [] = []
 usesRows c (r ∷ rs) = innerUses c 0 r ++ usesFrom c 1 rs
 
 module _ (numbers names : List ℕ) (h : keepsRules numbers names ≡ Done) where
-  abbrev c : Content
+  abbrev pub c : Content
   c = content numbers names
 
-  abbrev s : Sound c
+  abbrev pub s : Sound c
   s = content-sound numbers names h
 
-  abbrev used : List (List ℕ)
+  abbrev pub used : List (List ℕ)
   used = usesRows c (c .rows)
 
-  abbrev slots : List (List ℕ)
+  abbrev pub slots : List (List ℕ)
   slots = fresh [] used
 
   names-used : flat usesOf (tagsOf (print c)) ≡ used
@@ -168,14 +168,14 @@ module _ (numbers names : List ℕ) (h : keepsRules numbers names ≡ Done) wher
       shown : slotsOf (tagsOf (print c)) ≡ fresh [] (flat usesOf (tagsOf (print c)))
       shown = unfold slotsOf in refl
 
-  origins : AllOf (Origin numbers names) used
+  pub origins : AllOf (Origin numbers names) used
   origins = by (rowCount numbers) refl
     where
       by : (k : ℕ) → rowCount numbers ≡ k → AllOf (Origin numbers names) used
       by zero e = absurd (let l = accepted-sound numbers names h .tree .some in omega arith)
       by (suc m) e = subst (λ (l : List Row). AllOf (Origin numbers names) (usesRows c l)) (sym (with-root numbers names h m e)) (used-origins numbers names h m e)
 
-  origin-fits : (v : List ℕ) → Origin numbers names v → DescriptorFits v
+  pub origin-fits : (v : List ℕ) → Origin numbers names v → DescriptorFits v
   origin-fits v o = subst DescriptorFits (o .is) (name-fits numbers names h (o .number) (o .below))
 
   -- each name has its slot
@@ -198,7 +198,7 @@ module _ (numbers names : List ℕ) (h : keepsRules numbers names ≡ Done) wher
   pub slots-few : length slots ≤ nameCount numbers
   slots-few = subst (λ (k : ℕ). length slots ≤ k) (map-length (nameAt names) (nameCount numbers) 0) (no-more-than slots originals (fresh-apart used [] alone) (fresh-all used [] no-more (in-originals used origins)))
 
-  few-names : nameCount numbers ≤ 768
+  pub few-names : nameCount numbers ≤ 768
   unfolding rule1 countsFit
   few-names =
       leb-true (nameCount numbers) 768
@@ -213,7 +213,7 @@ module _ (numbers names : List ℕ) (h : keepsRules numbers names ≡ Done) wher
   slotted-rows : AllOf (Slotted slots) (innerUses c 0 (s .root) ++ usesFrom c 1 (s .others))
   slotted-rows = subst (λ (l : List Row). AllOf (Slotted slots) (usesRows c l)) (s .rows-are) slotted
 
-  rows-have : AllOf (RowNamed slots) (c .rows)
+  pub rows-have : AllOf (RowNamed slots) (c .rows)
   rows-have =
       subst (AllOf (RowNamed slots)) (sym (s .rows-are))
       (more (row-named slots c 0 (s .root) (λ e. absurd (clash (isEmpty (s .root .id)) root-empty e)) (all-left (innerUses c 0 (s .root)) (usesFrom c 1 (s .others)) slotted-rows))
@@ -222,7 +222,7 @@ module _ (numbers names : List ℕ) (h : keepsRules numbers names ≡ Done) wher
       root-empty : isEmpty (s .root .id) ≡ true
       root-empty = ap (isEmpty {A = ℕ}) (subst (λ (k : ℕ). Shaped k (s .root)) (s .root-kind) (s .root-fits .shaped) .0) ∙ unfold isEmpty in refl
 
-  transitions-speak : AllOf (Spoken slots) (c .transitions)
+  pub transitions-speak : AllOf (Spoken slots) (c .transitions)
   transitions-speak =
       subst (AllOf (Spoken slots)) (in-order (length (c .rows)) 0 (length (c .rows)) (omega arith) (c .transitions) (s .ordered))
       (subst (λ (k : ℕ). AllOf (Spoken slots) (flat (ofSource (c .transitions)) (from k 0))) (sym (ap (length {A = Row}) (s .rows-are))) each)

@@ -53,7 +53,7 @@ place-drop v (s ∷ slots) h = by (same v s) refl h (place-drop v slots)
 
 -- ---- its bytes
 
-slots-drop : (k : ℕ) (slots : List (List ℕ)) → k ≤ length slots → drop (k * 64) (flat slotOf slots) ≡ flat slotOf (drop k slots)
+pub slots-drop : (k : ℕ) (slots : List (List ℕ)) → k ≤ length slots → drop (k * 64) (flat slotOf slots) ≡ flat slotOf (drop k slots)
 slots-drop zero slots h = refl
 slots-drop (suc k) [] h = absurd (let l : suc k ≤ 0 = h in omega arith)
 slots-drop (suc k) (s ∷ slots) h =
@@ -71,14 +71,14 @@ unfolding beforeZero
 zeros-before k = refl
 
 -- a name before zeros, cut at n
-cut-name : (v : List ℕ) (n k : ℕ) → AllOf Lit v → length v < n → beforeZero (take n (v ++ replicate (suc k) 0)) ≡ v
+pub cut-name : (v : List ℕ) (n k : ℕ) → AllOf Lit v → length v < n → beforeZero (take n (v ++ replicate (suc k) 0)) ≡ v
 unfolding beforeZero
 cut-name [] zero k no-more h = absurd (omega arith)
 cut-name [] (suc n) k no-more h = refl
 cut-name (b ∷ bs) zero k (more f g) h = absurd (omega arith)
 cut-name (b ∷ bs) (suc n) k (more f g) h = rw (f .lit) (ap (λ (l : List ℕ). b ∷ l) (cut-name bs n k g (let l : suc (length bs) < suc n = h in omega arith)))
 
-slot-name : (v : List ℕ) → AllOf Lit v → length v ≤ 63 → beforeZero (slotOf v) ≡ v
+pub slot-name : (v : List ℕ) → AllOf Lit v → length v ≤ 63 → beforeZero (slotOf v) ≡ v
 unfolding slotOf
 slot-name v f h = cut-name v 64 63 f (omega arith)
 

@@ -93,7 +93,7 @@ module _ (slots : List (List ℕ)) (c : Content) where
   plus : (k : ℕ) → 0 + k ≡ k + 0
   plus k = omega arith
 
-  acts-held : Holds tables (actionBase tables + 0 * 4) actPart
+  pub acts-held : Holds tables (actionBase tables + 0 * 4) actPart
   acts-held = holds-at _ _ (let s = sizes .3 in omega arith) (holds-right (header ++ rowPart ++ transitionPart ++ refs ++ eventPart) actPart whole)
 
   to-events : Holds tables 0 (header ++ rowPart ++ transitionPart ++ refs ++ eventPart)
