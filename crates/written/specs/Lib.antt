@@ -49,3 +49,5 @@ pub mod ReadBack
 pub mod Erased
 pub mod ByContent
 pub mod ReadNames
+pub mod ReadRule2
+pub mod ReadWhole
