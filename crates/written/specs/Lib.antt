@@ -50,4 +50,5 @@ pub mod Erased
 pub mod ByContent
 pub mod ReadNames
 pub mod ReadRule2
+pub mod Ranges
 pub mod ReadWhole

@@ -1,0 +1,166 @@
+-- The numbers of tables that are laid out from a content are in range, if those of the content are.
+use mathlib.Core.Path.{_≡_, refl, sym, ap, ap₂, _∙_, subst}
+use mathlib.Core.Bool.{Bool, true, false, not, _&&_, _||_, cond}
+use mathlib.Core.List.{List, [], _∷_, _++_, map}
+use mathlib.Core.Option.{Option, none, some}
+use Prim.Native.Nat.{ℕ, zero, suc, _≤_, _<_, _+_, _*_}
+use native.Mathlib.Omega.{arith}
+use lib.Dec.{eqb, leb, ltb}
+use lib.ListN.{length, getD, length-append}
+use borrow.Author.Tests.{lt-ltb, le-leb, eqb-true, eqb-false}
+use Rattle.definition.specs.declared.Action.{Action}
+use Rattle.definition.specs.declared.Action.the-variants.{Raise, Host, If, ElseIf, Else, End}
+use Rattle.definition.specs.Rows.{flat}
+use Rattle.definition.specs.Tables.{noNumber, rowCount, transitionCount, referenceCount, descriptorCount, actionCount, nameCount, transitionBase, referenceBase, descriptorBase, actionBase, rowCell, transitionCell, referenceCell, descriptorCell, actionCell, actionOf, actionAt}
+use Rattle.definition.specs.Rules.{inside, optionalBelow, blockFits, rowInRange, transitionInRange, referenceInRange, descriptorInRange, argumentFits, actionInRange}
+use Rattle.reading.specs.Content.{Act, raises, hosts, ifIn, elseifIn, otherwise, endIf, sends, cancels, Row, Transition, placeOf}
+use Rattle.reading.specs.Layout.{orNone, actCells, idCell, rowActs, rowCells, transitionCells, rowList, targetList, descriptorList, transitionActs}
+use Rattle.laws.specs.Bools.{and-true, bool-case}
+use Rattle.written.specs.Sound.{AllOf, no-more, more, Always}
+use Rattle.written.specs.Held.{Holds, holds-left, holds-right, holds-at, held-cell}
+
+all-seven : (a b c d e f g : Bool) → a ≡ true → b ≡ true → c ≡ true → d ≡ true → e ≡ true → f ≡ true → g ≡ true → (a && b && c && d && e && f && g) ≡ true
+all-seven a b c d e f g p q r s t u v = rw (p, q, r, s, t, u, v)
+
+all-six : (a b c d e f : Bool) → a ≡ true → b ≡ true → c ≡ true → d ≡ true → e ≡ true → f ≡ true → (a && b && c && d && e && f) ≡ true
+all-six a b c d e f p q r s t u = rw (p, q, r, s, t, u)
+
+module _ (numbers : List ℕ) (slots : List (List ℕ)) where
+  -- ---- references and descriptors
+
+  pub record Below (n x : ℕ) : Type 0 where
+    pub below : x < n
+
+  at-below : (n : ℕ) (xs : List ℕ) → AllOf (Below n) xs → (k : ℕ) → k < length xs → getD xs k 0 < n
+  at-below n [] no-more k l = absurd (let z : k < 0 = l in omega arith)
+  at-below n (x ∷ xs) (more f g) zero l = f .below
+  at-below n (x ∷ xs) (more f g) (suc k) l = at-below n xs g k (let z : suc k < suc (length xs) = l in omega arith)
+
+  pub references-in : (refs : List ℕ) → Holds numbers (referenceBase numbers) refs → AllOf (Below (rowCount numbers)) refs → (k : ℕ) → k < length refs → referenceInRange numbers k ≡ true
+  unfolding referenceInRange referenceCell
+  references-in refs h f k l = lt-ltb _ _ (subst (λ (x : ℕ). x < rowCount numbers) (sym (held-cell h k l)) (at-below (rowCount numbers) refs f k l))
+
+  pub descriptors-in : (places : List ℕ) → Holds numbers (descriptorBase numbers) places → AllOf (Below (nameCount numbers)) places → (k : ℕ) → k < length places → descriptorInRange numbers k ≡ true
+  unfolding descriptorInRange descriptorCell
+  descriptors-in places h f k l = lt-ltb _ _ (subst (λ (x : ℕ). x < nameCount numbers) (sym (held-cell h k l)) (at-below (nameCount numbers) places f k l))
+
+  -- ---- actions
+
+  abbrev pub ActOK : Act → Type 0
+  ActOK (raises v) = placeOf v slots < nameCount numbers
+  ActOK (hosts k) = k ≤ 65535
+  ActOK (ifIn i) = i < rowCount numbers
+  ActOK (elseifIn i) = i < rowCount numbers
+  ActOK otherwise = Always
+  ActOK endIf = Always
+  ActOK (sends v d w) = ⊥
+  ActOK (cancels v) = ⊥
+
+  cell-of : (a k : ℕ) (ys : List ℕ) → Holds numbers (actionBase numbers + a * 4) ys → k < length ys → actionCell numbers a k ≡ getD ys k 0
+  unfolding actionCell
+  cell-of a k ys h l = held-cell h k l
+
+  four-in : (a w x : ℕ) → Holds numbers (actionBase numbers + a * 4) (w ∷ x ∷ 0 ∷ 0 ∷ []) → leb w 5 ≡ true → argumentFits numbers (actionOf w x) x ≡ true → actionInRange numbers a ≡ true
+  unfolding actionInRange actionAt
+  four-in a w x h l f =
+      rw (cell-of a 0 cells h (omega arith), cell-of a 1 cells h (omega arith), cell-of a 2 cells h (omega arith), cell-of a 3 cells h (omega arith), l, f) refl
+    where
+      cells : List ℕ
+      cells = w ∷ x ∷ 0 ∷ 0 ∷ []
+
+  act-in : (a : ℕ) (x : Act) → Holds numbers (actionBase numbers + a * 4) (actCells slots x) → ActOK x → actionInRange numbers a ≡ true
+  unfolding argumentFits
+  act-in a (raises v) h f = four-in a 0 (placeOf v slots) h refl (lt-ltb (placeOf v slots) (nameCount numbers) f)
+  act-in a (hosts k) h f = four-in a 1 k h refl (le-leb k 65535 f)
+  act-in a (ifIn i) h f = four-in a 2 i h refl (lt-ltb i (rowCount numbers) f)
+  act-in a (elseifIn i) h f = four-in a 3 i h refl (lt-ltb i (rowCount numbers) f)
+  act-in a otherwise h f = four-in a 4 0 h refl refl
+  act-in a endIf h f = four-in a 5 0 h refl refl
+  act-in a (sends v d w) h f = absurd f
+  act-in a (cancels v) h f = absurd f
+
+  cells-four : (x : Act) → ActOK x → length (actCells slots x) ≡ 4
+  cells-four (raises v) f = refl
+  cells-four (hosts k) f = refl
+  cells-four (ifIn i) f = refl
+  cells-four (elseifIn i) f = refl
+  cells-four otherwise f = refl
+  cells-four endIf f = refl
+  cells-four (sends v d w) f = absurd f
+  cells-four (cancels v) f = absurd f
+
+  pub actions-in : (acts : List Act) (a : ℕ) → Holds numbers (actionBase numbers + a * 4) (flat (actCells slots) acts) → AllOf ActOK acts → (j : ℕ) → a ≤ j → j < a + length acts → actionInRange numbers j ≡ true
+  unfolding flat
+  actions-in [] a h no-more j l m = absurd (let z : j < a + 0 = m in omega arith)
+  actions-in (x ∷ acts) a h (more f g) j l m =
+      bool-case (eqb a j) (λ e. subst (λ (k : ℕ). actionInRange numbers k ≡ true) (eqb-true a j e) (act-in a x (holds-left (actCells slots x) (flat (actCells slots) acts) h) f))
+      (λ e. let d = eqb-false a j e in
+      actions-in acts (suc a) (holds-at (actionBase numbers + a * 4 + length (actCells slots x)) (actionBase numbers + suc a * 4) (let c = cells-four x f in omega arith) (holds-right (actCells slots x) (flat (actCells slots) acts) h)) g j
+      (further l d) (let z : j < a + suc (length acts) = m in omega arith))
+    where
+      further : {p q : ℕ} → p ≤ q → (p ≡ q → ⊥) → suc p ≤ q
+      further l d = omega arith
+
+  -- ---- rows
+
+  pub record RowOK (r : Row) : Type 0 where
+    pub kinds : r .kind ≤ 5
+    pub parents : optionalBelow (rowCount numbers) (r .parent) ≡ true
+    pub ids : optionalBelow (nameCount numbers) (idCell slots (r .id)) ≡ true
+    pub entries : length (r .entry) ≤ 32
+    pub exits : length (r .exit) ≤ 32
+    pub blocks : length (r .block) ≤ 32
+
+  row-cell : (i k : ℕ) (ys : List ℕ) → i < rowCount numbers → Holds numbers (6 + i * 11) ys → k < length ys → rowCell numbers i k ≡ getD ys k 0
+  unfolding rowCell
+  row-cell i k ys l h b = rw (lt-ltb i (rowCount numbers) l) (held-cell h k b)
+
+  block-ok : (start count : ℕ) → start + count ≤ actionCount numbers → count ≤ 32 → blockFits numbers start count ≡ true
+  unfolding blockFits
+  block-ok start count l m = and-true (inside (actionCount numbers) start count) (leb count 32) (le-leb (start + count) (actionCount numbers) l) (le-leb count 32 m)
+
+  module _ (i f a : ℕ) (r : Row) (l : i < rowCount numbers) (ok : RowOK r) where
+    abbrev cells : List ℕ
+    cells = r .kind ∷ r .parent ∷ idCell slots (r .id) ∷ a ∷ length (r .entry) ∷ (a + length (r .entry)) ∷ length (r .exit) ∷ f ∷ length (r .list) ∷ (a + length (r .entry) + length (r .exit)) ∷ length (r .block) ∷ []
+
+    row-in : Holds numbers (6 + i * 11) cells → f + length (r .list) ≤ referenceCount numbers → a + length (r .entry) + length (r .exit) + length (r .block) ≤ actionCount numbers → rowInRange numbers i ≡ true
+    unfolding rowInRange
+    row-in h g k =
+        all-seven (leb (rowCell numbers i 0) 5) (optionalBelow (rowCount numbers) (rowCell numbers i 1)) (optionalBelow (nameCount numbers) (rowCell numbers i 2)) (blockFits numbers (rowCell numbers i 3) (rowCell numbers i 4))
+        (blockFits numbers (rowCell numbers i 5) (rowCell numbers i 6)) (inside (referenceCount numbers) (rowCell numbers i 7) (rowCell numbers i 8)) (blockFits numbers (rowCell numbers i 9) (rowCell numbers i 10))
+        (ap (λ (x : ℕ). leb x 5) (row-cell i 0 cells l h (omega arith)) ∙ le-leb (r .kind) 5 (ok .kinds)) (ap (optionalBelow (rowCount numbers)) (row-cell i 1 cells l h (omega arith)) ∙ ok .parents)
+        (ap (optionalBelow (nameCount numbers)) (row-cell i 2 cells l h (omega arith)) ∙ ok .ids)
+        (ap₂ (blockFits numbers) (row-cell i 3 cells l h (omega arith)) (row-cell i 4 cells l h (omega arith)) ∙ block-ok a (length (r .entry)) (omega arith) (ok .entries))
+        (ap₂ (blockFits numbers) (row-cell i 5 cells l h (omega arith)) (row-cell i 6 cells l h (omega arith)) ∙ block-ok (a + length (r .entry)) (length (r .exit)) (omega arith) (ok .exits))
+        (ap₂ (inside (referenceCount numbers)) (row-cell i 7 cells l h (omega arith)) (row-cell i 8 cells l h (omega arith)) ∙ le-leb (f + length (r .list)) (referenceCount numbers) g)
+        (ap₂ (blockFits numbers) (row-cell i 9 cells l h (omega arith)) (row-cell i 10 cells l h (omega arith)) ∙ block-ok (a + length (r .entry) + length (r .exit)) (length (r .block)) k (ok .blocks))
+
+  pub rows-in : (rs : List Row) (i f a : ℕ) → i + length rs ≤ rowCount numbers → Holds numbers (6 + i * 11) (rowCells slots f a rs) → f + length (flat rowList rs) ≤ referenceCount numbers →
+      a + length (flat rowActs rs) ≤ actionCount numbers → AllOf RowOK rs → (j : ℕ) → i ≤ j → j < i + length rs → rowInRange numbers j ≡ true
+  unfolding rowCells flat
+  rows-in [] i f a l h g k no-more j b m = absurd (let z : j < i + 0 = m in omega arith)
+  rows-in (r ∷ rs) i f a l h g k (more ok oks) j b m =
+      bool-case (eqb i j)
+      (λ e. subst (λ (x : ℕ). rowInRange numbers x ≡ true) (eqb-true i j e) (row-in i f a r (omega arith) ok (holds-left (cells i f a r low ok) later h) (let p = length-append (r .list) (flat rowList rs) in omega arith) (let p = sizes in omega arith)))
+      (λ e. let d = eqb-false i j e in
+      rows-in rs (suc i) (f + length (r .list)) end (omega arith) (holds-at (6 + i * 11 + 11) (6 + suc i * 11) (omega arith) (holds-right (cells i f a r low ok) later h)) (let p = length-append (r .list) (flat rowList rs) in omega arith)
+      (let p = sizes in omega arith) oks j (further b d) (let z : j < i + suc (length rs) = m in omega arith))
+    where
+      low : i < rowCount numbers
+      low = omega arith
+
+      end : ℕ
+      end = a + length (r .entry) + length (r .exit) + length (r .block)
+
+      later : List ℕ
+      later = rowCells slots (f + length (r .list)) end rs
+
+      sizes : length (rowActs r ++ flat rowActs rs) ≡ length (r .entry) + length (r .exit) + length (r .block) + length (flat rowActs rs)
+      sizes =
+          let p = length-append (rowActs r) (flat rowActs rs) in
+          let q = length-append (r .entry ++ r .exit) (r .block) in
+          let s = length-append (r .entry) (r .exit) in
+          omega arith
+
+      further : {p q : ℕ} → p ≤ q → (p ≡ q → ⊥) → suc p ≤ q
+      further l d = omega arith
