@@ -51,4 +51,5 @@ pub mod ByContent
 pub mod ReadNames
 pub mod ReadRule2
 pub mod Ranges
+pub mod Limits
 pub mod ReadWhole

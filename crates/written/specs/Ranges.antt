@@ -164,3 +164,69 @@ module _ (numbers : List ℕ) (slots : List (List ℕ)) where
 
       further : {p q : ℕ} → p ≤ q → (p ≡ q → ⊥) → suc p ≤ q
       further l d = omega arith
+
+  -- ---- transitions
+
+  pub record TransitionOK (t : Transition) : Type 0 where
+    pub sources : t .source < rowCount numbers
+    pub events : length (t .descriptors) ≤ 4
+    pub conditions : optionalBelow (rowCount numbers) (orNone (t .condition)) ≡ true
+    pub goals : length (t .targets) ≤ 8
+    pub blocks : length (t .block) ≤ 32
+
+  transition-cell : (i k : ℕ) (ys : List ℕ) → i < transitionCount numbers → Holds numbers (transitionBase numbers + i * 9) ys → k < length ys → transitionCell numbers i k ≡ getD ys k 0
+  unfolding transitionCell
+  transition-cell i k ys l h b = rw (lt-ltb i (transitionCount numbers) l) (held-cell h k b)
+
+  one-or-none : (y : Bool) → leb (cond y 1 0) 1 ≡ true
+  one-or-none true = refl
+  one-or-none false = refl
+
+  module _ (i f d a : ℕ) (t : Transition) (l : i < transitionCount numbers) (ok : TransitionOK t) where
+    abbrev parts : List ℕ
+    parts = t .source ∷ d ∷ length (t .descriptors) ∷ orNone (t .condition) ∷ cond (t .internal) 1 0 ∷ f ∷ length (t .targets) ∷ a ∷ length (t .block) ∷ []
+
+    transition-in : Holds numbers (transitionBase numbers + i * 9) parts → f + length (t .targets) ≤ referenceCount numbers → d + length (t .descriptors) ≤ descriptorCount numbers → a + length (t .block) ≤ actionCount numbers →
+        transitionInRange numbers i ≡ true
+    unfolding transitionInRange
+    transition-in h g e k =
+        all-six (ltb (transitionCell numbers i 0) (rowCount numbers)) (inside (descriptorCount numbers) (transitionCell numbers i 1) (transitionCell numbers i 2) && leb (transitionCell numbers i 2) 4)
+        (optionalBelow (rowCount numbers) (transitionCell numbers i 3)) (leb (transitionCell numbers i 4) 1) (inside (referenceCount numbers) (transitionCell numbers i 5) (transitionCell numbers i 6) && leb (transitionCell numbers i 6) 8)
+        (blockFits numbers (transitionCell numbers i 7) (transitionCell numbers i 8))
+        (ap (λ (x : ℕ). ltb x (rowCount numbers)) (transition-cell i 0 parts l h (omega arith)) ∙ lt-ltb (t .source) (rowCount numbers) (ok .sources))
+        (ap₂ (λ (x y : ℕ). inside (descriptorCount numbers) x y && leb y 4) (transition-cell i 1 parts l h (omega arith)) (transition-cell i 2 parts l h (omega arith)) ∙
+        and-true (inside (descriptorCount numbers) d (length (t .descriptors))) (leb (length (t .descriptors)) 4) (le-leb (d + length (t .descriptors)) (descriptorCount numbers) e) (le-leb (length (t .descriptors)) 4 (ok .events)))
+        (ap (optionalBelow (rowCount numbers)) (transition-cell i 3 parts l h (omega arith)) ∙ ok .conditions) (ap (λ (x : ℕ). leb x 1) (transition-cell i 4 parts l h (omega arith)) ∙ one-or-none (t .internal))
+        (ap₂ (λ (x y : ℕ). inside (referenceCount numbers) x y && leb y 8) (transition-cell i 5 parts l h (omega arith)) (transition-cell i 6 parts l h (omega arith)) ∙
+        and-true (inside (referenceCount numbers) f (length (t .targets))) (leb (length (t .targets)) 8) (le-leb (f + length (t .targets)) (referenceCount numbers) g) (le-leb (length (t .targets)) 8 (ok .goals)))
+        (ap₂ (blockFits numbers) (transition-cell i 7 parts l h (omega arith)) (transition-cell i 8 parts l h (omega arith)) ∙ block-ok a (length (t .block)) k (ok .blocks))
+
+  pub transitions-in : (ts : List Transition) (i f d a : ℕ) → i + length ts ≤ transitionCount numbers → Holds numbers (transitionBase numbers + i * 9) (transitionCells slots f d a ts) → f + length (flat targetList ts) ≤ referenceCount numbers →
+      d + length (flat descriptorList ts) ≤ descriptorCount numbers → a + length (flat transitionActs ts) ≤ actionCount numbers → AllOf TransitionOK ts → (j : ℕ) → i ≤ j → j < i + length ts → transitionInRange numbers j ≡ true
+  unfolding transitionCells flat
+  transitions-in [] i f d a l h g e k no-more j b m = absurd (let z : j < i + 0 = m in omega arith)
+  transitions-in (t ∷ ts) i f d a l h g e k (more ok oks) j b m =
+      bool-case (eqb i j)
+      (λ q. subst (λ (x : ℕ). transitionInRange numbers x ≡ true) (eqb-true i j q) (transition-in i f d a t low ok (holds-left (parts i f d a t low ok) later h) (let p = goals in omega arith) (let p = events in omega arith) (let p = acts in omega arith)))
+      (λ q. let w = eqb-false i j q in
+      transitions-in ts (suc i) (f + length (t .targets)) (d + length (t .descriptors)) (a + length (t .block)) (omega arith)
+      (holds-at (transitionBase numbers + i * 9 + 9) (transitionBase numbers + suc i * 9) (omega arith) (holds-right (parts i f d a t low ok) later h)) (let p = goals in omega arith) (let p = events in omega arith) (let p = acts in omega arith) oks j
+      (further b w) (let z : j < i + suc (length ts) = m in omega arith))
+    where
+      low : i < transitionCount numbers
+      low = omega arith
+
+      later : List ℕ
+      later = transitionCells slots (f + length (t .targets)) (d + length (t .descriptors)) (a + length (t .block)) ts
+
+      goals : length (t .targets ++ flat targetList ts) ≡ length (t .targets) + length (flat targetList ts)
+      goals = length-append (t .targets) (flat targetList ts)
+
+      events : length (t .descriptors ++ flat descriptorList ts) ≡ length (t .descriptors) + length (flat descriptorList ts)
+      events = length-append (t .descriptors) (flat descriptorList ts)
+
+      acts : length (t .block ++ flat transitionActs ts) ≡ length (t .block) + length (flat transitionActs ts)
+      acts = length-append (t .block) (flat transitionActs ts)
+
+      further : {p q : ℕ} → p ≤ q → (p ≡ q → ⊥) → suc p ≤ q
+      further l d = omega arith

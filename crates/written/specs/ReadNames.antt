@@ -98,7 +98,7 @@ raise-fits names n (suc (suc (suc zero))) x y z f = refl
 raise-fits names n (suc (suc (suc (suc zero)))) x y z f = refl
 raise-fits names n (suc (suc (suc (suc (suc k))))) x y z f = refl
 
-all-mapped-at : {A : Type 0} {P : A → Type 0} (g : ℕ → A) (n i k : ℕ) → k < n → AllOf P (map g (from n i)) → P (g (i + k))
+pub all-mapped-at : {A : Type 0} {P : A → Type 0} (g : ℕ → A) (n i k : ℕ) → k < n → AllOf P (map g (from n i)) → P (g (i + k))
 unfolding from
 all-mapped-at g zero i k l f = absurd (omega arith)
 all-mapped-at {P = P} g (suc n) i zero l (more f h) = subst (λ (x : ℕ). P (g x)) (plus i) f

@@ -31,7 +31,7 @@ pub record Slotted (slots : List (List ℕ)) (v : List ℕ) : Type 0 where
 
 -- ---- its place
 
-place-low : (v : List ℕ) (slots : List (List ℕ)) → isAmong v slots ≡ true → placeOf v slots < length slots
+pub place-low : (v : List ℕ) (slots : List (List ℕ)) → isAmong v slots ≡ true → placeOf v slots < length slots
 unfolding isAmong placeOf
 place-low v [] h = absurd (no h)
 place-low v (s ∷ slots) h = by (same v s) h (place-low v slots)

@@ -99,22 +99,22 @@ module _ (slots : List (List ℕ)) (c : Content) where
   to-events : Holds tables 0 (header ++ rowPart ++ transitionPart ++ refs ++ eventPart)
   to-events = holds-left (header ++ rowPart ++ transitionPart ++ refs ++ eventPart) actPart whole
 
-  events-held : Holds tables (descriptorBase tables + 0) eventPart
+  pub events-held : Holds tables (descriptorBase tables + 0) eventPart
   events-held = holds-at _ _ (let s = sizes .2 in omega arith) (holds-right (header ++ rowPart ++ transitionPart ++ refs) eventPart to-events)
 
   to-refs : Holds tables 0 (header ++ rowPart ++ transitionPart ++ refs)
   to-refs = holds-left (header ++ rowPart ++ transitionPart ++ refs) eventPart to-events
 
-  refs-held : Holds tables (referenceBase tables + 0) refs
+  pub refs-held : Holds tables (referenceBase tables + 0) refs
   refs-held = holds-at _ _ (let s = sizes .1 in omega arith) (holds-right (header ++ rowPart ++ transitionPart) refs to-refs)
 
   to-transitions : Holds tables 0 (header ++ rowPart ++ transitionPart)
   to-transitions = holds-left (header ++ rowPart ++ transitionPart) refs to-refs
 
-  transitions-held : Holds tables (transitionBase tables + 0 * 9) transitionPart
+  pub transitions-held : Holds tables (transitionBase tables + 0 * 9) transitionPart
   transitions-held = holds-at _ _ (let s = sizes .0 in omega arith) (holds-right (header ++ rowPart) transitionPart to-transitions)
 
-  rows-held : Holds tables (6 + 0 * 11) rowPart
+  pub rows-held : Holds tables (6 + 0 * 11) rowPart
   rows-held = holds-at _ _ (omega arith) (holds-right header rowPart (holds-left (header ++ rowPart) transitionPart to-transitions))
 
   module _ (few : length slots ≤ 65535) (rs : AllOf (RowNamed slots) (c .rows)) (ts : AllOf (TransitionNamed slots) (c .transitions)) where
