@@ -52,4 +52,5 @@ pub mod ReadNames
 pub mod ReadRule2
 pub mod Ranges
 pub mod Limits
+pub mod ReadRule1
 pub mod ReadWhole

@@ -110,7 +110,7 @@ module _ (numbers names : List ℕ) (h : keepsRules numbers names ≡ Done) wher
   pub acts-fit : AllOf (ActFits count) acts
   acts-fit = all-both (rows-fit-acts count (chart .rows) (all-fit chart (s numbers names h))) (transitions-fit-acts count (chart .transitions) (s numbers names h .transitions-fit))
 
-  acts-have : AllOf (ActNamed own) acts
+  pub acts-have : AllOf (ActNamed own) acts
   acts-have =
       all-both (rows-acts own (chart .rows) (rows-have numbers names h))
       (transitions-acts own (chart .transitions) (transitions-named own count (s numbers names h .few) (chart .transitions) (s numbers names h .transitions-fit) (transitions-speak numbers names h)))

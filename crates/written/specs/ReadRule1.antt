@@ -1,0 +1,292 @@
+-- The tables that are read from what was written of an accepted chart keep rule 1.
+use mathlib.Core.Path.{_≡_, refl, sym, ap, ap₂, _∙_, subst}
+use mathlib.Core.Bool.{Bool, true, false, not, _&&_, _||_, cond}
+use mathlib.Core.List.{List, [], _∷_, _++_, map}
+use mathlib.Core.Option.{Option, none, some}
+use Prim.Native.Nat.{ℕ, zero, suc, _≤_, _<_, _+_, _*_}
+use native.Mathlib.Nat.{zero-add}
+use native.Mathlib.Omega.{arith}
+use lib.Dec.{eqb, leb, ltb}
+use lib.ListN.{length, getD, take, drop, length-append}
+use borrow.Author.Tests.{leb-true, le-leb, lt-ltb, ltb-true, eq-eqb}
+use Rattle.definition.specs.declared.Answer.the-variants.{Done}
+use Rattle.definition.specs.Rows.{from, flat, all, isEmpty}
+use Rattle.definition.specs.Chart.{Chart}
+use Rattle.definition.specs.Tables.{noNumber, mostRows, mostTransitions, mostNames, rowCount, transitionCount, referenceCount, descriptorCount, actionCount, nameCount, tablesSize, transitionBase, referenceBase, descriptorBase, actionBase, rowCell, transitionCell, actionCell, part, referencesAt, descriptorsAt, listAt, nameAt, chartOf}
+use Rattle.definition.specs.Tree.{listed}
+use Rattle.definition.specs.Rules.{each, inside, optionalBelow, countsFit, sizesFit, compiledSize, blockFits, rowInRange, transitionInRange, referenceInRange, descriptorInRange, actionInRange, areApart, listFits, blocksFit, rowListsFit, rule1, keepsRules}
+use Rattle.reading.specs.Content.{Act, raises, hosts, ifIn, elseifIn, otherwise, endIf, sends, cancels, Row, Transition, Content, placeOf}
+use Rattle.reading.specs.Layout.{orNone, actCells, idCell, rowActs, rowList, targetList, descriptorList, transitionActs, numbersOf, namesOf, actOf, actsAt, rowBack, transitionBack, content}
+use Rattle.laws.specs.Bools.{and-true, and-left, and-right, and3, and7}
+use Rattle.laws.specs.Maps.{map-length}
+use Rattle.laws.specs.Loops.{each-below, below-each}
+use Rattle.accepted.specs.Sound.{accepted-rule1, accepted-sound}
+use Rattle.lay.specs.Sizes.{row-count, transition-count, reference-count, descriptor-count, action-count, name-count, tables-size, names-size}
+use Rattle.written.specs.Sound.{AllOf, no-more, more, Always, always, Ref, ActFits, ConditionFits, RowFits, TransitionFits}
+use Rattle.written.specs.Values.{all-both}
+use Rattle.written.specs.Whole.{Sound, all-fit}
+use Rattle.written.specs.Accepted.{count-rows, few-rows}
+use Rattle.written.specs.TableBlocks.{accepted-root, Acts, act-stands, look, all-from}
+use Rattle.written.specs.TableRows.{row-range, row-lists, row-inside}
+use Rattle.written.specs.AcceptedTransitions.{transition-inside}
+use Rattle.written.specs.SlotNames.{Slotted, place-low}
+use Rattle.written.specs.TablesBack.{ActNamed, RowNamed}
+use Rattle.written.specs.TableTransitions.{TransitionNamed}
+use Rattle.written.specs.TableContent.{rows-held, transitions-held, refs-held, events-held, acts-held}
+use Rattle.written.specs.ReadBack.{s, rows-have, transitions-named, transitions-speak, slots-few, few-names}
+use Rattle.written.specs.ReadNames.{all-mapped-at}
+use Rattle.written.specs.ReadRule2.{chart, own, newNumbers, newNames, count, acts, acts-fit, acts-have, rows-count}
+use Rattle.written.specs.Ranges.{Below, references-in, descriptors-in, ActOK, actions-in, RowOK, rows-in, TransitionOK, transitions-in}
+use Rattle.written.specs.Limits.{Most, flat-most, take-most, map-most, list-most}
+
+all-built : {A : Type 0} {P : A → Type 0} (f : ℕ → A) (k i : ℕ) → ((j : ℕ) → i ≤ j → j < i + k → P (f j)) → AllOf P (map f (from k i))
+unfolding from
+all-built f zero i g = no-more
+all-built f (suc k) i g = more (g i (omega arith) (omega arith)) (all-built f k (suc i) (λ (j : ℕ) (l : suc i ≤ j) (h : j < suc i + k). g j (omega arith) (omega arith)))
+
+-- ---- actions that tables have
+
+abbrev Simple : Act → Type 0
+Simple (raises v) = Always
+Simple (hosts k) = Always
+Simple (ifIn i) = Always
+Simple (elseifIn i) = Always
+Simple otherwise = Always
+Simple endIf = Always
+Simple (sends v d w) = ⊥
+Simple (cancels v) = ⊥
+
+act-simple : (nm : ℕ → List ℕ) (k x y z : ℕ) → k ≤ 5 → Simple (actOf nm k x y z)
+act-simple nm zero x y z l = always
+act-simple nm (suc zero) x y z l = always
+act-simple nm (suc (suc zero)) x y z l = always
+act-simple nm (suc (suc (suc zero))) x y z l = always
+act-simple nm (suc (suc (suc (suc zero)))) x y z l = always
+act-simple nm (suc (suc (suc (suc (suc zero))))) x y z l = always
+act-simple nm (suc (suc (suc (suc (suc (suc k)))))) x y z l = absurd (omega arith)
+
+act-ok : (numbers : List ℕ) (slots : List (List ℕ)) (n : ℕ) → n ≡ rowCount numbers → length slots ≡ nameCount numbers → (a : Act) → ActFits n a → ActNamed slots a → Simple a → ActOK numbers slots a
+act-ok numbers slots n e q (raises v) f g k = let l = place-low v slots (g .among) in omega arith
+act-ok numbers slots n e q (hosts x) f g k = f
+act-ok numbers slots n e q (ifIn i) f g k = let l = f .below in omega arith
+act-ok numbers slots n e q (elseifIn i) f g k = let l = f .below in omega arith
+act-ok numbers slots n e q otherwise f g k = always
+act-ok numbers slots n e q endIf f g k = always
+act-ok numbers slots n e q (sends v d w) f g k = absurd k
+act-ok numbers slots n e q (cancels v) f g k = absurd k
+
+acts-ok : (numbers : List ℕ) (slots : List (List ℕ)) (n : ℕ) → n ≡ rowCount numbers → length slots ≡ nameCount numbers → (xs : List Act) → AllOf (ActFits n) xs → AllOf (ActNamed slots) xs → AllOf Simple xs → AllOf (ActOK numbers slots) xs
+acts-ok numbers slots n e q [] no-more no-more no-more = no-more
+acts-ok numbers slots n e q (a ∷ xs) (more f fs) (more g gs) (more k ks) = more (act-ok numbers slots n e q a f g k) (acts-ok numbers slots n e q xs fs gs ks)
+
+-- ---- lists of numbers
+
+refs-below : (n m : ℕ) → n ≡ m → (numbers : List ℕ) (slots : List (List ℕ)) (xs : List ℕ) → AllOf (Ref n) xs → AllOf (Below numbers slots m) xs
+refs-below n m e numbers slots [] no-more = no-more
+refs-below n m e numbers slots (x ∷ xs) (more f g) = let b : x < m = (let l = f .below in omega arith) in more (record { below = b }) (refs-below n m e numbers slots xs g)
+
+lists-below : (n m : ℕ) → n ≡ m → (numbers : List ℕ) (slots : List (List ℕ)) (rs : List Row) → AllOf (RowFits n) rs → AllOf (Below numbers slots m) (flat rowList rs)
+unfolding flat
+lists-below n m e numbers slots [] no-more = no-more
+lists-below n m e numbers slots (r ∷ rs) (more f g) = all-both (refs-below n m e numbers slots (r .list) (f .list)) (lists-below n m e numbers slots rs g)
+
+targets-below : (n m : ℕ) → n ≡ m → (numbers : List ℕ) (slots : List (List ℕ)) (ts : List Transition) → AllOf (TransitionFits n) ts → AllOf (Below numbers slots m) (flat targetList ts)
+unfolding flat
+targets-below n m e numbers slots [] no-more = no-more
+targets-below n m e numbers slots (t ∷ ts) (more f g) = all-both (refs-below n m e numbers slots (t .targets) (f .targets)) (targets-below n m e numbers slots ts g)
+
+places-below : (m : ℕ) (numbers : List ℕ) (slots vs : List (List ℕ)) → length slots ≡ m → AllOf (Slotted slots) vs → AllOf (Below numbers slots m) (map (λ (n : List ℕ). placeOf n slots) vs)
+places-below m numbers slots [] e no-more = no-more
+places-below m numbers slots (v ∷ vs) e (more f g) = let b : placeOf v slots < m = (let l = place-low v slots (f .among) in omega arith) in more (record { below = b }) (places-below m numbers slots vs e g)
+
+events-slotted : (slots : List (List ℕ)) (ts : List Transition) → AllOf (TransitionNamed slots) ts → AllOf (Slotted slots) (flat descriptorList ts)
+unfolding flat
+events-slotted slots [] no-more = no-more
+events-slotted slots (t ∷ ts) (more f g) = all-both (f .events-named) (events-slotted slots ts g)
+
+condition-ok : (n m : ℕ) → n ≡ m → (o : Option ℕ) → ConditionFits n o → optionalBelow m (orNone o) ≡ true
+condition-ok n m e none f = refl
+condition-ok n m e (some i) f = by (eqb i noNumber) (lt-ltb i m (let l = f .below in omega arith))
+  where
+    by : (z : Bool) {y : Bool} → y ≡ true → (z || y) ≡ true
+    by true q = refl
+    by false q = q
+
+id-ok : (m : ℕ) (slots : List (List ℕ)) → length slots ≡ m → (v : List ℕ) → (isEmpty v ≡ false → Slotted slots v) → optionalBelow m (idCell slots v) ≡ true
+id-ok m slots e v f = by (isEmpty v) refl
+  where
+    or : (z : Bool) {y : Bool} → y ≡ true → (z || y) ≡ true
+    or true q = refl
+    or false q = q
+
+    by : (z : Bool) → isEmpty v ≡ z → optionalBelow m (cond z noNumber (placeOf v slots)) ≡ true
+    by true q = refl
+    by false q = or (eqb (placeOf v slots) noNumber) (lt-ltb (placeOf v slots) m (let l = place-low v slots (f q .among) in omega arith))
+
+module _ (numbers names : List ℕ) (h : keepsRules numbers names ≡ Done) where
+  abbrev new : List ℕ
+  new = newNumbers numbers names h
+
+  abbrev mine : List (List ℕ)
+  mine = own numbers names h
+
+  abbrev whole : Content
+  whole = chart numbers names h
+
+  abbrev n : ℕ
+  n = count numbers names h
+
+  names-are : length mine ≡ nameCount new
+  names-are = sym (name-count mine whole)
+
+  rows-number : n ≡ rowCount new
+  rows-number = sym (row-count mine whole)
+
+  -- ---- rows
+
+  block-short : (start count : ℕ) → blockFits numbers start count ≡ true → length (actsAt numbers names start count) ≤ 32
+  unfolding blockFits actsAt
+  block-short start count f =
+      let l = leb-true count 32 (and-right (inside (actionCount numbers) start count) (leb count 32) f) in
+      subst (λ (k : ℕ). k ≤ 32) (sym (map-length (look numbers names (accepted-root numbers names h)) count start)) l
+
+  row-ok : (i : ℕ) → i < rowCount numbers → RowOK new mine (rowBack numbers names i)
+  unfolding rowInRange
+  row-ok i l =
+      let k = and7 (leb (rowCell numbers i 0) 5) (optionalBelow (rowCount numbers) (rowCell numbers i 1)) (optionalBelow (nameCount numbers) (rowCell numbers i 2)) (blockFits numbers (rowCell numbers i 3) (rowCell numbers i 4))
+      (blockFits numbers (rowCell numbers i 5) (rowCell numbers i 6)) (inside (referenceCount numbers) (rowCell numbers i 7) (rowCell numbers i 8)) (blockFits numbers (rowCell numbers i 9) (rowCell numbers i 10)) (row-range numbers names h i l) in
+      record {
+        kinds = unfold rowBack in leb-true (rowCell numbers i 0) 5 (k .0);
+        parents = unfold rowBack in (ap (λ (m : ℕ). optionalBelow m (rowCell numbers i 1)) (rows-count numbers names h) ∙ k .1);
+        ids = id-ok (nameCount new) mine names-are (rowBack numbers names i .id) (named-row .id-named);
+        entries = unfold rowBack in block-short (rowCell numbers i 3) (rowCell numbers i 4) (k .3);
+        exits = unfold rowBack in block-short (rowCell numbers i 5) (rowCell numbers i 6) (k .4);
+        blocks = unfold rowBack in block-short (rowCell numbers i 9) (rowCell numbers i 10) (k .6);
+      }
+    where
+      all-named : AllOf (RowNamed mine) (map (rowBack numbers names) (from (rowCount numbers) 0))
+      all-named = unfold content in rows-have numbers names h
+
+      named-row : RowNamed mine (rowBack numbers names i)
+      named-row = subst (λ (x : ℕ). RowNamed mine (rowBack numbers names x)) (zero-add i) (all-mapped-at (rowBack numbers names) (rowCount numbers) 0 i l all-named)
+
+  rows-ok : AllOf (RowOK new mine) (whole .rows)
+  unfolding content
+  rows-ok = all-built (rowBack numbers names) (rowCount numbers) 0 (λ (j : ℕ) (a : 0 ≤ j) (b : j < 0 + rowCount numbers). row-ok j (omega arith))
+
+  -- ---- transitions
+
+  in-range : (t : ℕ) → t < transitionCount numbers → transitionInRange numbers t ≡ true
+  unfolding rule1
+  in-range t l =
+      each-below (transitionInRange numbers) (transitionCount numbers)
+      (and7 (countsFit numbers) (sizesFit numbers names (compiledSize numbers) (length names)) (each (rowCount numbers) (rowInRange numbers)) (each (transitionCount numbers) (transitionInRange numbers)) _ _ _ (accepted-rule1 numbers names h) .3) t l
+
+  counts : (t : ℕ) → t < transitionCount numbers → (transitionCell numbers t 2 ≤ 4) × (transitionCell numbers t 6 ≤ 8) × (blockFits numbers (transitionCell numbers t 7) (transitionCell numbers t 8) ≡ true)
+  unfolding transitionInRange
+  counts t l =
+      let a = ltb (transitionCell numbers t 0) (rowCount numbers) in
+      let b = inside (descriptorCount numbers) (transitionCell numbers t 1) (transitionCell numbers t 2) && leb (transitionCell numbers t 2) 4 in
+      let c = optionalBelow (rowCount numbers) (transitionCell numbers t 3) in
+      let d = leb (transitionCell numbers t 4) 1 in
+      let e = inside (referenceCount numbers) (transitionCell numbers t 5) (transitionCell numbers t 6) && leb (transitionCell numbers t 6) 8 in
+      let f = blockFits numbers (transitionCell numbers t 7) (transitionCell numbers t 8) in
+      let r = in-range t l in
+      let u = and-left (a && b && c && d && e) f r in
+      let v = and-left (a && b) c (and-left (a && b && c) d (and-left (a && b && c && d) e u)) in
+      (leb-true (transitionCell numbers t 2) 4 (and-right (inside (descriptorCount numbers) (transitionCell numbers t 1) (transitionCell numbers t 2)) _ (and-right a b v)),
+      leb-true (transitionCell numbers t 6) 8 (and-right (inside (referenceCount numbers) (transitionCell numbers t 5) (transitionCell numbers t 6)) _ (and-right (a && b && c && d) e u)), and-right (a && b && c && d && e) f r)
+
+  events-short : (t : ℕ) → t < transitionCount numbers → length (transitionBack numbers names t .descriptors) ≤ 4
+  unfolding transitionBack descriptorsAt part
+  events-short t l =
+      let a = map-most (nameAt names) (take (transitionCell numbers t 2) (drop (descriptorBase numbers + transitionCell numbers t 1) numbers)) in
+      let b = take-most (transitionCell numbers t 2) (drop (descriptorBase numbers + transitionCell numbers t 1) numbers) in
+      let c = counts t l .0 in
+      omega arith
+
+  targets-short : (t : ℕ) → t < transitionCount numbers → length (transitionBack numbers names t .targets) ≤ 8
+  unfolding transitionBack referencesAt part
+  targets-short t l =
+      let b = take-most (transitionCell numbers t 6) (drop (referenceBase numbers + transitionCell numbers t 5) numbers) in
+      let c = counts t l .1 in
+      omega arith
+
+  transition-block-short : (t : ℕ) → t < transitionCount numbers → length (transitionBack numbers names t .block) ≤ 32
+  unfolding transitionBack
+  transition-block-short t l = block-short (transitionCell numbers t 7) (transitionCell numbers t 8) (counts t l .2)
+
+  transitions-many : length (whole .transitions) ≡ transitionCount numbers
+  unfolding content
+  transitions-many = map-length (transitionBack numbers names) (transitionCount numbers) 0
+
+  fits-at : (t : ℕ) → t < transitionCount numbers → TransitionFits n (transitionBack numbers names t)
+  fits-at t l = subst (λ (x : ℕ). TransitionFits n (transitionBack numbers names x)) (zero-add t) (all-mapped-at (transitionBack numbers names) (transitionCount numbers) 0 t l every)
+    where
+      every : AllOf (TransitionFits n) (map (transitionBack numbers names) (from (transitionCount numbers) 0))
+      every = unfold content in (s numbers names h .transitions-fit)
+
+  transition-ok : (t : ℕ) → t < transitionCount numbers → TransitionOK new mine (transitionBack numbers names t)
+  transition-ok t l =
+      let f = fits-at t l in
+      record {
+        sources = subst (λ (m : ℕ). transitionBack numbers names t .source < m) rows-number (f .source);
+        events = events-short t l;
+        conditions = condition-ok n (rowCount new) rows-number (transitionBack numbers names t .condition) (f .condition);
+        goals = targets-short t l;
+        blocks = transition-block-short t l;
+      }
+
+  transitions-ok : AllOf (TransitionOK new mine) (whole .transitions)
+  unfolding content
+  transitions-ok = all-built (transitionBack numbers names) (transitionCount numbers) 0 (λ (j : ℕ) (a : 0 ≤ j) (b : j < 0 + transitionCount numbers). transition-ok j (omega arith))
+
+  -- ---- actions
+
+  block-simple : (start count : ℕ) → start + count ≤ actionCount numbers → AllOf Simple (actsAt numbers names start count)
+  unfolding actsAt
+  block-simple start count l =
+      all-built (look numbers names (accepted-root numbers names h)) count start
+      (λ (j : ℕ) (a : start ≤ j) (b : j < start + count).
+      act-simple (nameAt names) (actionCell numbers j 0) (actionCell numbers j 1) (actionCell numbers j 2) (actionCell numbers j 3) (act-stands numbers names h j (omega arith) .low))
+
+  record SimpleRow (r : Row) : Type 0 where
+    pub simple : AllOf Simple (rowActs r)
+
+  record SimpleTransition (t : Transition) : Type 0 where
+    pub simple : AllOf Simple (t .block)
+
+  row-simple : (i : ℕ) → i < rowCount numbers → SimpleRow (rowBack numbers names i)
+  unfolding rowBack
+  row-simple i l =
+      let k = row-inside numbers names h i l in
+      record {
+        simple =
+            all-both (all-both (block-simple (rowCell numbers i 3) (rowCell numbers i 4) (k .entries)) (block-simple (rowCell numbers i 5) (rowCell numbers i 6) (k .exits)))
+            (block-simple (rowCell numbers i 9) (rowCell numbers i 10) (k .blocks));
+      }
+
+  transition-simple : (t : ℕ) → t < transitionCount numbers → SimpleTransition (transitionBack numbers names t)
+  unfolding transitionBack
+  transition-simple t l = record { simple = block-simple (transitionCell numbers t 7) (transitionCell numbers t 8) (transition-inside numbers names h t l .block-in) }
+
+  flat-rows : (rs : List Row) → AllOf SimpleRow rs → AllOf Simple (flat rowActs rs)
+  unfolding flat
+  flat-rows [] no-more = no-more
+  flat-rows (r ∷ rs) (more f g) = all-both (f .simple) (flat-rows rs g)
+
+  flat-transitions : (ts : List Transition) → AllOf SimpleTransition ts → AllOf Simple (flat transitionActs ts)
+  unfolding flat
+  flat-transitions [] no-more = no-more
+  flat-transitions (t ∷ ts) (more f g) = all-both (f .simple) (flat-transitions ts g)
+
+  simple-rows : AllOf SimpleRow (whole .rows)
+  unfolding content
+  simple-rows = all-built (rowBack numbers names) (rowCount numbers) 0 (λ (j : ℕ) (a : 0 ≤ j) (b : j < 0 + rowCount numbers). row-simple j (omega arith))
+
+  simple-transitions : AllOf SimpleTransition (whole .transitions)
+  unfolding content
+  simple-transitions = all-built (transitionBack numbers names) (transitionCount numbers) 0 (λ (j : ℕ) (a : 0 ≤ j) (b : j < 0 + transitionCount numbers). transition-simple j (omega arith))
+
+  actions-ok : AllOf (ActOK new mine) (acts numbers names h)
+  actions-ok = acts-ok new mine n rows-number names-are (acts numbers names h) (acts-fit numbers names h) (acts-have numbers names h) (all-both (flat-rows (whole .rows) simple-rows) (flat-transitions (whole .transitions) simple-transitions))
