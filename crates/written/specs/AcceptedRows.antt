@@ -87,7 +87,7 @@ module _ (numbers names : List ℕ) (h : keepsRules numbers names ≡ Done) wher
     unfolding rowBack listBlockAt
     list-block-fits = block-fits numbers names h (rowCell numbers i 9) (rowCell numbers i 10) (row-inside numbers names h i l .blocks) (branch-parts .2)
 
-    list-refs : AllOf (Ref (rowCount numbers)) (back i .list)
+    pub list-refs : AllOf (Ref (rowCount numbers)) (back i .list)
     unfolding rowBack listAt
     list-refs = all-of-mem (listed chart i) (λ (x : ℕ) (m : mem x (listed chart i) ≡ true). record { above = list-above chart i (lists-parts .1) x m; below = accepted-sound numbers names h .listInside i x m })
 

@@ -53,4 +53,5 @@ pub mod ReadRule2
 pub mod Ranges
 pub mod Limits
 pub mod ReadRule1
+pub mod ReadSizes
 pub mod ReadWhole

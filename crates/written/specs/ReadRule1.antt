@@ -39,7 +39,7 @@ use Rattle.written.specs.ReadRule2.{chart, own, newNumbers, newNames, co
 use Rattle.written.specs.Ranges.{Below, references-in, descriptors-in, ActOK, actions-in, RowOK, rows-in, TransitionOK, transitions-in}
 use Rattle.written.specs.Limits.{Most, flat-most, take-most, map-most, list-most}
 
-all-built : {A : Type 0} {P : A → Type 0} (f : ℕ → A) (k i : ℕ) → ((j : ℕ) → i ≤ j → j < i + k → P (f j)) → AllOf P (map f (from k i))
+pub all-built : {A : Type 0} {P : A → Type 0} (f : ℕ → A) (k i : ℕ) → ((j : ℕ) → i ≤ j → j < i + k → P (f j)) → AllOf P (map f (from k i))
 unfolding from
 all-built f zero i g = no-more
 all-built f (suc k) i g = more (g i (omega arith) (omega arith)) (all-built f k (suc i) (λ (j : ℕ) (l : suc i ≤ j) (h : j < suc i + k). g j (omega arith) (omega arith)))
@@ -85,21 +85,21 @@ refs-below : (n m : ℕ) → n ≡ m → (numbers : List ℕ) (slots : List (Lis
 refs-below n m e numbers slots [] no-more = no-more
 refs-below n m e numbers slots (x ∷ xs) (more f g) = let b : x < m = (let l = f .below in omega arith) in more (record { below = b }) (refs-below n m e numbers slots xs g)
 
-lists-below : (n m : ℕ) → n ≡ m → (numbers : List ℕ) (slots : List (List ℕ)) (rs : List Row) → AllOf (RowFits n) rs → AllOf (Below numbers slots m) (flat rowList rs)
+pub lists-below : (n m : ℕ) → n ≡ m → (numbers : List ℕ) (slots : List (List ℕ)) (rs : List Row) → AllOf (RowFits n) rs → AllOf (Below numbers slots m) (flat rowList rs)
 unfolding flat
 lists-below n m e numbers slots [] no-more = no-more
 lists-below n m e numbers slots (r ∷ rs) (more f g) = all-both (refs-below n m e numbers slots (r .list) (f .list)) (lists-below n m e numbers slots rs g)
 
-targets-below : (n m : ℕ) → n ≡ m → (numbers : List ℕ) (slots : List (List ℕ)) (ts : List Transition) → AllOf (TransitionFits n) ts → AllOf (Below numbers slots m) (flat targetList ts)
+pub targets-below : (n m : ℕ) → n ≡ m → (numbers : List ℕ) (slots : List (List ℕ)) (ts : List Transition) → AllOf (TransitionFits n) ts → AllOf (Below numbers slots m) (flat targetList ts)
 unfolding flat
 targets-below n m e numbers slots [] no-more = no-more
 targets-below n m e numbers slots (t ∷ ts) (more f g) = all-both (refs-below n m e numbers slots (t .targets) (f .targets)) (targets-below n m e numbers slots ts g)
 
-places-below : (m : ℕ) (numbers : List ℕ) (slots vs : List (List ℕ)) → length slots ≡ m → AllOf (Slotted slots) vs → AllOf (Below numbers slots m) (map (λ (n : List ℕ). placeOf n slots) vs)
+pub places-below : (m : ℕ) (numbers : List ℕ) (slots vs : List (List ℕ)) → length slots ≡ m → AllOf (Slotted slots) vs → AllOf (Below numbers slots m) (map (λ (n : List ℕ). placeOf n slots) vs)
 places-below m numbers slots [] e no-more = no-more
 places-below m numbers slots (v ∷ vs) e (more f g) = let b : placeOf v slots < m = (let l = place-low v slots (f .among) in omega arith) in more (record { below = b }) (places-below m numbers slots vs e g)
 
-events-slotted : (slots : List (List ℕ)) (ts : List Transition) → AllOf (TransitionNamed slots) ts → AllOf (Slotted slots) (flat descriptorList ts)
+pub events-slotted : (slots : List (List ℕ)) (ts : List Transition) → AllOf (TransitionNamed slots) ts → AllOf (Slotted slots) (flat descriptorList ts)
 unfolding flat
 events-slotted slots [] no-more = no-more
 events-slotted slots (t ∷ ts) (more f g) = all-both (f .events-named) (events-slotted slots ts g)
@@ -136,10 +136,10 @@ module _ (numbers names : List ℕ) (h : keepsRules numbers names ≡ Done) wher
   abbrev n : ℕ
   n = count numbers names h
 
-  names-are : length mine ≡ nameCount new
+  pub names-are : length mine ≡ nameCount new
   names-are = sym (name-count mine whole)
 
-  rows-number : n ≡ rowCount new
+  pub rows-number : n ≡ rowCount new
   rows-number = sym (row-count mine whole)
 
   -- ---- rows
@@ -150,7 +150,7 @@ module _ (numbers names : List ℕ) (h : keepsRules numbers names ≡ Done) wher
       let l = leb-true count 32 (and-right (inside (actionCount numbers) start count) (leb count 32) f) in
       subst (λ (k : ℕ). k ≤ 32) (sym (map-length (look numbers names (accepted-root numbers names h)) count start)) l
 
-  row-ok : (i : ℕ) → i < rowCount numbers → RowOK new mine (rowBack numbers names i)
+  pub row-ok : (i : ℕ) → i < rowCount numbers → RowOK new mine (rowBack numbers names i)
   unfolding rowInRange
   row-ok i l =
       let k = and7 (leb (rowCell numbers i 0) 5) (optionalBelow (rowCount numbers) (rowCell numbers i 1)) (optionalBelow (nameCount numbers) (rowCell numbers i 2)) (blockFits numbers (rowCell numbers i 3) (rowCell numbers i 4))
@@ -170,7 +170,7 @@ module _ (numbers names : List ℕ) (h : keepsRules numbers names ≡ Done) wher
       named-row : RowNamed mine (rowBack numbers names i)
       named-row = subst (λ (x : ℕ). RowNamed mine (rowBack numbers names x)) (zero-add i) (all-mapped-at (rowBack numbers names) (rowCount numbers) 0 i l all-named)
 
-  rows-ok : AllOf (RowOK new mine) (whole .rows)
+  pub rows-ok : AllOf (RowOK new mine) (whole .rows)
   unfolding content
   rows-ok = all-built (rowBack numbers names) (rowCount numbers) 0 (λ (j : ℕ) (a : 0 ≤ j) (b : j < 0 + rowCount numbers). row-ok j (omega arith))
 
@@ -197,7 +197,7 @@ module _ (numbers names : List ℕ) (h : keepsRules numbers names ≡ Done) wher
       (leb-true (transitionCell numbers t 2) 4 (and-right (inside (descriptorCount numbers) (transitionCell numbers t 1) (transitionCell numbers t 2)) _ (and-right a b v)),
       leb-true (transitionCell numbers t 6) 8 (and-right (inside (referenceCount numbers) (transitionCell numbers t 5) (transitionCell numbers t 6)) _ (and-right (a && b && c && d) e u)), and-right (a && b && c && d && e) f r)
 
-  events-short : (t : ℕ) → t < transitionCount numbers → length (transitionBack numbers names t .descriptors) ≤ 4
+  pub events-short : (t : ℕ) → t < transitionCount numbers → length (transitionBack numbers names t .descriptors) ≤ 4
   unfolding transitionBack descriptorsAt part
   events-short t l =
       let a = map-most (nameAt names) (take (transitionCell numbers t 2) (drop (descriptorBase numbers + transitionCell numbers t 1) numbers)) in
@@ -205,18 +205,18 @@ module _ (numbers names : List ℕ) (h : keepsRules numbers names ≡ Done) wher
       let c = counts t l .0 in
       omega arith
 
-  targets-short : (t : ℕ) → t < transitionCount numbers → length (transitionBack numbers names t .targets) ≤ 8
+  pub targets-short : (t : ℕ) → t < transitionCount numbers → length (transitionBack numbers names t .targets) ≤ 8
   unfolding transitionBack referencesAt part
   targets-short t l =
       let b = take-most (transitionCell numbers t 6) (drop (referenceBase numbers + transitionCell numbers t 5) numbers) in
       let c = counts t l .1 in
       omega arith
 
-  transition-block-short : (t : ℕ) → t < transitionCount numbers → length (transitionBack numbers names t .block) ≤ 32
+  pub transition-block-short : (t : ℕ) → t < transitionCount numbers → length (transitionBack numbers names t .block) ≤ 32
   unfolding transitionBack
   transition-block-short t l = block-short (transitionCell numbers t 7) (transitionCell numbers t 8) (counts t l .2)
 
-  transitions-many : length (whole .transitions) ≡ transitionCount numbers
+  pub transitions-many : length (whole .transitions) ≡ transitionCount numbers
   unfolding content
   transitions-many = map-length (transitionBack numbers names) (transitionCount numbers) 0
 
@@ -237,7 +237,7 @@ module _ (numbers names : List ℕ) (h : keepsRules numbers names ≡ Done) wher
         blocks = transition-block-short t l;
       }
 
-  transitions-ok : AllOf (TransitionOK new mine) (whole .transitions)
+  pub transitions-ok : AllOf (TransitionOK new mine) (whole .transitions)
   unfolding content
   transitions-ok = all-built (transitionBack numbers names) (transitionCount numbers) 0 (λ (j : ℕ) (a : 0 ≤ j) (b : j < 0 + transitionCount numbers). transition-ok j (omega arith))
 
@@ -288,5 +288,5 @@ module _ (numbers names : List ℕ) (h : keepsRules numbers names ≡ Done) wher
   unfolding content
   simple-transitions = all-built (transitionBack numbers names) (transitionCount numbers) 0 (λ (j : ℕ) (a : 0 ≤ j) (b : j < 0 + transitionCount numbers). transition-simple j (omega arith))
 
-  actions-ok : AllOf (ActOK new mine) (acts numbers names h)
+  pub actions-ok : AllOf (ActOK new mine) (acts numbers names h)
   actions-ok = acts-ok new mine n rows-number names-are (acts numbers names h) (acts-fit numbers names h) (acts-have numbers names h) (all-both (flat-rows (whole .rows) simple-rows) (flat-transitions (whole .transitions) simple-transitions))
