@@ -151,3 +151,65 @@ module _ (numbers names : List ℕ) (h : keepsRules numbers names ≡ Done) wher
 
       bytes : length newBytes ≡ nameCount new * 64
       bytes = let a = names-size mine in let b = name-count mine whole in omega arith
+
+  -- ---- ranges
+
+  rows-1 : each (rowCount new) (rowInRange new) ≡ true
+  rows-1 =
+      below-each (rowInRange new) (rowCount new)
+      (λ (j : ℕ) (m : j < rowCount new).
+      let rows = row-count mine whole in
+      let rc = reference-count mine whole in
+      let ra = length-append (flat rowList (whole .rows)) (flat targetList (whole .transitions)) in
+      let ac = action-count mine whole in
+      let aa = length-append (flat rowActs (whole .rows)) (flat transitionActs (whole .transitions)) in
+      rows-in new mine (whole .rows) 0 0 0 (omega arith) (rows-held mine whole) (omega arith) (omega arith) (rows-ok numbers names h) j (omega arith) (omega arith))
+
+  transitions-1 : each (transitionCount new) (transitionInRange new) ≡ true
+  transitions-1 =
+      below-each (transitionInRange new) (transitionCount new)
+      (λ (j : ℕ) (m : j < transitionCount new).
+      let ts = transition-count mine whole in
+      let rc = reference-count mine whole in
+      let ra = length-append (flat rowList (whole .rows)) (flat targetList (whole .transitions)) in
+      let dc = descriptor-count mine whole in
+      let ac = action-count mine whole in
+      let aa = length-append (flat rowActs (whole .rows)) (flat transitionActs (whole .transitions)) in
+      transitions-in new mine (whole .transitions) 0 (length (flat rowList (whole .rows))) 0 (length (flat rowActs (whole .rows))) (omega arith) (transitions-held mine whole) (omega arith) (omega arith) (omega arith)
+      (transitions-ok numbers names h) j (omega arith) (omega arith))
+
+  references-1 : each (referenceCount new) (referenceInRange new) ≡ true
+  references-1 =
+      below-each (referenceInRange new) (referenceCount new)
+      (λ (k : ℕ) (m : k < referenceCount new).
+      let rc = reference-count mine whole in
+      references-in new mine refs (holds-at (referenceBase new + 0) (referenceBase new) (omega arith) (refs-held mine whole))
+      (all-both (lists-below n (rowCount new) (rows-number numbers names h) new mine (whole .rows) (all-fit whole (s numbers names h)))
+      (targets-below n (rowCount new) (rows-number numbers names h) new mine (whole .transitions) (s numbers names h .transitions-fit))) k (omega arith))
+
+  abbrev places : List ℕ
+  places = map (λ (v : List ℕ). placeOf v mine) events
+
+  descriptors-1 : each (descriptorCount new) (descriptorInRange new) ≡ true
+  descriptors-1 =
+      below-each (descriptorInRange new) (descriptorCount new)
+      (λ (k : ℕ) (m : k < descriptorCount new).
+      let dc = descriptor-count mine whole in
+      let pl = map-most (λ (v : List ℕ). placeOf v mine) events in
+      descriptors-in new mine places (holds-at (descriptorBase new + 0) (descriptorBase new) (omega arith) (events-held mine whole))
+      (places-below (nameCount new) new mine events (names-are numbers names h)
+      (events-slotted mine (whole .transitions) (transitions-named mine n (s numbers names h .few) (whole .transitions) (s numbers names h .transitions-fit) (transitions-speak numbers names h)))) k (omega arith))
+
+  actions-1 : each (actionCount new) (actionInRange new) ≡ true
+  actions-1 =
+      below-each (actionInRange new) (actionCount new)
+      (λ (k : ℕ) (m : k < actionCount new).
+      let ac = action-count mine whole in
+      actions-in new mine (acts numbers names h) 0 (acts-held mine whole) (actions-ok numbers names h) k (omega arith) (omega arith))
+
+  -- the tables that are read keep rule 1
+  pub read-rule1 : rule1 new newBytes (compiledSize new) (length newBytes) ≡ true
+  unfolding rule1
+  read-rule1 =
+      all-seven (countsFit new) (sizesFit new newBytes (compiledSize new) (length newBytes)) (each (rowCount new) (rowInRange new)) (each (transitionCount new) (transitionInRange new))
+      (each (referenceCount new) (referenceInRange new)) (each (descriptorCount new) (descriptorInRange new)) (each (actionCount new) (actionInRange new)) counts-1 sizes-1 rows-1 transitions-1 references-1 descriptors-1 actions-1
