@@ -193,9 +193,11 @@ module _ (numbers names : List ℕ) (h : keepsRules numbers names ≡ Done) wher
       let f = blockFits numbers (transitionCell numbers t 7) (transitionCell numbers t 8) in
       let r = in-range t l in
       let u = and-left (a && b && c && d && e) f r in
-      let v = and-left (a && b) c (and-left (a && b && c) d (and-left (a && b && c && d) e u)) in
-      (leb-true (transitionCell numbers t 2) 4 (and-right (inside (descriptorCount numbers) (transitionCell numbers t 1) (transitionCell numbers t 2)) _ (and-right a b v)),
-      leb-true (transitionCell numbers t 6) 8 (and-right (inside (referenceCount numbers) (transitionCell numbers t 5) (transitionCell numbers t 6)) _ (and-right (a && b && c && d) e u)), and-right (a && b && c && d && e) f r)
+      let v = and-left (a && b) c (and-left (a && b && c) d (and-left (a && b && c && d) e u)) in (
+        leb-true (transitionCell numbers t 2) 4 (and-right (inside (descriptorCount numbers) (transitionCell numbers t 1) (transitionCell numbers t 2)) _ (and-right a b v)),
+        leb-true (transitionCell numbers t 6) 8 (and-right (inside (referenceCount numbers) (transitionCell numbers t 5) (transitionCell numbers t 6)) _ (and-right (a && b && c && d) e u)),
+        and-right (a && b && c && d && e) f r,
+      )
 
   pub events-short : (t : ℕ) → t < transitionCount numbers → length (transitionBack numbers names t .descriptors) ≤ 4
   unfolding transitionBack descriptorsAt part

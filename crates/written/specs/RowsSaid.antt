@@ -86,7 +86,7 @@ module _ (c : Content) (ids : List (List ℕ)) (n : ℕ) (known : Known (c .rows
   -- and no transitions
   bare-none : (i : ℕ) (r : Row) → isEmpty (innerPieces c i r) ≡ true → ofSource (c .transitions) i ≡ []
   unfolding innerPieces
-  bare-none i r e = no-transitions (c .rows) (ofSource (c .transitions) i) 
+  bare-none i r e = no-transitions (c .rows) (ofSource (c .transitions) i)
       (last-empty (listPieces (c .rows) r) ts
       (last-empty (blockElement (c .rows) 8 (r .exit)) (listPieces (c .rows) r ++ ts) (last-empty (blockElement (c .rows) 7 (r .entry)) (blockElement (c .rows) 8 (r .exit) ++ (listPieces (c .rows) r ++ ts)) e)))
     where

@@ -11,7 +11,7 @@ use Rattle.definition.specs.Rows.{same, all, isEmpty}
 use Rattle.definition.specs.Names.{between, isLetter, isNameByte, isName, star, dotStar, bare, isDescriptor}
 use Rattle.grammar.specs.Grammar.{isSpace, isChar, isToken, nameStep, valueStep, valueEnds}
 use Rattle.reading.specs.Faults.{spelt}
-use Rattle.names.specs.Spelling.{name-spelt} 
+use Rattle.names.specs.Spelling.{name-spelt}
 use Rattle.names.specs.Spelling.{spelt as speltBytes}
 use Rattle.laws.specs.Bools.{and-left, and-right, and-true, and-false, or-elim, no, not-so, clash, bool-case}
 use Rattle.laws.specs.Lists.{same-eq}
