@@ -1,5 +1,7 @@
 pub mod Pieces
 pub mod Begins
+pub mod BeginTags
+pub mod BeginRuns
 pub mod Walks
 pub mod Walked
 pub mod Written

@@ -12,7 +12,9 @@ use Rattle.grammar.specs.declared.Step.the-variants.{Go, Open}
 use Rattle.grammar.specs.Grammar.{isSpace, isChar, isComplete, mayEnd, after, opens, tagStep, only, stepOf, State, live, next, run}
 use Rattle.reading.specs.Tags.{Part, Shape, opening, empty, closing, Markup, Draft, noted, emitted, tagsFrom}
 use Rattle.written.specs.Pieces.{Attr, Piece, wordText, attrsOnto, textOf, further, partsAt, behindAttrs, attrsAt, pieceOnto, markupAt, behindPiece, tagsAt, draft}
-use Rattle.written.specs.Begins.{May, Behind, space, end, slash, begins, begins-run, Ends, closes, closes-run}
+use Rattle.written.specs.Begins.{May, Behind, space, end, slash, Ends, closes, closes-run}
+use Rattle.written.specs.BeginTags.{begins}
+use Rattle.written.specs.BeginRuns.{begins-run}
 use Rattle.written.specs.Walks.{Stated, lastFrom, attrs-run, attrs-tags}
 
 -- ---- the end of a start tag

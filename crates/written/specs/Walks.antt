@@ -13,7 +13,7 @@ use Rattle.grammar.specs.Grammar.{isSpace, isChar, attribute, added, isComplete
 use Rattle.reading.specs.Tags.{Part, Shape, opening, empty, closing, Markup, Draft, noted, emitted, tagsFrom}
 use Rattle.laws.specs.Bools.{and-left, and-right, no}
 use Rattle.written.specs.Pieces.{Attr, Piece, wordText, attrsOnto, textOf, further, partAt, partsAt, behindAttr, behindAttrs, attrsAt, shapeAt, behindShape, markupAt, behindPiece, tagsAt, draft, valueAt as valueFrom}
-use Rattle.written.specs.Begins.{May, Behind, space, end, slash, begins, begins-run, Follows, names, names-run, Ends, closes, closes-run}
+use Rattle.written.specs.Begins.{Follows, names, names-run}
 
 -- ---- a value
 
