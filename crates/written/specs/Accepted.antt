@@ -1,7 +1,7 @@
 -- "Reading what was written gives an equal chart" (R-4, 4.3) for every accepted chart.
 use mathlib.Core.Path.{_≡_, refl, sym, ap, ap₂, _∙_, subst}
-use mathlib.Core.Bool.{Bool, true, false, not, _&&_, _||_, cond}
-use mathlib.Core.List.{List, [], _∷_, _++_, map}
+use mathlib.Core.Bool.{true, false, not, _||_}
+use mathlib.Core.List.{List, [], _∷_, map}
 use mathlib.Core.Option.{none}
 use Prim.Native.Nat.{ℕ, zero, suc, _≤_, _<_, _+_}
 use native.Mathlib.Omega.{arith}
@@ -13,14 +13,14 @@ use Rattle.definition.specs.Rows.{from, mem, same}
 use Rattle.definition.specs.Chart.{Chart, kind, parent, isRoot}
 use Rattle.definition.specs.Tables.{noNumber, mostRows, mostTransitions, mostNames, rowCount, transitionCount, nameCount, rowCell, kindAt, parentAt, idAt, nameAt, chartOf}
 use Rattle.definition.specs.Tree.{ancestors}
-use Rattle.definition.specs.Rules.{each, countsFit, sizesFit, idDiffers, idFits, parentFits, mayStand, compiledSize, rule1, keepsRules}
-use Rattle.grammar.specs.Grammar.{inGrammar}
+use Rattle.definition.specs.Rules.{countsFit, sizesFit, idDiffers, parentFits, mayStand, compiledSize, rule1, keepsRules}
+use Rattle.grammar.specs.Grammar.{isText, inGrammar}
 use Rattle.reading.specs.Tags.{tagsOf}
 use Rattle.reading.specs.Faults.{firstFault}
-use Rattle.reading.specs.Content.{Row, Transition, Content, contentOf}
+use Rattle.reading.specs.Content.{Row, contentOf}
 use Rattle.reading.specs.Layout.{rowBack, transitionBack, content}
 use Rattle.reading.specs.Print.{idOf, print}
-use Rattle.laws.specs.Bools.{and-left, and-right, and3, and7, no, bool-case, or-elim, clash}
+use Rattle.laws.specs.Bools.{and-right, and3, and7, no, bool-case, or-elim, clash}
 use Rattle.laws.specs.Maps.{map-length}
 use Rattle.laws.specs.Loops.{each-below}
 use Rattle.laws.specs.Lists.{mem-cases}
@@ -29,7 +29,7 @@ use Rattle.accepted.specs.Sound.{accepted-rule1, accepted-sound}
 use Rattle.written.specs.Sound.{AllOf, no-more, more, RowFits, TransitionFits}
 use Rattle.written.specs.Laid.{closedRows, Laid, laid-out, lays}
 use Rattle.written.specs.Order.{Ordered}
-use Rattle.written.specs.Whole.{Differ, Sound, written-grammar, written-faultless, written-content, written-alike}
+use Rattle.written.specs.Whole.{Differ, Sound, written-text, written-grammar, written-faultless, written-content, written-alike}
 use Rattle.written.specs.TableRows.{kind-above, empty-mem}
 use Rattle.written.specs.AcceptedRows.{id-parts-of, id-is, row-fits, some-row, root-kind-is, root-fits}
 use Rattle.written.specs.AcceptedTransitions.{transition-fits, transitions-ordered}
@@ -213,6 +213,10 @@ module _ (numbers names : List ℕ) (h : keepsRules numbers names ≡ Done) wher
       by (suc m) e l = sound-by m e
 
   -- ---- what is written of an accepted chart
+
+  -- every accepted chart can be written: its text is of the grammar, whatever its length
+  pub text-stands : isText (print (content numbers names)) ≡ true
+  text-stands = written-text (content numbers names) content-sound
 
   -- of at most 32,768 bytes it is of the grammar and has no fault
   pub text-read : length (print (content numbers names)) ≤ 32768 → (inGrammar (print (content numbers names)) ≡ true) × (firstFault (tagsOf (print (content numbers names))) ≡ none)

@@ -1,33 +1,30 @@
 -- The rows of an accepted chart are such that they can be written and read back.
-use mathlib.Core.Path.{_≡_, refl, sym, ap, ap₂, _∙_, subst}
+use mathlib.Core.Path.{_≡_, refl, sym, ap, _∙_, subst}
 use mathlib.Core.Bool.{Bool, true, false, not, _&&_, _||_, cond}
-use mathlib.Core.List.{List, [], _∷_, _++_, map}
-use Prim.Native.Nat.{ℕ, zero, suc, _≤_, _<_, _+_}
+use mathlib.Core.List.{List, []}
+use Prim.Native.Nat.{ℕ, zero, suc, _≤_, _<_}
 use native.Mathlib.Omega.{arith}
-use lib.Dec.{eqb, leb, ltb}
-use lib.ListN.{length}
-use borrow.Author.Tests.{eqb-true, eqb-false, not-true}
+use lib.Dec.{eqb}
+use borrow.Author.Tests.{not-true}
 use Rattle.definition.specs.declared.Kind.{Kind}
-use Rattle.definition.specs.declared.Kind.the-variants.{Root, State, Parallel, Final, Shallow, Deep}
+use Rattle.definition.specs.declared.Kind.the-variants.{Parallel, Final, Shallow, Deep}
 use Rattle.definition.specs.declared.Answer.the-variants.{Done}
-use Rattle.definition.specs.Rows.{from, all, mem, isEmpty}
+use Rattle.definition.specs.Rows.{mem, isEmpty}
 use Rattle.definition.specs.Names.{isName, isId}
-use Rattle.definition.specs.Chart.{Chart, kind, parent, isRoot, isState, isParallel, isFinal, isHistory}
-use Rattle.definition.specs.Tables.{noNumber, rowCount, rowCell, kindOf, kindAt, parentAt, idAt, entryAt, exitAt, listAt, listBlockAt, nameAt, chartOf}
-use Rattle.definition.specs.Tree.{ancestors, isDomainKind, listed}
-use Rattle.definition.specs.Rules.{each, areApart, defaultFits, listFits, blocksFit, rowListsFit, branchesFit, rowBranchesFit, idFits, idDiffers, parentFits, mayStand, keepsRules}
-use Rattle.reading.specs.Content.{Row, Act}
-use Rattle.reading.specs.Layout.{actsAt, rowBack}
-use Rattle.laws.specs.Bools.{and-left, and-right, and3, no, clash, or-elim}
-use Rattle.laws.specs.Lists.{empty-list, mem-cases}
-use Rattle.laws.specs.Loops.{each-below}
+use Rattle.definition.specs.Chart.{Chart, kind, isRoot, isState, isHistory}
+use Rattle.definition.specs.Tables.{noNumber, rowCount, rowCell, kindOf, kindAt, idAt, entryAt, exitAt, listAt, listBlockAt, nameAt, chartOf}
+use Rattle.definition.specs.Tree.{listed}
+use Rattle.definition.specs.Rules.{each, areApart, defaultFits, listFits, blocksFit, rowListsFit, branchesFit, rowBranchesFit, idFits, idDiffers, keepsRules}
+use Rattle.reading.specs.Content.{Row}
+use Rattle.reading.specs.Layout.{rowBack}
+use Rattle.laws.specs.Bools.{and-left, and-right, and3, no}
+use Rattle.laws.specs.Lists.{empty-list}
 use Rattle.accepted.specs.NameFacts.{id-parts}
-use Rattle.accepted.specs.Tree.{Tree, root-kind, not-root, parent-fits, climb-one, low}
-use Rattle.accepted.specs.Sound.{Sound, accepted-sound}
-use Rattle.written.specs.Sound.{AllOf, no-more, more, Ref, BlockFits, Shaped, RowFits}
-use Rattle.written.specs.Laid.{closedRows, Laid, laid-out, lays}
+use Rattle.accepted.specs.Tree.{Tree, not-root}
+use Rattle.accepted.specs.Sound.{accepted-sound}
+use Rattle.written.specs.Sound.{AllOf, Ref, BlockFits, Shaped, RowFits}
 use Rattle.written.specs.TableBlocks.{accepted-root, block-fits, no-block}
-use Rattle.written.specs.TableRows.{no-list-block, no-use, history-default, list-above, not-domain, kind-zero, kind-above, all-of-mem, row-lists, row-branches, row-id, row-inside}
+use Rattle.written.specs.TableRows.{no-list-block, no-use, history-default, list-above, not-domain, kind-zero, all-of-mem, row-lists, row-branches, row-id, row-inside}
 
 module _ (numbers names : List ℕ) (h : keepsRules numbers names ≡ Done) where
   abbrev chart : Chart

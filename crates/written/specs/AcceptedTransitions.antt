@@ -1,14 +1,14 @@
 -- The transitions of an accepted chart are such that they can be written and read back.
-use mathlib.Core.Path.{_≡_, refl, sym, ap, ap₂, _∙_, subst}
+use mathlib.Core.Path.{_≡_, refl, sym, ap, _∙_, subst}
 use mathlib.Core.Bool.{Bool, true, false, not, _&&_, _||_, cond}
-use mathlib.Core.List.{List, [], _∷_, _++_, map}
-use mathlib.Core.Option.{Option, none, some}
+use mathlib.Core.List.{List, [], _∷_, map}
+use mathlib.Core.Option.{none, some}
 use Prim.Native.Nat.{ℕ, zero, suc, _≤_, _<_, _+_}
 use native.Mathlib.Omega.{arith}
 use lib.Dec.{eqb, leb, ltb}
 use lib.ListN.{length, getD, take, drop}
 use lib.Seq.{getD-drop}
-use borrow.Author.Tests.{leb-true, ltb-true, eqb-true, eqb-false, not-true}
+use borrow.Author.Tests.{leb-true, ltb-true, not-true}
 use Rattle.definition.specs.declared.Answer.the-variants.{Done}
 use Rattle.definition.specs.Rows.{from, all, mem}
 use Rattle.definition.specs.Names.{isDescriptor, zerosAfter}
@@ -16,12 +16,12 @@ use Rattle.definition.specs.Chart.{Chart, kind, isRoot}
 use Rattle.definition.specs.Tables.{noNumber, mostDescriptors, mostTargets, rowCount, transitionCount, referenceCount, descriptorCount, actionCount, nameCount, transitionCell, descriptorCell, descriptorBase, part, descriptorsAt, optional, sourceAt, conditionAt, targetsAt, transitionBlockAt, slotAt, nameAt, chartOf}
 use Rattle.definition.specs.Rules.{each, inside, optionalBelow, countsFit, sizesFit, rowInRange, transitionInRange, referenceInRange, descriptorInRange, blockFits, compiledSize, rule1, rule2, slotFits, idFits, actionNamed, areApart, isNoRoot, targetsFit, rowListsFit, rule4, isInOrder, isSourceKind, hasUse, spins, conditionFits, branchesFit, rowBranchesFit, transitionFits, transitionBranchesFit, rule5, keepsRules}
 use Rattle.reading.specs.Content.{Transition}
-use Rattle.reading.specs.Layout.{actsAt, transitionBack}
-use Rattle.laws.specs.Bools.{and-left, and-right, and3, and7, no, clash, bool-case}
+use Rattle.reading.specs.Layout.{transitionBack}
+use Rattle.laws.specs.Bools.{and-left, and-right, and3, and7, clash}
 use Rattle.laws.specs.Loops.{each-below}
 use Rattle.laws.specs.Lists.{all-mem}
-use Rattle.accepted.specs.Sound.{Sound, accepted-rule1, accepted-rule2, accepted-sound}
-use Rattle.written.specs.Sound.{AllOf, no-more, more, Always, always, Ref, BlockFits, ConditionFits, DescriptorFits, TransitionFits}
+use Rattle.accepted.specs.Sound.{accepted-rule1, accepted-rule2, accepted-sound}
+use Rattle.written.specs.Sound.{AllOf, no-more, more, always, Ref, BlockFits, ConditionFits, DescriptorFits, TransitionFits}
 use Rattle.written.specs.Order.{Ordered, none-left, ordered}
 use Rattle.written.specs.TableBlocks.{accepted-root, in-no-root, block-fits}
 use Rattle.written.specs.TableRows.{all-of-mem}

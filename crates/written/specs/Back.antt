@@ -1,16 +1,16 @@
 -- The facts that the tags of a chart say, taken together, are its rows.
-use mathlib.Core.Path.{_≡_, refl, sym, ap, ap₂, _∙_, subst}
-use mathlib.Core.Bool.{Bool, true, false, not, _&&_, _||_, cond}
-use mathlib.Core.List.{List, [], _∷_, _++_, append-nil, append-assoc, map}
-use Prim.Native.Nat.{ℕ, zero, suc, _≤_, _<_, _+_}
+use mathlib.Core.Path.{_≡_, refl, ap, ap₂, _∙_}
+use mathlib.Core.Bool.{Bool, true, false, _&&_, _||_, cond}
+use mathlib.Core.List.{List, [], _∷_, _++_}
+use Prim.Native.Nat.{ℕ, suc, _<_}
 use native.Mathlib.Omega.{arith}
 use lib.Dec.{eqb}
-use borrow.Author.Tests.{eqb-true, eq-eqb, ne-eqb}
-use Rattle.reading.specs.Content.{Act, Row, Transition, Content, Block, Fact, rowFact, listFact, transitionFact, actionFact, isBlock, actsIn, listOf, rowsFrom, ofSource}
+use borrow.Author.Tests.{eq-eqb, ne-eqb}
+use Rattle.reading.specs.Content.{Act, Row, Transition, Content, Fact, rowFact, listFact, transitionFact, actionFact, isBlock, actsIn, ofSource}
 use Rattle.reading.specs.Print.{isElementList, isHistoryKind}
 use Rattle.laws.specs.Bools.{and-false}
-use Rattle.written.specs.InnerSays.{block, actsSaid, further, transitionsSaid}
-use Rattle.written.specs.RowSays.{listFacts, attrList, innerSaid, rowsSaid}
+use Rattle.written.specs.InnerSays.{block, actsSaid, transitionsSaid}
+use Rattle.written.specs.RowSays.{listFacts, innerSaid, rowsSaid}
 
 -- ---- actions
 

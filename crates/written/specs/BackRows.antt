@@ -1,11 +1,11 @@
 -- The facts that the tags of a chart say make its rows again.
-use mathlib.Core.Path.{_≡_, refl, sym, ap, ap₂, _∙_, subst}
+use mathlib.Core.Path.{_≡_, refl, sym, ap, ap₂, _∙_}
 use mathlib.Core.Bool.{Bool, true, false, not, _&&_, _||_, cond}
-use mathlib.Core.List.{List, [], _∷_, _++_, append-nil, append-assoc, map}
-use Prim.Native.Nat.{ℕ, zero, suc, _≤_, _<_, _+_}
+use mathlib.Core.List.{List, [], _∷_, _++_, append-nil, append-assoc}
+use Prim.Native.Nat.{ℕ, zero, suc, _≤_, _<_}
 use native.Mathlib.Omega.{arith}
 use lib.Dec.{eqb}
-use borrow.Author.Tests.{eqb-true, eq-eqb, ne-eqb}
+use borrow.Author.Tests.{eq-eqb, ne-eqb}
 use Rattle.definition.specs.Rows.{isEmpty}
 use Rattle.reading.specs.Content.{Act, Row, Transition, Content, Fact, rowFact, listFact, transitionFact, actionFact, actsIn, listOf, rowsFrom, ofSource}
 use Rattle.reading.specs.Print.{isElementList, isHistoryKind}
@@ -14,7 +14,7 @@ use Rattle.laws.specs.Lists.{empty-list}
 use Rattle.written.specs.Sound.{AllOf, no-more, more, Shaped, RowFits}
 use Rattle.written.specs.InnerSays.{block, actsSaid, further, transitionsSaid}
 use Rattle.written.specs.RowSays.{listFacts, attrList, innerSaid, rowsSaid}
-use Rattle.written.specs.Back.{acts-both, acts-here, acts-there, other-part, inner-acts, cond-none, transitions-acts, Part, entry-part, exit-part, list-part, partOf, not-four, inner-other, row-skipped, rows-other}
+use Rattle.written.specs.Back.{acts-both, acts-here, acts-there, other-part, inner-acts, cond-none, transitions-acts, Part, entry-part, exit-part, list-part, partOf, inner-other, row-skipped, rows-other}
 
 -- ---- the blocks of a row
 

@@ -1,21 +1,19 @@
 -- The facts that the tags of a chart say make its transitions again, which are in order of their sources; and with its rows the chart.
-use mathlib.Core.Path.{_≡_, refl, sym, ap, ap₂, _∙_, subst}
-use mathlib.Core.Bool.{Bool, true, false, not, _&&_, _||_, cond}
-use mathlib.Core.List.{List, [], _∷_, _++_, append-nil, append-assoc, map}
-use Prim.Native.Nat.{ℕ, zero, suc, _≤_, _<_, _+_}
+use mathlib.Core.Path.{_≡_, refl, sym, ap, ap₂, _∙_}
+use mathlib.Core.Bool.{Bool, true, false, _||_, cond}
+use mathlib.Core.List.{List, [], _∷_, _++_, append-nil, append-assoc}
+use Prim.Native.Nat.{ℕ, suc, _≤_, _<_}
 use native.Mathlib.Omega.{arith}
 use lib.Dec.{eqb}
 use lib.ListN.{length}
-use borrow.Author.Tests.{eqb-true, eq-eqb, ne-eqb}
+use borrow.Author.Tests.{eqb-true}
 use Rattle.definition.specs.Rows.{flat, from}
-use Rattle.reading.specs.Content.{Act, Row, Transition, Content, Fact, rowFact, listFact, transitionFact, actionFact, actsIn, transitionsFrom, contentFrom, rowsFrom, ofSource}
+use Rattle.reading.specs.Content.{Act, Row, Transition, Content, Fact, listFact, transitionFact, actsIn, transitionsFrom, ofSource}
 use Rattle.reading.specs.Print.{isElementList, isHistoryKind}
-use Rattle.laws.specs.Bools.{bool-case, eq-case}
-use Rattle.written.specs.Sound.{AllOf, no-more, more, RowFits}
+use Rattle.written.specs.Sound.{AllOf, no-more, more}
 use Rattle.written.specs.InnerSays.{block, actsSaid, further, transitionsSaid}
 use Rattle.written.specs.RowSays.{listFacts, innerSaid, rowsSaid}
-use Rattle.written.specs.Back.{acts-both, acts-here, acts-there, other-part, other-owner, inner-acts, cond-none, four-none, row-skipped}
-use Rattle.written.specs.BackRows.{rows-again}
+use Rattle.written.specs.Back.{acts-both, acts-here, acts-there, other-part, other-owner, inner-acts, cond-none, row-skipped}
 
 -- ---- the blocks of transitions
 

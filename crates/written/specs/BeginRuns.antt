@@ -1,6 +1,6 @@
 -- How each start tag begins: the grammar's walk from between tags, at a level that may hold the element, to behind its name.
 use mathlib.Core.Path.{_≡_, refl}
-use mathlib.Core.List.{List, [], _∷_, _++_}
+use mathlib.Core.List.{List, _∷_, _++_}
 use Prim.Native.Nat.{ℕ}
 use Rattle.grammar.specs.declared.Place.the-variants.{Content, Tag}
 use Rattle.grammar.specs.Grammar.{after, live, run}

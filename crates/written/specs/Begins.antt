@@ -1,15 +1,13 @@
 -- Which tags may stand where, as they are written; and the walk from an attribute's space to its value, and over an end tag. The bytes are known, so it computes.
 use mathlib.Core.Path.{_≡_, refl}
-use mathlib.Core.Bool.{Bool, true, false}
 use mathlib.Core.List.{List, [], _∷_, _++_}
-use Prim.Native.Nat.{ℕ, suc, _+_}
+use Prim.Native.Nat.{ℕ, _+_}
 use lib.ListN.{length}
-use Rattle.grammar.specs.declared.Place.{Place}
 use Rattle.grammar.specs.declared.Place.the-variants.{Content, Tag, Value}
 use Rattle.grammar.specs.Tables.{words, menus, attrs, kinds, needed, opened, owners, ends, bits, adds}
-use Rattle.grammar.specs.Grammar.{isSpace, isChar, isToken, wordByte, agree, follows, pickFrom, pick, attribute, has, added, pickAttribute, isComplete, mayEnd, owner, after, opens, nameStep, valueStep, valueEnds, kindOf, contentStep, nameAt, lessStep, tagStep, nameStepAt, attributeAt, spaceStep, equalsStep, attributeStep, quoteStep, valueAt, valueStepAt, entityAt, entityStep, closeStep, endStep, only, stepOf, State, dead, live, next, run}
-use Rattle.reading.specs.Tags.{Part, closing, Draft, noted, emitted, tagsFrom}
-use Rattle.written.specs.Pieces.{wordText, further, draft, attrsAt}
+use Rattle.grammar.specs.Grammar.{isSpace, isChar, isToken, wordByte, agree, follows, pickFrom, pick, attribute, has, added, pickAttribute, isComplete, mayEnd, owner, after, opens, nameStep, valueStep, valueEnds, kindOf, contentStep, nameAt, lessStep, tagStep, nameStepAt, attributeAt, spaceStep, equalsStep, attributeStep, quoteStep, valueAt, valueStepAt, entityAt, entityStep, closeStep, endStep, only, stepOf, live, next, run}
+use Rattle.reading.specs.Tags.{Part, closing, noted, emitted, tagsFrom}
+use Rattle.written.specs.Pieces.{wordText, further, draft}
 
 unfoldable pub all : ℕ
 unfolding words menus attrs kinds needed opened owners ends bits adds isSpace isChar isToken wordByte agree follows pickFrom pick attribute has added pickAttribute isComplete mayEnd owner after opens nameStep valueStep valueEnds kindOf contentStep nameAt lessStep tagStep nameStepAt attributeAt spaceStep equalsStep attributeStep quoteStep valueAt valueStepAt entityAt entityStep closeStep endStep only stepOf next run noted emitted tagsFrom wordText

@@ -1,22 +1,22 @@
 -- What the tags of a block say when they are read back: its actions.
-use mathlib.Core.Path.{_≡_, refl, sym, ap, ap₂, _∙_, subst}
-use mathlib.Core.Bool.{Bool, true, false, not, _&&_, _||_, cond}
-use mathlib.Core.List.{List, [], _∷_, _++_, append-nil, append-assoc, map}
-use mathlib.Core.Option.{Option, none, some}
-use Prim.Native.Nat.{ℕ, zero, suc, _≤_, _+_}
+use mathlib.Core.Path.{_≡_, refl, sym, ap, _∙_}
+use mathlib.Core.Bool.{Bool, true, false, cond}
+use mathlib.Core.List.{List, [], _∷_, _++_, map}
+use mathlib.Core.Option.{none, some}
+use Prim.Native.Nat.{ℕ, zero, suc, _≤_}
 use native.Mathlib.Omega.{arith}
 use lib.Dec.{eqb}
 use borrow.Author.Tests.{eqb-true}
 use Rattle.definition.specs.Names.{isName}
 use Rattle.grammar.specs.Grammar.{attribute}
 use Rattle.grammar.specs.Tables.{attrs}
-use Rattle.reading.specs.Tags.{Part, opening, empty, closing, Markup}
+use Rattle.reading.specs.Tags.{Markup}
 use Rattle.reading.specs.Faults.{states, valueOf, decimal, decimalFrom, decoded, plain}
-use Rattle.reading.specs.Content.{Act, raises, hosts, ifIn, elseifIn, otherwise, endIf, sends, cancels, Row, Spot, Fact, actionFact, Turn, turn, actIn, blockOf, factsFrom, rowNamed, rowIn}
+use Rattle.reading.specs.Content.{Act, raises, hosts, ifIn, elseifIn, otherwise, endIf, sends, cancels, Row, Spot, actionFact, Turn, turn, actIn, blockOf, factsFrom, rowNamed, rowIn}
 use Rattle.reading.specs.Print.{number, idOf, isEnd, isIf}
 use Rattle.laws.specs.Bools.{no}
-use Rattle.written.specs.Pieces.{Attr, Piece, attrsAt, partsAt, markupAt, tagsAt}
-use Rattle.written.specs.Written.{attr, startTag, emptyTag, endTag, inText, delayAttr, actPiece, emptyIf, blockPieces}
+use Rattle.written.specs.Pieces.{attrsAt, partsAt, tagsAt}
+use Rattle.written.specs.Written.{attr, startTag, endTag, inText, delayAttr, actPiece, emptyIf, blockPieces}
 use Rattle.written.specs.Sound.{AllOf, no-more, more, Ref, ActFits, balanced, BlockFits}
 use Rattle.written.specs.Numbers.{digits-plain, number-decimal, plain-itself}
 use Rattle.written.specs.Items.{in-name}

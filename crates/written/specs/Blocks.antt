@@ -1,19 +1,17 @@
 -- The tags of a block, of a transition and of what stands in a row before its child rows may stand where they are written.
-use mathlib.Core.Path.{_≡_, refl, sym, ap, _∙_, subst}
-use mathlib.Core.Bool.{Bool, true, false, not, _&&_, cond}
+use mathlib.Core.Path.{_≡_, refl, sym}
+use mathlib.Core.Bool.{Bool, true, false, cond}
 use mathlib.Core.List.{List, [], _∷_, _++_}
-use mathlib.Core.Option.{Option, none, some}
-use Prim.Native.Nat.{ℕ, zero, suc, _≤_}
+use mathlib.Core.Option.{none, some}
+use Prim.Native.Nat.{ℕ, zero, suc}
 use native.Mathlib.Omega.{arith}
 use lib.Dec.{eqb}
-use lib.ListN.{length}
-use borrow.Author.Tests.{eqb-true}
 use Rattle.definition.specs.Rows.{isEmpty}
 use Rattle.definition.specs.Names.{isName}
 use Rattle.grammar.specs.Tables.{kinds, needed, opened, ends, bits, adds}
 use Rattle.grammar.specs.Grammar.{has, added, isComplete, mayEnd, after, opens, kindOf}
 use Rattle.reading.specs.Content.{Act, raises, hosts, ifIn, elseifIn, otherwise, endIf, sends, cancels, Row}
-use Rattle.reading.specs.Print.{number, idOf, isEnd, isIf, rowOfIf}
+use Rattle.reading.specs.Print.{number, idOf, isEnd, isIf}
 use Rattle.laws.specs.Bools.{no}
 use Rattle.written.specs.Pieces.{Attr, Piece}
 use Rattle.written.specs.Begins.{May, may-10-9, may-11-9, may-12-9, may-15-9, may-10-10, may-11-10, may-12-10, may-15-10, may-10-12, may-11-12, may-12-12, may-15-12, may-10-13, may-11-13, may-12-13, may-15-13, may-10-14, may-11-14, may-12-14, may-15-14, may-10-15, may-11-15, may-12-15, may-15-15, may-10-16, may-11-16, may-12-16, may-15-16, Follows, follows-9-0-0, follows-10-0-0, follows-12-0-0, follows-14-0-0, follows-15-0-2, follows-15-0-0, follows-15-4-0, follows-15-1-1, follows-15-5-1, follows-16-0-0, Ends, ends-15-12}

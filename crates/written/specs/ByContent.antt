@@ -1,20 +1,20 @@
 -- Rules 3 to 5 go by a chart's content alone.
-use mathlib.Core.Path.{_≡_, refl, sym, ap, ap₂, _∙_, subst, fun-ext}
-use mathlib.Core.Bool.{Bool, true, false, cond}
-use mathlib.Core.List.{List, [], _∷_, _++_, map}
-use mathlib.Core.Option.{Option, none, some}
-use Prim.Native.Nat.{ℕ, zero, suc, _≤_, _<_, _+_}
+use mathlib.Core.Path.{_≡_, refl, sym, ap, ap₂, _∙_, fun-ext}
+use mathlib.Core.Bool.{false}
+use mathlib.Core.List.{List, [], _∷_, map}
+use mathlib.Core.Option.{some}
+use Prim.Native.Nat.{ℕ, zero, suc, _≤_}
 use native.Mathlib.Nat.{zero-add}
 use native.Mathlib.Omega.{arith}
-use lib.Dec.{eqb, ltb}
-use lib.ListN.{length, getD, take, drop, List·getD-eq-default}
+use lib.Dec.{ltb}
+use lib.ListN.{length, getD, List·getD-eq-default}
 use borrow.Author.Tests.{le-ltb, ltb-true, ltb-false}
 use Rattle.definition.specs.declared.Action.{Action}
 use Rattle.definition.specs.declared.Action.the-variants.{Raise, Host, If, ElseIf, Else, End}
 use Rattle.definition.specs.Rows.{from}
 use Rattle.definition.specs.Chart.{Chart}
 use Rattle.definition.specs.Chart.{Row as ChartRow, Transition as ChartTransition}
-use Rattle.definition.specs.Tables.{rowCount, transitionCount, rowCell, transitionCell, actionCell, noRow, kindOf, actionOf, actionAt, part, referencesAt, descriptorsAt, blockAt, kindAt, parentAt, idAt, entryAt, exitAt, listAt, listBlockAt, sourceAt, eventsAt, conditionAt, internalAt, targetsAt, transitionBlockAt, rowAt, transitionAt, nameAt, chartOf}
+use Rattle.definition.specs.Tables.{rowCount, transitionCount, rowCell, transitionCell, actionCell, kindOf, actionOf, actionAt, part, referencesAt, descriptorsAt, blockAt, kindAt, parentAt, entryAt, exitAt, listAt, listBlockAt, sourceAt, eventsAt, conditionAt, internalAt, targetsAt, transitionBlockAt, rowAt, transitionAt, nameAt, chartOf}
 use Rattle.definition.specs.Rules.{rule3, rule4, rule5}
 use Rattle.reading.specs.Content.{Act, raises, hosts, ifIn, elseifIn, otherwise, endIf, sends, cancels, Row, Transition, Content}
 use Rattle.reading.specs.Layout.{actOf, actsAt, rowBack, transitionBack, content}

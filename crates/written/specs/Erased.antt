@@ -1,18 +1,17 @@
 -- Rules 3 to 5 do not go by names: what they say of a chart they say of it with its names left out.
-use mathlib.Core.Path.{_≡_, refl, sym, ap, ap₂, _∙_, subst}
-use mathlib.Core.Bool.{Bool, true, false, not, _&&_, _||_, cond}
-use mathlib.Core.List.{List, [], _∷_, _++_, map}
+use mathlib.Core.Path.{_≡_, refl, ap, ap₂}
+use mathlib.Core.Bool.{Bool, false, not, _&&_, _||_, cond}
+use mathlib.Core.List.{List, [], _∷_, map}
 use mathlib.Core.Option.{Option, none, some}
 use Prim.Native.Nat.{ℕ, zero, suc}
-use lib.Dec.{eqb, leb, ltb}
+use lib.Dec.{ltb}
 use lib.ListN.{length}
-use Rattle.definition.specs.declared.Kind.{Kind}
 use Rattle.definition.specs.declared.Action.{Action}
 use Rattle.definition.specs.declared.Action.the-variants.{Raise, Host, If, ElseIf, Else, End}
-use Rattle.definition.specs.Rows.{from, all, any, mem, isEmpty, first, orElse, those, keep, isIn}
-use Rattle.definition.specs.Chart.{Row, Transition, Chart, kind, parent, isRoot, isState, isParallel, isFinal, isHistory, isShallow}
+use Rattle.definition.specs.Rows.{from, all, any, mem, isEmpty}
+use Rattle.definition.specs.Chart.{Row, Transition, Chart, kind, parent, isShallow}
 use Rattle.definition.specs.Tree.{ancestors, isDescendant, isChild, children, isDomainKind, isCompound, listed, anchor}
-use Rattle.definition.specs.Rules.{each, mayStand, parentFits, isHistoryOf, needsChild, standsWell, rule3, nearestCommon, isApart, areApart, isUnder, initialFits, defaultFits, listFits, blocksFit, rowListsFit, isNoRoot, targetsFit, rule4, isInOrder, isEmptyOption, conditionFits, isSourceKind, hasUse, spins, transitionFits, awaitsElse, withElse, closed, nests, testFits, branchesFit, rowBranchesFit, transitionBranchesFit, rule5}
+use Rattle.definition.specs.Rules.{parentFits, isHistoryOf, needsChild, standsWell, rule3, nearestCommon, isApart, areApart, isUnder, initialFits, defaultFits, listFits, blocksFit, rowListsFit, isNoRoot, targetsFit, rule4, isInOrder, isEmptyOption, conditionFits, hasUse, spins, transitionFits, awaitsElse, withElse, closed, nests, testFits, branchesFit, rowBranchesFit, transitionBranchesFit, rule5}
 
 abbrev pub erase : Action → Action
 erase (Raise n) = Raise 0

@@ -1,18 +1,17 @@
 -- No value as it is written is a fault.
 use mathlib.Core.Path.{_≡_, refl, sym, ap, ap₂, _∙_, subst}
-use mathlib.Core.Bool.{Bool, true, false, not, _&&_, _||_, cond}
-use mathlib.Core.List.{List, [], _∷_, _++_, append-nil, append-assoc, map}
-use Prim.Native.Nat.{ℕ, zero, suc, _≤_, _<_, _+_}
+use mathlib.Core.Bool.{true, false, _||_}
+use mathlib.Core.List.{List, [], _∷_, _++_, map}
+use Prim.Native.Nat.{ℕ, _≤_}
 use native.Mathlib.Omega.{arith}
-use lib.Dec.{eqb, leb, ltb}
+use lib.Dec.{leb, ltb}
 use lib.ListN.{length}
 use borrow.Author.Tests.{leb-true, le-ltb}
-use Rattle.definition.specs.Rows.{same, flat, all, isEmpty}
+use Rattle.definition.specs.Rows.{same, flat}
 use Rattle.definition.specs.Names.{isName, isDescriptor, star, bare}
 use Rattle.grammar.specs.Grammar.{attribute}
 use Rattle.grammar.specs.Tables.{attrs}
-use Rattle.reading.specs.Tags.{Part}
-use Rattle.reading.specs.Faults.{Item, itemsAt, itemBytes, decoded, plain, isCondition, conditionAt, inner, isDecimal, isAmong, longFault, referenceFault, conditionFault, faultIf, partFaults, namespace, versionText, internal, deep}
+use Rattle.reading.specs.Faults.{Item, itemsAt, itemBytes, decoded, isAmong, longFault, referenceFault, conditionFault, partFaults, namespace, versionText, internal, deep}
 use Rattle.reading.specs.Content.{Row}
 use Rattle.reading.specs.Print.{number, idOf, spaced, idsText}
 use Rattle.names.specs.Spelling.{name-short}
@@ -21,10 +20,9 @@ use Rattle.laws.specs.Lists.{same-self}
 use Rattle.written.specs.Pieces.{Attr, partAt, partsAt, behindAttr, valueAt}
 use Rattle.written.specs.Written.{attr, inText}
 use Rattle.written.specs.Sound.{AllOf, no-more, more, Ref, DescriptorFits}
-use Rattle.written.specs.Spelt.{Plain}
 use Rattle.written.specs.Placed.{namespace-plain}
 use Rattle.written.specs.Numbers.{digits-plain, number-fits, plain-itself}
-use Rattle.written.specs.Items.{Solid, name-solid, descriptor-solid, items-spaced, in-begins, in-name, in-condition}
+use Rattle.written.specs.Items.{Solid, name-solid, descriptor-solid, items-spaced, in-name, in-condition}
 
 -- the attribute of element e, wherever it stands
 pub record Clean (ids : List (List ℕ)) (e : ℕ) (a : Attr) : Type 0 where

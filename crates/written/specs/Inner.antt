@@ -1,28 +1,26 @@
 -- The tags of transitions, and of what stands in a row before its child rows, may stand where they are written.
-use mathlib.Core.Path.{_≡_, refl, sym, ap, _∙_, subst}
-use mathlib.Core.Bool.{Bool, true, false, not, _&&_, cond}
+use mathlib.Core.Path.{_≡_, refl}
+use mathlib.Core.Bool.{Bool, true, false, cond}
 use mathlib.Core.List.{List, [], _∷_, _++_, map}
 use mathlib.Core.Option.{Option, none, some}
-use Prim.Native.Nat.{ℕ, zero, suc, _≤_}
+use Prim.Native.Nat.{ℕ}
 use native.Mathlib.Omega.{arith}
-use lib.Dec.{eqb}
-use lib.ListN.{length}
 use Rattle.definition.specs.Rows.{isEmpty, flat}
 use Rattle.definition.specs.Names.{isName}
 use Rattle.grammar.specs.Tables.{kinds, needed, opened, ends, bits, adds}
 use Rattle.grammar.specs.Grammar.{has, added, isComplete, mayEnd, after, opens, kindOf}
 use Rattle.reading.specs.Faults.{internal}
 use Rattle.reading.specs.Content.{Act, Row, Transition}
-use Rattle.reading.specs.Print.{idOf, spaced, idsText, isElementList}
-use Rattle.written.specs.Pieces.{Attr, Piece}
-use Rattle.written.specs.Begins.{May, may-2-1, may-3-1, may-4-1, may-5-1, may-6-1, may-7-1, may-2-2, may-3-2, may-4-2, may-5-2, may-6-2, may-7-2, may-2-3, may-3-3, may-4-3, may-5-3, may-6-3, may-7-3, may-2-4, may-3-4, may-4-4, may-5-4, may-6-4, may-7-4, may-2-6, may-3-6, may-4-6, may-5-6, may-6-6, may-7-6, may-2-7, may-3-7, may-4-7, may-5-7, may-6-7, may-7-7, may-2-8, may-3-8, may-4-8, may-5-8, may-6-8, may-7-8, may-4-5, may-8-11, Follows, follows-6-0-0, follows-6-0-1, follows-6-1-1, follows-6-0-2, follows-6-1-2, follows-6-2-2, follows-6-3-2, follows-6-0-3, follows-6-1-3, follows-6-2-3, follows-6-3-3, follows-6-4-3, follows-6-5-3, follows-6-6-3, follows-6-7-3, follows-11-0-1, Ends, ends-9-5, ends-10-6, ends-11-7, ends-12-8}
+use Rattle.reading.specs.Print.{idOf, spaced, idsText}
+use Rattle.written.specs.Pieces.{Attr}
+use Rattle.written.specs.Begins.{May, may-2-1, may-3-1, may-4-1, may-5-1, may-6-1, may-7-1, may-2-2, may-3-2, may-4-2, may-5-2, may-6-2, may-7-2, may-2-3, may-3-3, may-4-3, may-5-3, may-6-3, may-7-3, may-2-4, may-3-4, may-4-4, may-5-4, may-6-4, may-7-4, may-2-6, may-3-6, may-4-6, may-5-6, may-6-6, may-7-6, may-2-7, may-3-7, may-4-7, may-5-7, may-6-7, may-7-7, may-2-8, may-3-8, may-4-8, may-5-8, may-6-8, may-7-8, may-4-5, may-8-11, follows-6-0-0, follows-6-0-1, follows-6-1-1, follows-6-0-2, follows-6-1-2, follows-6-2-2, follows-6-3-2, follows-6-0-3, follows-6-1-3, follows-6-2-3, follows-6-3-3, follows-6-4-3, follows-6-5-3, follows-6-6-3, follows-6-7-3, follows-11-0-1, ends-9-5, ends-10-6, ends-11-7, ends-12-8}
 use Rattle.written.specs.Walks.{reads, Stated, none as no-attr, one}
-use Rattle.written.specs.Walked.{Goes, starts, stands, shuts, Fits, over, then, fits-both, fits-one}
-use Rattle.written.specs.Written.{attr, startTag, emptyTag, endTag, givenAttr, inText, blockPieces, elementPieces, typeAttr, condAttr, transitionAttrs, transitionPieces, blockElement, defaultPieces}
-use Rattle.written.specs.Sound.{AllOf, no-more, more, Always, always, Ref, BlockFits, ConditionFits, DescriptorFits, TransitionFits}
+use Rattle.written.specs.Walked.{starts, shuts, Fits, over, then, fits-both, fits-one}
+use Rattle.written.specs.Written.{attr, startTag, endTag, givenAttr, inText, blockPieces, elementPieces, typeAttr, condAttr, transitionAttrs, transitionPieces, blockElement, defaultPieces}
+use Rattle.written.specs.Sound.{AllOf, no-more, more, Always, always, Ref, BlockFits, ConditionFits, TransitionFits}
 use Rattle.written.specs.Spelt.{Plain, plain-byte}
 use Rattle.written.specs.Values.{reads-free, reads-names, reads-descriptors, NameFits}
-use Rattle.written.specs.Blocks.{BlockLevel, of-transition, of-entry, of-exit, in-plain, block-stands, element-stands}
+use Rattle.written.specs.Blocks.{of-transition, of-entry, of-exit, in-plain, block-stands, element-stands}
 
 -- the levels of rows, with their elements: a state that has its initial list takes no initial element
 pub data RowLevel : ℕ → ℕ → Type 0 where

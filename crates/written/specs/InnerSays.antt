@@ -1,26 +1,22 @@
 -- What the tags of transitions, and of what stands in a row before its child rows, say when they are read back.
-use mathlib.Core.Path.{_≡_, refl, sym, ap, ap₂, _∙_, subst}
-use mathlib.Core.Bool.{Bool, true, false, not, _&&_, _||_, cond}
-use mathlib.Core.List.{List, [], _∷_, _++_, append-nil, append-assoc, map}
+use mathlib.Core.Path.{_≡_, refl, sym, ap, ap₂, _∙_}
+use mathlib.Core.Bool.{Bool, true, false, cond}
+use mathlib.Core.List.{List, [], _∷_, _++_, append-nil, map}
 use mathlib.Core.Option.{Option, none, some}
-use Prim.Native.Nat.{ℕ, zero, suc}
-use lib.Dec.{eqb}
+use Prim.Native.Nat.{ℕ, suc}
 use Rattle.definition.specs.Rows.{isEmpty, same, flat}
 use Rattle.grammar.specs.Grammar.{attribute}
 use Rattle.grammar.specs.Tables.{attrs}
-use Rattle.reading.specs.Tags.{Part, Markup}
-use Rattle.reading.specs.Faults.{itemsAt, itemBytes, namesIn, states, valueOf, decoded, plain, internal}
-use Rattle.reading.specs.Content.{Act, Row, Transition, Content, Block, Spot, inRow, inBlock, Fact, listFact, transitionFact, actionFact, Turn, turn, actIn, blockOf, factsFrom, rowNamed, rowsIn, rowIn, ofSource}
-use Rattle.reading.specs.Print.{idOf, spaced, idsText, isElementList, isHistoryKind}
-use Rattle.laws.specs.Bools.{no, and-left}
+use Rattle.reading.specs.Faults.{namesIn, states, valueOf, decoded, plain, internal}
+use Rattle.reading.specs.Content.{Act, Row, Transition, Block, Spot, inRow, inBlock, Fact, listFact, transitionFact, actionFact, Turn, turn, actIn, rowNamed, rowsIn, rowIn}
+use Rattle.reading.specs.Print.{idOf, spaced, idsText}
 use Rattle.laws.specs.Lists.{empty-list}
-use Rattle.written.specs.Pieces.{Attr, Piece, partsAt, tagsAt}
-use Rattle.written.specs.Written.{attr, startTag, emptyTag, endTag, givenAttr, inText, blockPieces, elementPieces, typeAttr, condAttr, transitionAttrs, transitionPieces, blockElement, defaultPieces, innerPieces}
-use Rattle.written.specs.Sound.{AllOf, no-more, more, Ref, BlockFits, ConditionFits, DescriptorFits, Shaped, RowFits, TransitionFits}
+use Rattle.written.specs.Pieces.{Attr, partsAt}
+use Rattle.written.specs.Written.{attr, startTag, endTag, inText, blockPieces, elementPieces, typeAttr, condAttr, transitionAttrs, transitionPieces, blockElement, defaultPieces}
+use Rattle.written.specs.Sound.{AllOf, no-more, more, Ref, BlockFits, ConditionFits, DescriptorFits, TransitionFits}
 use Rattle.written.specs.Items.{Solid, name-solid, descriptor-solid, items-spaced}
 use Rattle.written.specs.Says.{Says, says-none, says-both, says-as, starts-says, shuts-says, element-says}
 use Rattle.written.specs.BlockSays.{Known, in-read, block-said}
-use Rattle.written.specs.Placed.{listBy}
 
 abbrev pub block : ℕ → ℕ → Block
 block p i = record { part = p; owner = i }

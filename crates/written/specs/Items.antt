@@ -1,22 +1,22 @@
 -- What the values as written read as: the items of a list, and the name in a condition.
 use mathlib.Core.Path.{_≡_, refl, sym, ap, _∙_, subst}
 use mathlib.Core.Bool.{Bool, true, false, not, _&&_, _||_, cond}
-use mathlib.Core.List.{List, [], _∷_, _++_, append-nil, append-assoc, map}
-use Prim.Native.Nat.{ℕ, zero, suc, _≤_, _+_}
+use mathlib.Core.List.{List, [], _∷_, _++_, append-nil, map}
+use Prim.Native.Nat.{ℕ, suc, _+_}
 use native.Mathlib.Omega.{arith}
 use lib.Dec.{eqb, leb}
 use lib.ListN.{length, take, drop}
-use borrow.Author.Tests.{eqb-true, leb-true}
+use borrow.Author.Tests.{eqb-true}
 use Rattle.definition.specs.Rows.{same, isEmpty}
 use Rattle.definition.specs.Names.{isName, star, dotStar, bare, isDescriptor}
 use Rattle.grammar.specs.Grammar.{isSpace, isToken}
-use Rattle.reading.specs.Faults.{Item, goesOn, grown, itemsAt, itemBytes, namesIn, spelt, apostrophe, nameBytes, conditionAt, inner, behindName, isCondition}
+use Rattle.reading.specs.Faults.{Item, goesOn, grown, itemsAt, itemBytes, spelt, apostrophe, nameBytes, conditionAt, inner, behindName, isCondition}
 use Rattle.reading.specs.Print.{spaced}
 use Rattle.laws.specs.Bools.{no, not-so, clash, and-right, or-elim}
 use Rattle.laws.specs.Lists.{same-eq}
 use Rattle.written.specs.Sound.{AllOf, no-more, more, DescriptorFits}
 use Rattle.written.specs.Spelt.{name-is-spelt}
-use Rattle.written.specs.Values.{all-both, NameFits, Bared, whole, starred, bared}
+use Rattle.written.specs.Values.{all-both, Bared, whole, starred, bared}
 
 -- ---- items
 

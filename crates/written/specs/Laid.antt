@@ -1,14 +1,13 @@
 -- Rows in document order: each stands in a row of the path that is open behind the row before it; and the path as the writer keeps it.
-use mathlib.Core.Path.{_≡_, refl, sym, ap, _∙_, subst}
+use mathlib.Core.Path.{_≡_, refl, sym, ap, _∙_}
 use mathlib.Core.Bool.{Bool, true, false, cond}
-use mathlib.Core.List.{List, [], _∷_, _++_}
-use Prim.Native.Nat.{ℕ, zero, suc, _≤_}
+use mathlib.Core.List.{List, [], _∷_}
+use Prim.Native.Nat.{ℕ, suc, _≤_}
 use lib.Dec.{eqb}
 use borrow.Author.Tests.{eqb-true, eq-eqb}
-use Rattle.definition.specs.Tables.{noNumber}
 use Rattle.reading.specs.Content.{Row, Transition, ofSource}
 use Rattle.reading.specs.Print.{hasChild}
-use Rattle.laws.specs.Bools.{no, not-so, clash}
+use Rattle.laws.specs.Bools.{not-so, clash}
 use Rattle.written.specs.Written.{Open, closedTo}
 use Rattle.written.specs.Sound.{AllOf, no-more, more}
 

@@ -1,14 +1,13 @@
 -- How long the lists and blocks of an accepted chart are.
-use mathlib.Core.Path.{_≡_, refl, sym, ap, ap₂, _∙_, subst}
-use mathlib.Core.Bool.{Bool, true, false, not, _&&_, _||_, cond}
-use mathlib.Core.List.{List, [], _∷_, _++_, map}
-use Prim.Native.Nat.{ℕ, zero, suc, _≤_, _<_, _+_, _*_}
+use mathlib.Core.Path.{_≡_, refl, sym, ap, _∙_, subst}
+use mathlib.Core.Bool.{Bool, true, false, not, _&&_}
+use mathlib.Core.List.{List, [], _∷_, map}
+use Prim.Native.Nat.{ℕ, zero, suc, _≤_, _*_}
 use native.Mathlib.Nat.{zero-add}
 use native.Mathlib.Omega.{arith}
-use lib.Dec.{eqb, leb, ltb}
-use lib.ListN.{length, take, drop, length-append}
-use borrow.Author.Tests.{leb-true, eq-eqb}
-use Rattle.definition.specs.declared.Answer.the-variants.{Done}
+use lib.Dec.{eqb}
+use lib.ListN.{length, take, length-append}
+use borrow.Author.Tests.{eq-eqb}
 use Rattle.definition.specs.Rows.{from, flat, all, mem, same}
 use Rattle.definition.specs.Chart.{Chart, isParallel, kind}
 use Rattle.definition.specs.Tree.{ancestors, anchor}

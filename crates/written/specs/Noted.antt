@@ -1,19 +1,19 @@
 -- The ids that the tags of a chart state, and that none of its tags has a fault: blocks, transitions, lists.
-use mathlib.Core.Path.{_≡_, refl, sym, ap, ap₂, _∙_, subst}
-use mathlib.Core.Bool.{Bool, true, false, not, _&&_, _||_, cond}
-use mathlib.Core.List.{List, [], _∷_, _++_, append-nil, append-assoc, map}
+use mathlib.Core.Path.{_≡_, refl, sym, ap, ap₂, _∙_}
+use mathlib.Core.Bool.{Bool, true, false, not, _&&_, cond}
+use mathlib.Core.List.{List, [], _∷_, _++_, append-assoc}
 use mathlib.Core.Option.{Option, none, some}
-use Prim.Native.Nat.{ℕ, zero, suc, _≤_}
+use Prim.Native.Nat.{ℕ, _≤_}
 use lib.Dec.{eqb}
 use Rattle.definition.specs.Rows.{isEmpty, flat}
 use Rattle.definition.specs.Names.{isName}
-use Rattle.reading.specs.Tags.{Part, Shape, opening, empty, closing, Markup}
+use Rattle.reading.specs.Tags.{Part, Shape, opening, empty, Markup}
 use Rattle.reading.specs.Faults.{idWord, states, valueOf, isRowTag, isClosing, idsOf, isAmong, faultIf, partFaults, tagFaults}
 use Rattle.reading.specs.Content.{Act, raises, hosts, ifIn, elseifIn, otherwise, endIf, sends, cancels, Row, Transition}
 use Rattle.reading.specs.Print.{number, idOf, spaced, idsText, isEnd, isIf, rowOfIf, isElementList, isHistoryKind}
-use Rattle.laws.specs.Bools.{and-left, and-right, no}
+use Rattle.laws.specs.Bools.{and-left, no}
 use Rattle.laws.specs.Lists.{flat-app}
-use Rattle.written.specs.Pieces.{Attr, Piece, attrsAt, partsAt, markupAt, tagsAt}
+use Rattle.written.specs.Pieces.{Attr, Piece, attrsAt, partsAt, tagsAt}
 use Rattle.written.specs.Written.{attr, startTag, emptyTag, endTag, givenAttr, inText, delayAttr, actPiece, emptyIf, blockPieces, elementPieces, typeAttr, condAttr, transitionAttrs, transitionPieces, blockElement, defaultPieces}
 use Rattle.written.specs.Sound.{AllOf, no-more, more, Ref, ActFits, ConditionFits, TransitionFits}
 use Rattle.written.specs.Values.{all-both}

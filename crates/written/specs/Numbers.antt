@@ -2,16 +2,15 @@
 use mathlib.Core.Path.{_≡_, refl, sym, ap, _∙_}
 use mathlib.Core.Bool.{Bool, true, false, not, _&&_, cond}
 use mathlib.Core.List.{List, [], _∷_, _++_}
-use mathlib.Core.Option.{none}
 use Prim.Native.Nat.{ℕ, zero, suc, _≤_, _<_, _+_, _*_, _-_, _/_, _%_}
 use native.Mathlib.Nat.{mod-lt, div-add-mod', zero-lt-suc}
 use native.Mathlib.Omega.{arith}
-use lib.Dec.{eqb, leb}
-use borrow.Author.Tests.{eqb-true, leb-true, le-leb}
+use lib.Dec.{leb}
+use borrow.Author.Tests.{leb-true, le-leb}
 use Rattle.definition.specs.Rows.{all, isEmpty}
 use Rattle.reading.specs.Faults.{decoded, plain, isDigit, decimalFrom, decimal, isDecimal}
 use Rattle.reading.specs.Print.{digits, number}
-use Rattle.laws.specs.Bools.{and-true, bool-case}
+use Rattle.laws.specs.Bools.{and-true}
 use Rattle.laws.specs.Lists.{all-both as every-both}
 use Rattle.written.specs.Sound.{AllOf, no-more, more}
 use Rattle.written.specs.Spelt.{Plain, plain-byte}

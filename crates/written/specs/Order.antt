@@ -1,6 +1,5 @@
 -- Transitions in order of their sources are those of each row, one row after the other; so the facts that a chart's tags say make the chart again.
 use mathlib.Core.Path.{_≡_, refl, sym, ap, ap₂, _∙_, subst}
-use mathlib.Core.Bool.{Bool, true, false, cond}
 use mathlib.Core.List.{List, [], _∷_, _++_}
 use Prim.Native.Nat.{ℕ, zero, suc, _≤_, _<_, _+_}
 use native.Mathlib.Omega.{arith}
@@ -8,12 +7,12 @@ use lib.Dec.{eqb}
 use lib.ListN.{length}
 use borrow.Author.Tests.{eqb-true, eqb-false, eq-eqb, ne-eqb}
 use Rattle.definition.specs.Rows.{flat, from}
-use Rattle.reading.specs.Content.{Row, Transition, Content, Fact, actsIn, transitionsFrom, contentFrom, rowsFrom, ofSource}
+use Rattle.reading.specs.Content.{Row, Transition, Content, Fact, transitionsFrom, contentFrom, ofSource}
 use Rattle.laws.specs.Bools.{bool-case}
-use Rattle.written.specs.Sound.{AllOf, no-more, more, RowFits}
+use Rattle.written.specs.Sound.{AllOf, RowFits}
 use Rattle.written.specs.RowSays.{rowsSaid}
 use Rattle.written.specs.BackRows.{rows-again}
-use Rattle.written.specs.BackTransitions.{Holds, rows-transitions}
+use Rattle.written.specs.BackTransitions.{rows-transitions}
 
 -- no source is below the one before it, or below lo, or at hi
 pub data Ordered (hi : ℕ) : ℕ → List Transition → Type 0 where

@@ -1,19 +1,18 @@
 -- Every name that an accepted chart uses stands in its table of names.
-use mathlib.Core.Path.{_≡_, refl, sym, ap, ap₂, _∙_, subst}
-use mathlib.Core.Bool.{Bool, true, false, not, _&&_, _||_, cond}
+use mathlib.Core.Path.{_≡_, refl, sym}
+use mathlib.Core.Bool.{true}
 use mathlib.Core.List.{List, [], _∷_, _++_, map}
 use Prim.Native.Nat.{ℕ, zero, suc, _≤_, _<_, _+_}
 use native.Mathlib.Omega.{arith}
 use lib.Dec.{eqb, leb, ltb}
-use lib.ListN.{length}
 use borrow.Author.Tests.{ltb-true, not-true}
 use Rattle.definition.specs.declared.Answer.the-variants.{Done}
 use Rattle.definition.specs.Rows.{from, flat}
 use Rattle.definition.specs.Tables.{noNumber, rowCount, transitionCount, actionCount, nameCount, rowCell, transitionCell, actionCell, actionOf, actionAt, idAt, descriptorsAt, nameAt}
 use Rattle.definition.specs.Rules.{optionalBelow, argumentFits, rowInRange, keepsRules}
-use Rattle.reading.specs.Content.{Act, Row, Transition, Content, ofSource}
+use Rattle.reading.specs.Content.{Transition, Content, ofSource}
 use Rattle.reading.specs.Layout.{actOf, actsAt, rowBack, transitionBack, content}
-use Rattle.laws.specs.Bools.{and7, no, or-elim, clash}
+use Rattle.laws.specs.Bools.{and7, or-elim, clash}
 use Rattle.written.specs.Sound.{AllOf, no-more, more}
 use Rattle.written.specs.Values.{all-both}
 use Rattle.written.specs.Laid.{all-of-source}

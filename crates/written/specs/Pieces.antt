@@ -1,5 +1,5 @@
 -- What is written, tag by tag: the text of a list of tags, and the tags that a reader is to find in it, with their offsets.
-use mathlib.Core.Bool.{Bool, true, false, cond}
+use mathlib.Core.Bool.{cond}
 use mathlib.Core.List.{List, [], _∷_, _++_}
 use Prim.Native.Nat.{ℕ, zero, suc, _+_}
 use lib.Dec.{eqb}

@@ -1,24 +1,22 @@
 -- The tag of a row, and what stands in it before its child rows, by its kind.
 use mathlib.Core.Path.{_≡_, refl, sym, ap, _∙_, subst}
 use mathlib.Core.Bool.{Bool, true, false, not, _&&_, cond}
-use mathlib.Core.List.{List, [], _∷_, _++_, map}
+use mathlib.Core.List.{List, [], _∷_, _++_}
 use Prim.Native.Nat.{ℕ, zero, suc, _≤_}
 use native.Mathlib.Omega.{arith}
-use lib.Dec.{eqb}
-use lib.ListN.{length}
-use Rattle.definition.specs.Rows.{isEmpty, flat}
+use Rattle.definition.specs.Rows.{isEmpty}
 use Rattle.definition.specs.Names.{isName}
 use Rattle.grammar.specs.Tables.{kinds, needed, opened, ends, bits, adds}
 use Rattle.grammar.specs.Grammar.{has, added, isComplete, mayEnd, after, opens, kindOf}
 use Rattle.reading.specs.Faults.{namespace, versionText, deep}
-use Rattle.reading.specs.Content.{Act, Row, Transition, Content, ofSource}
-use Rattle.reading.specs.Print.{idOf, spaced, idsText, isElementList, isHistoryKind}
-use Rattle.laws.specs.Bools.{and-left, no}
-use Rattle.written.specs.Pieces.{Attr, Piece}
+use Rattle.reading.specs.Content.{Act, Row, Content, ofSource}
+use Rattle.reading.specs.Print.{idOf, idsText, isElementList, isHistoryKind}
+use Rattle.laws.specs.Bools.{no}
+use Rattle.written.specs.Pieces.{Piece}
 use Rattle.written.specs.Begins.{May, Follows, follows-0-0-0, follows-0-1-1, follows-0-3-2, follows-1-0-0, follows-1-1-1, follows-2-0-0, follows-3-0-0, follows-4-0-0, follows-4-1-1}
-use Rattle.written.specs.Walks.{reads, Stated, none as no-attr, one, not-false}
-use Rattle.written.specs.Walked.{Goes, starts, stands, shuts, Fits, over, then, fits-both, fits-one}
-use Rattle.written.specs.Written.{attr, startTag, emptyTag, endTag, givenAttr, initialAttr, defaultPieces, listPieces, innerPieces, blockElement, transitionPieces, rowElement, kindAttrs}
+use Rattle.written.specs.Walks.{reads, Stated, none as no-attr, one}
+use Rattle.written.specs.Walked.{Fits, over, fits-both}
+use Rattle.written.specs.Written.{attr, startTag, endTag, initialAttr, defaultPieces, innerPieces, rowElement, kindAttrs}
 use Rattle.written.specs.Sound.{AllOf, no-more, more, Ref, BlockFits, Shaped, RowFits, TransitionFits}
 use Rattle.written.specs.Spelt.{Plain, plain-byte}
 use Rattle.written.specs.Values.{reads-free, reads-name}

@@ -1,14 +1,14 @@
 -- The text of a chart is the text of the tags that it is written as.
-use mathlib.Core.Path.{_≡_, refl, sym, ap, ap₂, _∙_}
+use mathlib.Core.Path.{_≡_, sym, ap, ap₂, _∙_}
 use mathlib.Core.Bool.{Bool, true, false, not, _&&_, cond}
 use mathlib.Core.List.{List, [], _∷_, _++_, append-assoc}
-use Prim.Native.Nat.{ℕ, zero, suc}
+use Prim.Native.Nat.{ℕ, suc}
 use lib.ListN.{length}
 use Rattle.definition.specs.Rows.{isEmpty}
 use Rattle.definition.specs.Tables.{noNumber}
 use Rattle.reading.specs.Content.{Row, Content}
-use Rattle.reading.specs.Print.{innerText, kindName, attributesOf, Around, closeText, closeTo, hasChild, rowsText, print}
-use Rattle.written.specs.Pieces.{Attr, Piece, wordText, attrsOnto, textOf}
+use Rattle.reading.specs.Print.{innerText, kindName, attributesOf, Around, closeTo, hasChild, rowsText, print}
+use Rattle.written.specs.Pieces.{Piece, wordText, attrsOnto, textOf}
 use Rattle.written.specs.Written.{startTag, emptyTag, innerPieces, rowElement, rowAttrs, Open, closePieces, closedTo, isBare, rowsPieces, pieces}
 use Rattle.written.specs.Texts.{text-both, text-empty}
 use Rattle.written.specs.Sound.{AllOf, no-more, more, RowFits}

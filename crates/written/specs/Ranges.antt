@@ -1,17 +1,14 @@
 -- The numbers of tables that are laid out from a content are in range, if those of the content are.
 use mathlib.Core.Path.{_≡_, refl, sym, ap, ap₂, _∙_, subst}
-use mathlib.Core.Bool.{Bool, true, false, not, _&&_, _||_, cond}
-use mathlib.Core.List.{List, [], _∷_, _++_, map}
-use mathlib.Core.Option.{Option, none, some}
+use mathlib.Core.Bool.{Bool, true, false, _&&_, cond}
+use mathlib.Core.List.{List, [], _∷_, _++_}
 use Prim.Native.Nat.{ℕ, zero, suc, _≤_, _<_, _+_, _*_}
 use native.Mathlib.Omega.{arith}
 use lib.Dec.{eqb, leb, ltb}
 use lib.ListN.{length, getD, length-append}
 use borrow.Author.Tests.{lt-ltb, le-leb, eqb-true, eqb-false}
-use Rattle.definition.specs.declared.Action.{Action}
-use Rattle.definition.specs.declared.Action.the-variants.{Raise, Host, If, ElseIf, Else, End}
 use Rattle.definition.specs.Rows.{flat}
-use Rattle.definition.specs.Tables.{noNumber, rowCount, transitionCount, referenceCount, descriptorCount, actionCount, nameCount, transitionBase, referenceBase, descriptorBase, actionBase, rowCell, transitionCell, referenceCell, descriptorCell, actionCell, actionOf, actionAt}
+use Rattle.definition.specs.Tables.{rowCount, transitionCount, referenceCount, descriptorCount, actionCount, nameCount, transitionBase, referenceBase, descriptorBase, actionBase, rowCell, transitionCell, referenceCell, descriptorCell, actionCell, actionOf, actionAt}
 use Rattle.definition.specs.Rules.{inside, optionalBelow, blockFits, rowInRange, transitionInRange, referenceInRange, descriptorInRange, argumentFits, actionInRange}
 use Rattle.reading.specs.Content.{Act, raises, hosts, ifIn, elseifIn, otherwise, endIf, sends, cancels, Row, Transition, placeOf}
 use Rattle.reading.specs.Layout.{orNone, actCells, idCell, rowActs, rowCells, transitionCells, rowList, targetList, descriptorList, transitionActs}

@@ -1,9 +1,9 @@
 -- The tables that are read from what was written of an accepted chart mean the same chart.
 use mathlib.Core.Path.{_≡_, refl, sym, ap, ap₂, _∙_, subst}
-use mathlib.Core.Bool.{Bool, true, false, not, _&&_, _||_, cond}
+use mathlib.Core.Bool.{true, false, _||_}
 use mathlib.Core.List.{List, [], _∷_, _++_, map}
 use mathlib.Core.Option.{Option, none, some}
-use Prim.Native.Nat.{ℕ, zero, suc, _≤_, _<_, _+_}
+use Prim.Native.Nat.{ℕ, zero, suc, _≤_}
 use native.Mathlib.Nat.{zero-add}
 use native.Mathlib.Omega.{arith}
 use lib.Dec.{eqb, leb}
@@ -14,30 +14,27 @@ use Rattle.definition.specs.Rows.{from, flat, isEmpty, same}
 use Rattle.definition.specs.Names.{isName, isDescriptor, star, bare}
 use Rattle.definition.specs.Tables.{mostRows, mostTransitions, mostNames, rowCount, transitionCount, nameCount, nameAt}
 use Rattle.definition.specs.Rules.{countsFit, sizesFit, compiledSize, rule1, keepsRules}
-use Rattle.grammar.specs.Grammar.{isChar, isToken}
-use Rattle.reading.specs.Tags.{Markup, tagsOf}
-use Rattle.reading.specs.Faults.{isAmong, spelt}
+use Rattle.grammar.specs.Grammar.{isChar}
+use Rattle.reading.specs.Tags.{tagsOf}
+use Rattle.reading.specs.Faults.{isAmong}
 use Rattle.reading.specs.Content.{Act, raises, hosts, ifIn, elseifIn, otherwise, endIf, sends, cancels, Row, Transition, Content, ofSource, contentOf, usesOf, fresh, slotsOf}
-use Rattle.reading.specs.Layout.{rowActs, numbersOf, namesOf, rowBack, content}
+use Rattle.reading.specs.Layout.{numbersOf, namesOf, content}
 use Rattle.reading.specs.Print.{print}
-use Rattle.laws.specs.Bools.{and-left, and-right, and7, no, or-elim, clash, not-so}
+use Rattle.laws.specs.Bools.{and-left, and-right, and7, or-elim, clash, not-so}
 use Rattle.laws.specs.Lists.{same-eq}
 use Rattle.laws.specs.Maps.{map-length}
-use Rattle.accepted.specs.Tree.{Tree}
 use Rattle.accepted.specs.Sound.{accepted-rule1, accepted-sound}
-use Rattle.written.specs.Pieces.{tagsAt}
-use Rattle.written.specs.Written.{pieces}
-use Rattle.written.specs.Sound.{AllOf, no-more, more, Always, always, ConditionFits, DescriptorFits, Shaped, RowFits, TransitionFits}
+use Rattle.written.specs.Sound.{AllOf, no-more, more, always, ConditionFits, DescriptorFits, Shaped, TransitionFits}
 use Rattle.written.specs.Spelt.{Plain, plain-byte, spelt-plain, name-is-spelt}
 use Rattle.written.specs.Values.{all-both, Bared, whole, starred, bared}
-use Rattle.written.specs.Order.{Ordered, in-order}
-use Rattle.written.specs.Whole.{Sound, written-tags, written-content}
-use Rattle.written.specs.Accepted.{content-sound, with-root, few-rows, count-rows, text-content}
+use Rattle.written.specs.Order.{in-order}
+use Rattle.written.specs.Whole.{Sound, written-tags}
+use Rattle.written.specs.Accepted.{content-sound, with-root, text-content}
 use Rattle.written.specs.AcceptedTransitions.{name-fits}
-use Rattle.written.specs.Uses.{Uses, actUses}
+use Rattle.written.specs.Uses.{actUses}
 use Rattle.written.specs.RowUses.{transitionUses, innerUses, usesFrom, pieces-use}
 use Rattle.written.specs.Origins.{Origin, used-origins}
-use Rattle.written.specs.Slots.{In, fresh-has, fresh-all, Apart, alone, fresh-apart, no-more-than, among-mapped}
+use Rattle.written.specs.Slots.{In, fresh-has, fresh-all, alone, fresh-apart, no-more-than, among-mapped}
 use Rattle.written.specs.SlotNames.{Lit, Slotted}
 use Rattle.written.specs.TablesBack.{ActNamed, RowNamed}
 use Rattle.written.specs.TableCells.{all-left, all-right}

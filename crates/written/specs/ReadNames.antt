@@ -1,31 +1,23 @@
 -- The tables that are read from what was written of an accepted chart keep rule 2.
-use mathlib.Core.Path.{_≡_, refl, sym, ap, ap₂, _∙_, subst}
-use mathlib.Core.Bool.{Bool, true, false, not, _&&_, _||_, cond}
+use mathlib.Core.Path.{_≡_, refl, sym, ap, _∙_, subst}
+use mathlib.Core.Bool.{true}
 use mathlib.Core.List.{List, [], _∷_, _++_, map}
-use Prim.Native.Nat.{ℕ, zero, suc, _≤_, _<_, _+_, _*_}
+use Prim.Native.Nat.{ℕ, zero, suc, _≤_, _<_, _+_}
 use native.Mathlib.Nat.{zero-add}
 use native.Mathlib.Omega.{arith}
-use lib.Dec.{eqb, ltb}
-use lib.ListN.{length, getD, take, drop, replicate}
-use borrow.Author.Tests.{lt-ltb, eq-eqb, eqb-true, not-true}
-use Rattle.definition.specs.declared.Answer.the-variants.{Done}
-use Rattle.definition.specs.declared.Action.{Action}
-use Rattle.definition.specs.declared.Action.the-variants.{Raise, Host, If, ElseIf, Else, End}
-use Rattle.definition.specs.Rows.{from, flat, all, isEmpty, same}
-use Rattle.definition.specs.Names.{isName, isId, isDescriptor, beforeZero, fromZero, zerosAfter}
-use Rattle.definition.specs.Tables.{noNumber, slotSize, rowCount, actionCount, nameCount, rowCell, actionCell, actionOf, actionAt, idAt, slotAt, nameAt, slotOf}
-use Rattle.definition.specs.Rules.{each, slotFits, idFits, idDiffers, raiseFits, actionNamed, rule2, keepsRules}
-use Rattle.reading.specs.Content.{Act, Row, Transition, Content, fresh}
-use Rattle.reading.specs.Layout.{actCells, idCell, rowActs, rowCells, transitionCells, transitionActs, numbersOf, namesOf, actOf, actsAt, rowBack, content}
-use Rattle.laws.specs.Bools.{and-true, and-left, and-right, no, bool-case, clash}
-use Rattle.laws.specs.Maps.{map-at, map-length}
-use Rattle.laws.specs.Loops.{each-below, below-each}
-use Rattle.lay.specs.Sizes.{slot-size, row-count, name-count, action-count}
-use Rattle.written.specs.Sound.{AllOf, no-more, more, ActFits, DescriptorFits, RowFits, TransitionFits}
-use Rattle.written.specs.Values.{all-both}
+use lib.Dec.{eqb}
+use lib.ListN.{length, take, drop, replicate}
+use Rattle.definition.specs.Rows.{from, flat, all}
+use Rattle.definition.specs.Names.{isDescriptor, beforeZero, fromZero, zerosAfter}
+use Rattle.definition.specs.Tables.{actionCount, actionCell, actionOf, actionAt, slotAt, nameAt, slotOf}
+use Rattle.definition.specs.Rules.{slotFits, raiseFits, actionNamed}
+use Rattle.reading.specs.Content.{Act}
+use Rattle.reading.specs.Layout.{namesOf, actOf, actsAt}
+use Rattle.laws.specs.Bools.{and-true}
+use Rattle.lay.specs.Sizes.{slot-size}
+use Rattle.written.specs.Sound.{AllOf, no-more, more, ActFits, DescriptorFits}
 use Rattle.written.specs.Held.{take-all}
 use Rattle.written.specs.SlotNames.{Lit, slots-drop, slot-name}
-use Rattle.written.specs.Slots.{fresh-all}
 
 -- ---- slots
 

@@ -1,43 +1,38 @@
 -- The tables that are read from what was written of an accepted chart keep rule 1.
-use mathlib.Core.Path.{_≡_, refl, sym, ap, ap₂, _∙_, subst}
-use mathlib.Core.Bool.{Bool, true, false, not, _&&_, _||_, cond}
-use mathlib.Core.List.{List, [], _∷_, _++_, map}
+use mathlib.Core.Path.{_≡_, refl, sym, ap, _∙_, subst}
+use mathlib.Core.Bool.{Bool, true, false, _&&_, _||_, cond}
+use mathlib.Core.List.{List, [], _∷_, map}
 use mathlib.Core.Option.{Option, none, some}
-use Prim.Native.Nat.{ℕ, zero, suc, _≤_, _<_, _+_, _*_}
+use Prim.Native.Nat.{ℕ, zero, suc, _≤_, _<_, _+_}
 use native.Mathlib.Nat.{zero-add}
 use native.Mathlib.Omega.{arith}
 use lib.Dec.{eqb, leb, ltb}
-use lib.ListN.{length, getD, take, drop, length-append}
-use borrow.Author.Tests.{leb-true, le-leb, lt-ltb, ltb-true, eq-eqb}
+use lib.ListN.{length, take, drop}
+use borrow.Author.Tests.{leb-true, lt-ltb}
 use Rattle.definition.specs.declared.Answer.the-variants.{Done}
-use Rattle.definition.specs.Rows.{from, flat, all, isEmpty}
-use Rattle.definition.specs.Chart.{Chart}
-use Rattle.definition.specs.Tables.{noNumber, mostRows, mostTransitions, mostNames, rowCount, transitionCount, referenceCount, descriptorCount, actionCount, nameCount, tablesSize, transitionBase, referenceBase, descriptorBase, actionBase, rowCell, transitionCell, actionCell, part, referencesAt, descriptorsAt, listAt, nameAt, chartOf}
-use Rattle.definition.specs.Tree.{listed}
-use Rattle.definition.specs.Rules.{each, inside, optionalBelow, countsFit, sizesFit, compiledSize, blockFits, rowInRange, transitionInRange, referenceInRange, descriptorInRange, actionInRange, areApart, listFits, blocksFit, rowListsFit, rule1, keepsRules}
+use Rattle.definition.specs.Rows.{from, flat, isEmpty}
+use Rattle.definition.specs.Tables.{noNumber, rowCount, transitionCount, referenceCount, descriptorCount, actionCount, nameCount, referenceBase, descriptorBase, rowCell, transitionCell, actionCell, part, referencesAt, descriptorsAt, nameAt}
+use Rattle.definition.specs.Rules.{each, inside, optionalBelow, countsFit, sizesFit, compiledSize, blockFits, rowInRange, transitionInRange, rule1, keepsRules}
 use Rattle.reading.specs.Content.{Act, raises, hosts, ifIn, elseifIn, otherwise, endIf, sends, cancels, Row, Transition, Content, placeOf}
-use Rattle.reading.specs.Layout.{orNone, actCells, idCell, rowActs, rowList, targetList, descriptorList, transitionActs, numbersOf, namesOf, actOf, actsAt, rowBack, transitionBack, content}
-use Rattle.laws.specs.Bools.{and-true, and-left, and-right, and3, and7}
+use Rattle.reading.specs.Layout.{orNone, idCell, rowActs, rowList, targetList, descriptorList, transitionActs, actOf, actsAt, rowBack, transitionBack, content}
+use Rattle.laws.specs.Bools.{and-left, and-right, and7}
 use Rattle.laws.specs.Maps.{map-length}
-use Rattle.laws.specs.Loops.{each-below, below-each}
-use Rattle.accepted.specs.Sound.{accepted-rule1, accepted-sound}
-use Rattle.lay.specs.Sizes.{row-count, transition-count, reference-count, descriptor-count, action-count, name-count, tables-size, names-size}
+use Rattle.laws.specs.Loops.{each-below}
+use Rattle.accepted.specs.Sound.{accepted-rule1}
+use Rattle.lay.specs.Sizes.{row-count, name-count}
 use Rattle.written.specs.Sound.{AllOf, no-more, more, Always, always, Ref, ActFits, ConditionFits, RowFits, TransitionFits}
 use Rattle.written.specs.Values.{all-both}
-use Rattle.written.specs.Whole.{Sound, all-fit}
-use Rattle.written.specs.Accepted.{count-rows, few-rows}
-use Rattle.written.specs.TableBlocks.{accepted-root, Acts, act-stands, look, all-from}
-use Rattle.written.specs.TableRows.{row-range, row-lists, row-inside}
+use Rattle.written.specs.TableBlocks.{accepted-root, act-stands, look}
+use Rattle.written.specs.TableRows.{row-range, row-inside}
 use Rattle.written.specs.AcceptedTransitions.{transition-inside}
 use Rattle.written.specs.SlotNames.{Slotted, place-low}
 use Rattle.written.specs.TablesBack.{ActNamed, RowNamed}
 use Rattle.written.specs.TableTransitions.{TransitionNamed}
-use Rattle.written.specs.TableContent.{rows-held, transitions-held, refs-held, events-held, acts-held}
-use Rattle.written.specs.ReadBack.{s, rows-have, transitions-named, transitions-speak, slots-few, few-names}
+use Rattle.written.specs.ReadBack.{s, rows-have}
 use Rattle.written.specs.ReadNames.{all-mapped-at}
-use Rattle.written.specs.ReadRule2.{chart, own, newNumbers, newNames, count, acts, acts-fit, acts-have, rows-count}
-use Rattle.written.specs.Ranges.{Below, references-in, descriptors-in, ActOK, actions-in, RowOK, rows-in, TransitionOK, transitions-in}
-use Rattle.written.specs.Limits.{Most, flat-most, take-most, map-most, list-most}
+use Rattle.written.specs.ReadRule2.{chart, own, newNumbers, count, acts, acts-fit, acts-have, rows-count}
+use Rattle.written.specs.Ranges.{Below, ActOK, RowOK, TransitionOK}
+use Rattle.written.specs.Limits.{take-most, map-most}
 
 pub all-built : {A : Type 0} {P : A → Type 0} (f : ℕ → A) (k i : ℕ) → ((j : ℕ) → i ≤ j → j < i + k → P (f j)) → AllOf P (map f (from k i))
 unfolding from

@@ -2,27 +2,27 @@
 use mathlib.Core.Path.{_≡_, refl, sym, ap, ap₂, _∙_, subst}
 use mathlib.Core.Bool.{Bool, true, false, not, _&&_, _||_, cond}
 use mathlib.Core.List.{List, [], _∷_, _++_, map}
-use Prim.Native.Nat.{ℕ, zero, suc, _≤_, _<_, _+_, _*_}
+use Prim.Native.Nat.{ℕ, zero, suc, _<_}
 use native.Mathlib.Nat.{zero-add}
 use native.Mathlib.Omega.{arith}
-use lib.Dec.{eqb, ltb}
+use lib.Dec.{eqb}
 use lib.ListN.{length, getD}
-use borrow.Author.Tests.{lt-ltb, eq-eqb, eqb-true}
+use borrow.Author.Tests.{lt-ltb}
 use Rattle.definition.specs.declared.Answer.the-variants.{Done}
-use Rattle.definition.specs.Rows.{from, flat, all, isEmpty, same}
+use Rattle.definition.specs.Rows.{from, flat, isEmpty, same}
 use Rattle.definition.specs.Names.{isName, isId}
 use Rattle.definition.specs.Tables.{noNumber, rowCount, actionCount, nameCount, rowCell, idAt, nameAt}
 use Rattle.definition.specs.Rules.{each, slotFits, idFits, idDiffers, actionNamed, rule2, keepsRules}
-use Rattle.reading.specs.Content.{Act, Row, Transition, Content, fresh}
-use Rattle.reading.specs.Layout.{actCells, idCell, rowActs, rowCells, transitionActs, numbersOf, namesOf, actsAt, rowBack, content}
-use Rattle.laws.specs.Bools.{and-true, and-left, and-right, no, bool-case, clash, or-right}
-use Rattle.laws.specs.Maps.{map-at, map-length}
+use Rattle.reading.specs.Content.{Act, Row, Transition, Content}
+use Rattle.reading.specs.Layout.{idCell, rowActs, rowCells, transitionActs, numbersOf, namesOf, actsAt, rowBack, content}
+use Rattle.laws.specs.Bools.{and-true, clash}
+use Rattle.laws.specs.Maps.{map-at}
 use Rattle.laws.specs.Loops.{each-below, below-each}
 use Rattle.lay.specs.Sizes.{row-count, name-count, action-count}
 use Rattle.written.specs.Sound.{AllOf, no-more, more, ActFits, Shaped, RowFits, TransitionFits}
 use Rattle.written.specs.Values.{all-both}
-use Rattle.written.specs.Whole.{Sound, all-fit}
-use Rattle.written.specs.Accepted.{content-sound, count-rows}
+use Rattle.written.specs.Whole.{all-fit}
+use Rattle.written.specs.Accepted.{count-rows}
 use Rattle.written.specs.AcceptedRows.{id-parts-of, id-is}
 use Rattle.written.specs.Slots.{fresh-all}
 use Rattle.written.specs.Origins.{Origin}

@@ -1,37 +1,36 @@
 -- The tables that are read from what was written of an accepted chart keep rule 1: counts, sizes, ranges.
-use mathlib.Core.Path.{_≡_, refl, sym, ap, ap₂, _∙_, subst}
-use mathlib.Core.Bool.{Bool, true, false, _&&_}
+use mathlib.Core.Path.{_≡_, refl}
+use mathlib.Core.Bool.{Bool, true, _&&_}
 use mathlib.Core.List.{List, [], _∷_, _++_, map}
-use Prim.Native.Nat.{ℕ, zero, suc, _≤_, _<_, _+_, _*_}
+use Prim.Native.Nat.{ℕ, _≤_, _<_, _+_, _*_}
 use native.Mathlib.Omega.{arith}
-use lib.Dec.{eqb, leb}
+use lib.Dec.{leb}
 use lib.ListN.{length, length-append}
 use borrow.Author.Tests.{leb-true, le-leb, eq-eqb}
 use Rattle.definition.specs.declared.Answer.the-variants.{Done}
-use Rattle.definition.specs.Rows.{from, flat}
-use Rattle.definition.specs.Chart.{Chart}
+use Rattle.definition.specs.Rows.{flat}
 use Rattle.definition.specs.Tables.{mostRows, mostTransitions, mostNames, rowCount, transitionCount, referenceCount, descriptorCount, actionCount, nameCount, tablesSize, transitionBase, referenceBase, descriptorBase, actionBase, listAt, chartOf}
 use Rattle.definition.specs.Tree.{listed}
 use Rattle.definition.specs.Rules.{each, countsFit, sizesFit, compiledSize, rowInRange, transitionInRange, referenceInRange, descriptorInRange, actionInRange, areApart, listFits, blocksFit, rowListsFit, rule1, keepsRules}
-use Rattle.reading.specs.Content.{Act, Row, Transition, Content, placeOf}
-use Rattle.reading.specs.Layout.{rowActs, rowList, targetList, descriptorList, transitionActs, numbersOf, namesOf, rowBack, transitionBack, content}
+use Rattle.reading.specs.Content.{Row, Transition, Content, placeOf}
+use Rattle.reading.specs.Layout.{rowActs, rowList, targetList, descriptorList, transitionActs, rowBack, content}
 use Rattle.laws.specs.Bools.{and3, and7}
 use Rattle.laws.specs.Loops.{below-each}
 use Rattle.accepted.specs.Sound.{accepted-rule1}
 use Rattle.lay.specs.Sizes.{row-count, transition-count, reference-count, descriptor-count, action-count, name-count, tables-size, names-size}
-use Rattle.written.specs.Sound.{AllOf, no-more, more, Ref, RowFits, TransitionFits}
+use Rattle.written.specs.Sound.{AllOf, no-more, more}
 use Rattle.written.specs.Values.{all-both}
-use Rattle.written.specs.Held.{Holds, holds-at}
-use Rattle.written.specs.Whole.{Sound, all-fit}
+use Rattle.written.specs.Held.{holds-at}
+use Rattle.written.specs.Whole.{all-fit}
 use Rattle.written.specs.Accepted.{count-rows, few-rows}
 use Rattle.written.specs.AcceptedRows.{some-row, list-refs}
 use Rattle.written.specs.TableRows.{row-lists}
 use Rattle.written.specs.TableContent.{rows-held, transitions-held, refs-held, events-held, acts-held}
 use Rattle.written.specs.ReadBack.{s, transitions-named, transitions-speak, slots-few, few-names}
-use Rattle.written.specs.ReadRule2.{chart, own, newNumbers, newNames, count, acts, rows-count}
-use Rattle.written.specs.Ranges.{Below, references-in, descriptors-in, actions-in, RowOK, rows-in, TransitionOK, transitions-in}
+use Rattle.written.specs.ReadRule2.{chart, own, newNumbers, newNames, count, acts}
+use Rattle.written.specs.Ranges.{references-in, descriptors-in, actions-in, RowOK, rows-in, TransitionOK, transitions-in}
 use Rattle.written.specs.Limits.{Most, flat-most, map-most, list-most}
-use Rattle.written.specs.ReadRule1.{all-built, lists-below, targets-below, places-below, events-slotted, rows-ok, transitions-ok, actions-ok, rows-number, names-are, transitions-many, row-ok}
+use Rattle.written.specs.ReadRule1.{all-built, lists-below, targets-below, places-below, events-slotted, rows-ok, transitions-ok, actions-ok, rows-number, names-are, transitions-many}
 
 all-seven : (a b c d e f g : Bool) → a ≡ true → b ≡ true → c ≡ true → d ≡ true → e ≡ true → f ≡ true → g ≡ true → (a && b && c && d && e && f && g) ≡ true
 all-seven a b c d e f g p q r s t u v = rw (p, q, r, s, t, u, v)

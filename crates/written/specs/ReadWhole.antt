@@ -1,8 +1,8 @@
 -- "Reading what was written gives an equal chart" (R-4, 4.3), "writing twice changes nothing" (4.4): the reader's answer to what was written of an accepted chart.
-use mathlib.Core.Path.{_≡_, refl, sym, ap, ap₂, _∙_, subst}
-use mathlib.Core.Bool.{Bool, true, false, not, cond}
+use mathlib.Core.Path.{_≡_, refl, ap, ap₂, _∙_}
+use mathlib.Core.Bool.{Bool, true, cond}
 use mathlib.Core.List.{List}
-use mathlib.Core.Option.{Option, none, some}
+use mathlib.Core.Option.{Option}
 use Prim.Native.Nat.{ℕ, _≤_}
 use lib.ListN.{length}
 use Rattle.definition.specs.declared.Answer.{Answer}
@@ -14,10 +14,9 @@ use Rattle.grammar.specs.Grammar.{inGrammar, grammarFault}
 use Rattle.reading.specs.Tags.{tagsOf}
 use Rattle.reading.specs.Faults.{firstFault}
 use Rattle.reading.specs.Content.{Content, contentOf, slotsOf}
-use Rattle.reading.specs.Layout.{numbersOf, namesOf, Reading, faulty, tables, judged, meaning, searched, readOf, content}
+use Rattle.reading.specs.Layout.{numbersOf, namesOf, faulty, tables, judged, meaning, searched, readOf, content}
 use Rattle.reading.specs.Print.{print}
-use Rattle.accepted.specs.Tree.{Tree}
-use Rattle.accepted.specs.Sound.{Sound, accepted-sound}
+use Rattle.accepted.specs.Sound.{accepted-sound}
 use Rattle.written.specs.Accepted.{text-read, text-content}
 use Rattle.written.specs.ReadBack.{slots-are, tables-back}
 use Rattle.written.specs.ByContent.{rule-3-alike, rule-4-alike, rule-5-alike}

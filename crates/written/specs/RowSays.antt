@@ -1,28 +1,25 @@
 -- What the tags of a chart's rows say when they are read back.
-use mathlib.Core.Path.{_≡_, refl, sym, ap, ap₂, _∙_, subst}
-use mathlib.Core.Bool.{Bool, true, false, not, _&&_, _||_, cond}
-use mathlib.Core.List.{List, [], _∷_, _++_, append-nil, append-assoc, map}
+use mathlib.Core.Path.{_≡_, refl, sym, ap, ap₂, _∙_}
+use mathlib.Core.Bool.{Bool, true, false, _||_, cond}
+use mathlib.Core.List.{List, [], _∷_, _++_, append-nil}
 use Prim.Native.Nat.{ℕ, zero, suc}
 use lib.Dec.{eqb}
-use Rattle.definition.specs.Rows.{isEmpty, same, flat}
-use Rattle.definition.specs.Names.{isName}
+use Rattle.definition.specs.Rows.{isEmpty, same}
 use Rattle.definition.specs.Tables.{noNumber}
 use Rattle.grammar.specs.Grammar.{attribute}
 use Rattle.grammar.specs.Tables.{attrs}
-use Rattle.reading.specs.Tags.{Part, Markup}
-use Rattle.reading.specs.Faults.{itemsAt, itemBytes, namesIn, states, valueOf, decoded, plain, namespace, versionText, deep}
-use Rattle.reading.specs.Content.{Act, Row, Transition, Content, Spot, inRow, inBlock, Fact, rowFact, listFact, Turn, turn, factsFrom, rowOf, rowsIn, ofSource}
-use Rattle.reading.specs.Print.{idOf, idsText, isElementList, isHistoryKind, hasChild}
-use Rattle.laws.specs.Bools.{no, and-left}
-use Rattle.laws.specs.Lists.{empty-list}
-use Rattle.written.specs.Pieces.{Attr, Piece, partsAt, tagsAt}
-use Rattle.written.specs.Written.{attr, startTag, emptyTag, endTag, givenAttr, initialAttr, defaultPieces, listPieces, innerPieces, rowElement, kindAttrs, rowAttrs, Open, closePieces, closedTo, isBare, rowsPieces}
+use Rattle.reading.specs.Faults.{itemsAt, states, valueOf, decoded, namespace, versionText, deep}
+use Rattle.reading.specs.Content.{Row, Transition, Content, Spot, inRow, Fact, rowFact, listFact, Turn, turn, factsFrom, rowOf, rowsIn, ofSource}
+use Rattle.reading.specs.Print.{idsText, isElementList, isHistoryKind}
+use Rattle.laws.specs.Bools.{no}
+use Rattle.written.specs.Pieces.{Piece, partsAt, tagsAt}
+use Rattle.written.specs.Written.{attr, startTag, endTag, defaultPieces, innerPieces, rowElement, kindAttrs, Open, closePieces, closedTo}
 use Rattle.written.specs.Sound.{AllOf, no-more, more, Ref, BlockFits, Shaped, RowFits, TransitionFits}
-use Rattle.written.specs.Says.{Says, says-none, says-both, says-as, starts-says, stands-says, shuts-says, tags-both, behindAll}
+use Rattle.written.specs.Says.{Says, says-none, says-both, shuts-says, tags-both, behindAll}
 use Rattle.written.specs.BlockSays.{Known}
 use Rattle.written.specs.InnerSays.{actsSaid, further, transitionsSaid, transitions-say, entry-says, exit-says, default-says, initial-says, given-whole, rows-read}
 use Rattle.written.specs.Placed.{listBy}
-use Rattle.written.specs.Laid.{Laid, laid-out, lays, rowsOf, Joined, level, beside, parent-open, all-closed, all-of-source}
+use Rattle.written.specs.Laid.{all-of-source}
 
 -- what an initial element or a default transition says
 abbrev pub listFacts : ℕ → Row → ℕ → List Fact

@@ -1,21 +1,20 @@
 -- The text of a chart is the text of the tags that it is written as: transitions, rows, the whole.
 use mathlib.Core.Path.{_≡_, refl, sym, ap, ap₂, _∙_}
 use mathlib.Core.Bool.{Bool, true, false, not, _&&_, _||_, cond}
-use mathlib.Core.List.{List, [], _∷_, _++_, append-assoc, append-nil, map}
+use mathlib.Core.List.{List, [], _∷_, _++_, append-assoc}
 use mathlib.Core.Option.{Option, none, some}
 use Prim.Native.Nat.{ℕ, zero, suc}
-use lib.Dec.{eqb, leb}
+use lib.Dec.{eqb}
 use Rattle.definition.specs.Rows.{flat, isEmpty}
 use Rattle.definition.specs.Names.{isName}
-use Rattle.definition.specs.Tables.{noNumber}
 use Rattle.grammar.specs.Grammar.{attribute}
 use Rattle.grammar.specs.Tables.{attrs}
 use Rattle.reading.specs.Faults.{namespace, versionText, internal, deep}
 use Rattle.reading.specs.Content.{Act, Row, Transition, Content, ofSource}
-use Rattle.reading.specs.Print.{spaced, quoted, given, condition, blockText, element, idsText, conditionText, transitionText, blockElement, isHistoryKind, defaultText, isElementList, listText, innerText, kindName, initialText, attributesOf, Around, closeText, closeTo, hasChild, rowsText, print}
-use Rattle.written.specs.Pieces.{Attr, Piece, wordText, attrsOnto, pieceOnto, textOf}
-use Rattle.written.specs.Written.{attr, startTag, emptyTag, endTag, givenAttr, inText, blockPieces, elementPieces, typeAttr, condAttr, transitionAttrs, transitionPieces, blockElement as blockPiecesOf, defaultPieces, listPieces, innerPieces, rowElement, initialAttr, kindAttrs, rowAttrs, Open, closePieces, closedTo, isBare, rowsPieces, pieces}
-use Rattle.written.specs.Texts.{onto, text-both, text-empty, attrs-both, value-onto, given-onto, block-text, element-text}
+use Rattle.reading.specs.Print.{spaced, quoted, given, condition, blockText, element, idsText, conditionText, transitionText, blockElement, isHistoryKind, defaultText, isElementList, listText, innerText, kindName, attributesOf, Around, closeText, closeTo}
+use Rattle.written.specs.Pieces.{Attr, Piece, wordText, attrsOnto, textOf}
+use Rattle.written.specs.Written.{attr, startTag, endTag, givenAttr, inText, blockPieces, elementPieces, typeAttr, condAttr, transitionAttrs, transitionPieces, blockElement as blockPiecesOf, defaultPieces, listPieces, innerPieces, rowElement, initialAttr, kindAttrs, rowAttrs, Open, closePieces, closedTo}
+use Rattle.written.specs.Texts.{text-both, attrs-both, value-onto, given-onto, block-text, element-text}
 use Rattle.written.specs.Sound.{Shaped}
 
 -- ---- transitions

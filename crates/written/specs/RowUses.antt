@@ -1,25 +1,23 @@
 -- The names that the tags of a chart use, in the order of the text: rows and transitions.
 use mathlib.Core.Path.{_≡_, refl, sym, ap, ap₂, _∙_, subst}
-use mathlib.Core.Bool.{Bool, true, false, not, _&&_, _||_, cond}
-use mathlib.Core.List.{List, [], _∷_, _++_, append-nil, append-assoc, map}
+use mathlib.Core.Bool.{Bool, true, false, _||_, cond}
+use mathlib.Core.List.{List, [], _∷_, _++_, append-nil}
 use mathlib.Core.Option.{Option, none, some}
 use Prim.Native.Nat.{ℕ, zero, suc, _≤_}
 use native.Mathlib.Omega.{arith}
 use lib.Dec.{eqb}
 use Rattle.definition.specs.Rows.{isEmpty, flat}
-use Rattle.definition.specs.Names.{isName}
 use Rattle.definition.specs.Tables.{noNumber}
 use Rattle.grammar.specs.Grammar.{attribute}
 use Rattle.grammar.specs.Tables.{attrs}
-use Rattle.reading.specs.Tags.{Markup}
 use Rattle.reading.specs.Faults.{itemsAt, namesIn, namespace, versionText, internal, deep}
-use Rattle.reading.specs.Content.{Act, Row, Transition, Content, ofSource, usesIn, usesOf}
-use Rattle.reading.specs.Print.{idOf, spaced, idsText, isElementList, isHistoryKind}
+use Rattle.reading.specs.Content.{Act, Row, Transition, Content, ofSource, usesOf}
+use Rattle.reading.specs.Print.{spaced, idsText, isElementList, isHistoryKind}
 use Rattle.laws.specs.Bools.{no, and-left}
 use Rattle.laws.specs.Lists.{empty-list}
-use Rattle.written.specs.Pieces.{Attr, Piece, partsAt, tagsAt}
+use Rattle.written.specs.Pieces.{Piece, partsAt, tagsAt}
 use Rattle.written.specs.Written.{attr, startTag, emptyTag, endTag, givenAttr, initialAttr, inText, blockPieces, elementPieces, typeAttr, condAttr, transitionAttrs, transitionPieces, blockElement, defaultPieces, innerPieces, rowElement, kindAttrs, rowAttrs, Open, closePieces, closedTo, isBare, rowsPieces, pieces}
-use Rattle.written.specs.Sound.{AllOf, no-more, more, ActFits, BlockFits, DescriptorFits, Shaped, TransitionFits, RowFits}
+use Rattle.written.specs.Sound.{AllOf, no-more, more, ActFits, DescriptorFits, Shaped, TransitionFits, RowFits}
 use Rattle.written.specs.InnerSays.{descriptors-read}
 use Rattle.written.specs.Placed.{listBy}
 use Rattle.written.specs.Laid.{Laid, laid-out, lays, all-of-source}

@@ -1,7 +1,7 @@
 -- The tags of a chart state the ids of its rows, in order, and none of them has a fault.
 use mathlib.Core.Path.{_≡_, refl, sym, ap, ap₂, _∙_, subst}
 use mathlib.Core.Bool.{Bool, true, false, not, _&&_, _||_, cond}
-use mathlib.Core.List.{List, [], _∷_, _++_, append-nil, append-assoc, map}
+use mathlib.Core.List.{List, [], _∷_, _++_}
 use Prim.Native.Nat.{ℕ, zero, suc, _≤_}
 use native.Mathlib.Omega.{arith}
 use lib.Dec.{eqb}
@@ -10,12 +10,12 @@ use Rattle.definition.specs.Names.{isName}
 use Rattle.definition.specs.Tables.{noNumber}
 use Rattle.grammar.specs.Grammar.{attribute}
 use Rattle.grammar.specs.Tables.{attrs}
-use Rattle.reading.specs.Tags.{Part, Shape, opening, empty, closing, Markup}
+use Rattle.reading.specs.Tags.{Part, Shape, opening, empty, Markup}
 use Rattle.reading.specs.Faults.{idWord, states, valueOf, isRowTag, isClosing, idsOf, isAmong, faultIf, partFaults, tagFaults, deep}
-use Rattle.reading.specs.Content.{Row, Transition, Content, ofSource}
-use Rattle.reading.specs.Print.{idOf, idsText, isElementList, isHistoryKind}
-use Rattle.written.specs.Pieces.{Attr, Piece, attrsAt, partsAt, partAt, behindAttr, markupAt, tagsAt}
-use Rattle.written.specs.Written.{attr, startTag, emptyTag, endTag, givenAttr, initialAttr, innerPieces, rowElement, kindAttrs, rowAttrs, Open, closePieces, closedTo, isBare, rowsPieces, pieces}
+use Rattle.reading.specs.Content.{Row, Content, ofSource}
+use Rattle.reading.specs.Print.{idOf, idsText, isElementList}
+use Rattle.written.specs.Pieces.{Attr, attrsAt, partsAt, behindAttr, tagsAt}
+use Rattle.written.specs.Written.{attr, startTag, emptyTag, endTag, initialAttr, innerPieces, rowElement, kindAttrs, rowAttrs, Open, closePieces, closedTo, isBare, rowsPieces, pieces}
 use Rattle.written.specs.Sound.{AllOf, no-more, more, Ref, Shaped, RowFits, TransitionFits}
 use Rattle.written.specs.Laid.{Laid, laid-out, lays, all-of-source}
 use Rattle.written.specs.Faultless.{Clean, clean-parts, state-id, parallel-id, final-id, history-id, name-clean, deep-clean, namespace-clean, version-clean, Listed, root-initial, state-initial, list-clean}

@@ -1,22 +1,20 @@
 -- The rows of a chart as written say themselves, each with its parent, and what stands in it.
-use mathlib.Core.Path.{_≡_, refl, sym, ap, ap₂, _∙_, subst}
-use mathlib.Core.Bool.{Bool, true, false, not, _&&_, _||_, cond}
-use mathlib.Core.List.{List, [], _∷_, _++_, append-nil, append-assoc}
+use mathlib.Core.Path.{_≡_, refl, sym, ap, ap₂, _∙_}
+use mathlib.Core.Bool.{Bool, true, false, not, cond}
+use mathlib.Core.List.{List, [], _∷_, _++_}
 use Prim.Native.Nat.{ℕ, zero, suc}
 use lib.Dec.{eqb}
-use lib.ListN.{length}
 use Rattle.definition.specs.Rows.{isEmpty, flat}
 use Rattle.definition.specs.Tables.{noNumber}
-use Rattle.reading.specs.Tags.{Markup}
-use Rattle.reading.specs.Content.{Row, Transition, Content, Spot, inRow, Fact, rowFact, Turn, turn, factsFrom, ofSource}
+use Rattle.reading.specs.Content.{Row, Transition, Content, Spot, inRow, Fact, rowFact, turn, factsFrom, ofSource}
 use Rattle.reading.specs.Print.{isHistoryKind, hasChild}
 use Rattle.laws.specs.Bools.{no, and-left, and-right}
 use Rattle.laws.specs.Lists.{empty-list}
-use Rattle.written.specs.Pieces.{Attr, Piece, partsAt, tagsAt}
-use Rattle.written.specs.Written.{blockElement, listPieces, startTag, emptyTag, endTag, blockPieces, transitionAttrs, transitionPieces, innerPieces, rowElement, kindAttrs, rowAttrs, Open, closePieces, closedTo, isBare, rowsPieces, pieces}
+use Rattle.written.specs.Pieces.{Piece, partsAt, tagsAt}
+use Rattle.written.specs.Written.{blockElement, listPieces, startTag, emptyTag, endTag, blockPieces, transitionAttrs, transitionPieces, innerPieces, rowElement, rowAttrs, Open, closePieces, closedTo, isBare, rowsPieces, pieces}
 use Rattle.written.specs.Sound.{AllOf, no-more, more, RowFits, TransitionFits}
 use Rattle.written.specs.Walks.{not-false}
-use Rattle.written.specs.Says.{Says, says-none, says-both, says-as, starts-says, stands-says}
+use Rattle.written.specs.Says.{says-both, starts-says, stands-says}
 use Rattle.written.specs.BlockSays.{Known}
 use Rattle.written.specs.InnerSays.{further}
 use Rattle.written.specs.RowSays.{attrList, innerSaid, rowsSaid, rowTurn, row-turn, inner-says, spots, Ends, close-says, says-then, says-last}

@@ -1,26 +1,15 @@
 -- What the tags of blocks and elements say when they are read back.
-use mathlib.Core.Path.{_≡_, refl, sym, ap, ap₂, _∙_, subst}
-use mathlib.Core.Bool.{Bool, true, false, not, _&&_, _||_, cond}
-use mathlib.Core.List.{List, [], _∷_, _++_, append-nil, append-assoc, map}
-use mathlib.Core.Option.{Option, none, some}
-use Prim.Native.Nat.{ℕ, zero, suc, _≤_, _+_}
-use native.Mathlib.Omega.{arith}
+use mathlib.Core.Path.{_≡_, refl, sym, ap, _∙_, subst}
+use mathlib.Core.Bool.{Bool, true, false, cond}
+use mathlib.Core.List.{List, [], _∷_, _++_, append-nil, append-assoc}
+use Prim.Native.Nat.{ℕ}
 use lib.Dec.{eqb}
 use Rattle.definition.specs.Rows.{isEmpty}
-use Rattle.definition.specs.Names.{isName}
-use Rattle.grammar.specs.Grammar.{attribute}
-use Rattle.grammar.specs.Tables.{attrs}
-use Rattle.reading.specs.Tags.{Part, opening, empty, closing, Markup}
-use Rattle.reading.specs.Faults.{states, valueOf, decimal, plain, eventWord, labelWord, condWord, delayWord, idWord, sendidWord}
-use Rattle.reading.specs.Content.{Act, raises, hosts, ifIn, elseifIn, otherwise, endIf, sends, cancels, Row, Block, Spot, inRow, inBlock, Fact, actionFact, Turn, turn, actIn, blockOf, endFacts, factsFrom, rowNamed, rowIn, placeOf}
-use Rattle.reading.specs.Print.{number, idOf, isEnd, isIf, rowOfIf}
-use Rattle.laws.specs.Bools.{no}
+use Rattle.reading.specs.Tags.{Markup}
+use Rattle.reading.specs.Content.{endIf, Spot, Fact, actionFact, Turn, turn, blockOf, endFacts, factsFrom}
 use Rattle.laws.specs.Lists.{empty-list}
 use Rattle.written.specs.Pieces.{Attr, Piece, attrsAt, partsAt, markupAt, behindPiece, tagsAt}
-use Rattle.written.specs.Written.{attr, startTag, emptyTag, endTag, inText, delayAttr, actPiece, emptyIf, blockPieces, elementPieces}
-use Rattle.written.specs.Sound.{AllOf, no-more, more, Ref, ActFits, balanced, BlockFits}
-use Rattle.written.specs.Numbers.{digits-plain, number-decimal, plain-itself}
-use Rattle.written.specs.Items.{in-name}
+use Rattle.written.specs.Written.{startTag, emptyTag, endTag, elementPieces}
 
 -- ---- tags one behind the other
 

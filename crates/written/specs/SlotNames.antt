@@ -1,20 +1,20 @@
 -- Names in their slots: what is laid in the slot of a name reads as the name.
-use mathlib.Core.Path.{_≡_, refl, sym, ap, ap₂, _∙_, subst}
+use mathlib.Core.Path.{_≡_, refl, sym, ap, _∙_}
 use mathlib.Core.Bool.{Bool, true, false, _||_, cond}
 use mathlib.Core.List.{List, [], _∷_, _++_}
 use Prim.Native.Nat.{ℕ, zero, suc, _≤_, _<_, _+_, _*_}
 use native.Mathlib.Omega.{arith}
 use lib.Dec.{eqb}
-use lib.ListN.{length, getD, take, drop, replicate, length-append}
+use lib.ListN.{length, take, drop, replicate}
 use lib.Seq.{drop-drop}
-use borrow.Author.Tests.{eqb-true, ne-eqb}
+use borrow.Author.Tests.{ne-eqb}
 use Rattle.definition.specs.Rows.{same, flat}
 use Rattle.definition.specs.Names.{beforeZero}
-use Rattle.definition.specs.Tables.{noNumber, slotSize, slotAt, nameAt, slotOf}
+use Rattle.definition.specs.Tables.{noNumber, slotAt, nameAt, slotOf}
 use Rattle.reading.specs.Faults.{isAmong}
 use Rattle.reading.specs.Content.{placeOf}
 use Rattle.reading.specs.Layout.{namesOf}
-use Rattle.laws.specs.Bools.{no, bool-case}
+use Rattle.laws.specs.Bools.{no}
 use Rattle.laws.specs.Lists.{same-eq}
 use Rattle.written.specs.Sound.{AllOf, no-more, more}
 use Rattle.written.specs.Held.{drop-all, take-all}

@@ -1,6 +1,6 @@
 -- The slots of a text: each name that is used has one, all differ, and there are no more of them than of the names that they come from.
-use mathlib.Core.Path.{_≡_, refl, sym, ap, ap₂, _∙_, subst}
-use mathlib.Core.Bool.{Bool, true, false, not, _&&_, _||_, cond}
+use mathlib.Core.Path.{_≡_, refl, sym, ap, _∙_, subst}
+use mathlib.Core.Bool.{Bool, true, false, _||_, cond}
 use mathlib.Core.List.{List, [], _∷_, _++_, map}
 use Prim.Native.Nat.{ℕ, zero, suc, _≤_, _<_, _+_}
 use native.Mathlib.Omega.{arith}
@@ -8,7 +8,7 @@ use lib.ListN.{length}
 use Rattle.definition.specs.Rows.{same, from}
 use Rattle.reading.specs.Faults.{isAmong}
 use Rattle.reading.specs.Content.{fresh}
-use Rattle.laws.specs.Bools.{no, bool-case, clash, not-so}
+use Rattle.laws.specs.Bools.{no, clash, not-so}
 use Rattle.laws.specs.Lists.{same-eq, same-self}
 use Rattle.written.specs.Sound.{AllOf, no-more, more}
 use Rattle.written.specs.Values.{all-both}

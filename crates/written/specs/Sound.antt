@@ -1,15 +1,12 @@
 -- What the content of an accepted chart is like, as far as writing and reading it back go by it.
 use mathlib.Core.Path.{_≡_}
-use mathlib.Core.Bool.{Bool, true, false, _&&_, cond}
-use mathlib.Core.List.{List, [], _∷_, map}
+use mathlib.Core.Bool.{Bool, true, false}
+use mathlib.Core.List.{List, [], _∷_}
 use mathlib.Core.Option.{Option, none, some}
 use Prim.Native.Nat.{ℕ, zero, suc, _≤_, _<_}
-use lib.Dec.{eqb, leb}
-use lib.ListN.{length}
 use Rattle.definition.specs.Rows.{isEmpty}
-use Rattle.definition.specs.Tables.{noNumber}
 use Rattle.definition.specs.Names.{isName, isDescriptor}
-use Rattle.reading.specs.Content.{Act, raises, hosts, ifIn, elseifIn, otherwise, endIf, sends, cancels, Row, Transition, Content}
+use Rattle.reading.specs.Content.{Act, raises, hosts, ifIn, elseifIn, otherwise, endIf, sends, cancels, Row, Transition}
 
 pub data AllOf {A : Type 0} (P : A → Type 0) : List A → Type 0 where
   no-more : AllOf P []

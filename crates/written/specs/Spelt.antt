@@ -1,20 +1,18 @@
 -- Names, lists of names, descriptors, numbers and conditions as they are written are values of their kinds.
-use mathlib.Core.Path.{_≡_, refl, sym, ap, _∙_, subst}
+use mathlib.Core.Path.{_≡_, refl, sym, ap, _∙_}
 use mathlib.Core.Bool.{Bool, true, false, not, _&&_, _||_, cond}
-use mathlib.Core.List.{List, [], _∷_, _++_, append-assoc, append-nil}
-use Prim.Native.Nat.{ℕ, zero, suc, _≤_, _<_, _/_, _%_, _+_}
+use mathlib.Core.List.{List, [], _∷_}
+use Prim.Native.Nat.{ℕ, _≤_}
 use native.Mathlib.Omega.{arith}
 use lib.Dec.{eqb, leb}
 use lib.ListN.{length}
 use borrow.Author.Tests.{eqb-true, leb-true, le-leb}
-use Rattle.definition.specs.Rows.{same, all, isEmpty}
-use Rattle.definition.specs.Names.{between, isLetter, isNameByte, isName, star, dotStar, bare, isDescriptor}
-use Rattle.grammar.specs.Grammar.{isSpace, isChar, isToken, nameStep, valueStep, valueEnds}
+use Rattle.definition.specs.Names.{between, isLetter, isNameByte, isName}
+use Rattle.grammar.specs.Grammar.{isChar, isToken}
 use Rattle.reading.specs.Faults.{spelt}
 use Rattle.names.specs.Spelling.{name-spelt}
 use Rattle.names.specs.Spelling.{spelt as speltBytes}
-use Rattle.laws.specs.Bools.{and-left, and-right, and-true, and-false, or-elim, no, not-so, clash, bool-case}
-use Rattle.laws.specs.Lists.{same-eq}
+use Rattle.laws.specs.Bools.{and-left, and-right, and-false, or-elim, no, not-so, clash}
 use Rattle.written.specs.Sound.{AllOf, no-more, more}
 
 -- ---- bytes

@@ -1,8 +1,8 @@
 -- All tags of a chart may stand where they are written, and the last one ends the root.
 use mathlib.Core.Path.{_≡_, refl, sym, ap, _∙_, subst}
-use mathlib.Core.Bool.{Bool, true, false, not, _&&_, cond}
+use mathlib.Core.Bool.{Bool, true, false, not, cond}
 use mathlib.Core.List.{List, [], _∷_, _++_}
-use Prim.Native.Nat.{ℕ, zero, suc, _≤_, _<_, _+_}
+use Prim.Native.Nat.{ℕ, suc, _≤_, _<_, _+_}
 use native.Mathlib.Omega.{arith}
 use lib.Dec.{eqb}
 use lib.ListN.{length}
@@ -11,13 +11,12 @@ use Rattle.definition.specs.Rows.{isEmpty}
 use Rattle.definition.specs.Names.{isName}
 use Rattle.definition.specs.Tables.{noNumber}
 use Rattle.grammar.specs.Grammar.{after, opens}
-use Rattle.reading.specs.Content.{Row, Transition, Content, ofSource}
+use Rattle.reading.specs.Content.{Row, Content}
 use Rattle.reading.specs.Print.{idOf, hasChild}
 use Rattle.laws.specs.Bools.{no, not-so, and-right}
-use Rattle.written.specs.Pieces.{Attr, Piece}
 use Rattle.written.specs.Begins.{May, may-0-0, Ends, ends-2-0, ends-3-1, ends-4-1, ends-5-2, ends-6-3, ends-7-4}
 use Rattle.written.specs.Walks.{not-false}
-use Rattle.written.specs.Walked.{Goes, starts, stands, shuts, Fits, over, then, fits-both, fits-one}
+use Rattle.written.specs.Walked.{Goes, starts, stands, shuts, Fits, over, then, fits-both}
 use Rattle.written.specs.Written.{startTag, emptyTag, endTag, innerPieces, rowElement, rowAttrs, Open, closePieces, closedTo, isBare, rowsPieces, pieces}
 use Rattle.written.specs.Sound.{AllOf, no-more, more, Ref, RowFits, TransitionFits}
 use Rattle.written.specs.Inner.{RowLevel, in-root, in-settled, in-state, in-parallel, in-final, in-history}

@@ -1,30 +1,28 @@
 -- The blocks of an accepted chart, as the writer finds them in its tables.
-use mathlib.Core.Path.{_≡_, refl, sym, ap, ap₂, _∙_, subst}
-use mathlib.Core.Bool.{Bool, true, false, not, _&&_, _||_, cond}
-use mathlib.Core.List.{List, [], _∷_, _++_, map}
-use mathlib.Core.Option.{Option, none, some}
+use mathlib.Core.Path.{_≡_, refl, sym, ap, _∙_}
+use mathlib.Core.Bool.{Bool, true, false, not, _&&_, _||_}
+use mathlib.Core.List.{List, [], _∷_, map}
+use mathlib.Core.Option.{none, some}
 use Prim.Native.Nat.{ℕ, zero, suc, _≤_, _<_, _+_}
 use native.Mathlib.Omega.{arith}
-use lib.Dec.{eqb, leb, ltb}
+use lib.Dec.{leb, ltb}
 use lib.ListN.{length}
 use borrow.Author.Tests.{leb-true, ltb-true}
 use Rattle.definition.specs.declared.Kind.{Kind}
 use Rattle.definition.specs.declared.Kind.the-variants.{Root, State, Parallel, Final, Shallow, Deep}
 use Rattle.definition.specs.declared.Action.{Action}
-use Rattle.definition.specs.declared.Action.the-variants.{Raise, Host, If, ElseIf, Else, End}
 use Rattle.definition.specs.declared.Answer.the-variants.{Done}
 use Rattle.definition.specs.Rows.{from, all, isEmpty}
-use Rattle.definition.specs.Names.{isName}
 use Rattle.definition.specs.Chart.{Chart, kind, isRoot, isState, isParallel, isFinal}
 use Rattle.definition.specs.Tables.{nameCount, rowCount, transitionCount, actionCount, actionCell, actionOf, actionAt, blockAt, nameAt, chartOf}
-use Rattle.definition.specs.Rules.{each, countsFit, sizesFit, rowInRange, transitionInRange, referenceInRange, descriptorInRange, argumentFits, actionInRange, compiledSize, rule1, rule2, slotFits, idFits, raiseFits, actionNamed, conditionFits, awaitsElse, withElse, closed, nests, testFits, branchesFit, keepsRules}
-use Rattle.reading.specs.Content.{Act, raises, hosts, ifIn, elseifIn, otherwise, endIf}
+use Rattle.definition.specs.Rules.{each, countsFit, sizesFit, rowInRange, transitionInRange, argumentFits, actionInRange, compiledSize, rule1, rule2, slotFits, idFits, raiseFits, actionNamed, conditionFits, awaitsElse, withElse, closed, nests, testFits, branchesFit, keepsRules}
+use Rattle.reading.specs.Content.{Act}
 use Rattle.reading.specs.Layout.{actOf, actsAt}
-use Rattle.laws.specs.Bools.{and-left, and-right, and3, and4, and7, no}
+use Rattle.laws.specs.Bools.{and-left, and-right, and4, and7, no}
 use Rattle.laws.specs.Loops.{each-below}
-use Rattle.accepted.specs.Tree.{Tree, root-kind}
-use Rattle.accepted.specs.Sound.{Sound, accepted-rule1, accepted-rule2, accepted-sound}
-use Rattle.written.specs.Sound.{AllOf, no-more, more, Always, always, Ref, ActFits, balanced, BlockFits}
+use Rattle.accepted.specs.Tree.{root-kind}
+use Rattle.accepted.specs.Sound.{accepted-rule1, accepted-rule2, accepted-sound}
+use Rattle.written.specs.Sound.{AllOf, no-more, more, always, ActFits, balanced, BlockFits}
 
 -- a row that In names is not the root
 pub in-no-root : (c : Chart) → isRoot (kind c 0) ≡ true → (i : ℕ) → conditionFits c (some i) ≡ true → 1 ≤ i

@@ -1,20 +1,18 @@
 -- The tables of a content mean the content again: rows and transitions.
-use mathlib.Core.Path.{_≡_, refl, sym, ap, ap₂, _∙_, subst}
-use mathlib.Core.Bool.{Bool, true, false, cond}
-use mathlib.Core.List.{List, [], _∷_, _++_, append-assoc, append-nil, map}
-use mathlib.Core.Option.{Option, none, some}
-use Prim.Native.Nat.{ℕ, zero, suc, _≤_, _<_, _+_, _*_}
+use mathlib.Core.Path.{_≡_, refl, ap, ap₂, _∙_, subst}
+use mathlib.Core.Bool.{cond}
+use mathlib.Core.List.{List, [], _∷_, _++_, map}
+use Prim.Native.Nat.{ℕ, suc, _≤_, _<_, _+_, _*_}
 use native.Mathlib.Omega.{arith}
-use lib.Dec.{eqb, ltb}
-use lib.ListN.{length, getD, take, drop, length-append}
-use borrow.Author.Tests.{eqb-true, ne-eqb, lt-ltb}
-use Rattle.definition.specs.Rows.{flat, from, isEmpty}
-use Rattle.definition.specs.Tables.{noNumber, rowCount, transitionCount, rowCell, transitionCell, noRow, transitionBase, referenceBase, descriptorBase, actionBase, part, referencesAt, descriptorsAt, optional, nameAt}
-use Rattle.reading.specs.Content.{Act, Row, Transition, Content, placeOf}
-use Rattle.reading.specs.Layout.{orNone, actCells, idCell, rowActs, rowCells, transitionCells, rowList, targetList, descriptorList, transitionActs, namesOf, actsAt, rowBack, transitionBack}
-use Rattle.written.specs.Sound.{AllOf, no-more, more, Always}
+use lib.Dec.{eqb}
+use lib.ListN.{length, getD, length-append}
+use borrow.Author.Tests.{lt-ltb}
+use Rattle.definition.specs.Rows.{flat, from}
+use Rattle.definition.specs.Tables.{noNumber, rowCount, rowCell, referenceBase, actionBase, part, referencesAt, nameAt}
+use Rattle.reading.specs.Content.{Act, Row}
+use Rattle.reading.specs.Layout.{actCells, idCell, rowActs, rowCells, rowList, namesOf, actsAt, rowBack}
+use Rattle.written.specs.Sound.{AllOf, no-more, more}
 use Rattle.written.specs.Held.{Holds, holds-left, holds-right, holds-at, held-cell, held-part}
-use Rattle.written.specs.SlotNames.{Slotted, slotted-name}
 use Rattle.written.specs.TablesBack.{ActNamed, RowNamed, acts-back, acts-left, acts-right, id-back}
 
 pub all-left : {A : Type 0} {P : A → Type 0} (xs ys : List A) → AllOf P (xs ++ ys) → AllOf P xs

@@ -1,12 +1,11 @@
 -- The tables of a content mean the content again: equal charts, laid out in tables, stay equal.
-use mathlib.Core.Path.{_≡_, refl, sym, ap, ap₂, _∙_, subst}
-use mathlib.Core.Bool.{Bool, true, false, cond}
-use mathlib.Core.List.{List, [], _∷_, _++_, append-assoc, append-nil, map}
-use Prim.Native.Nat.{ℕ, zero, suc, _≤_, _<_, _+_, _*_}
+use mathlib.Core.Path.{_≡_, refl, ap, ap₂, _∙_, subst}
+use mathlib.Core.List.{List, [], _∷_, _++_, map}
+use Prim.Native.Nat.{ℕ, suc, _≤_, _+_, _*_}
 use native.Mathlib.Omega.{arith}
-use lib.ListN.{length, getD, take, drop, length-append}
+use lib.ListN.{length, length-append}
 use Rattle.definition.specs.Rows.{flat, from}
-use Rattle.definition.specs.Tables.{rowCount, transitionCount, referenceCount, descriptorCount, transitionBase, referenceBase, descriptorBase, actionBase}
+use Rattle.definition.specs.Tables.{transitionBase, referenceBase, descriptorBase, actionBase}
 use Rattle.reading.specs.Content.{Act, Row, Transition, Content, placeOf}
 use Rattle.reading.specs.Layout.{actCells, rowActs, rowCells, transitionCells, rowList, targetList, descriptorList, transitionActs, numbersOf, namesOf, rowBack, transitionBack, content}
 use Rattle.lay.specs.Sizes.{row-count, transition-count, reference-count, descriptor-count}

@@ -1,32 +1,26 @@
 -- The rows of an accepted chart, as the writer finds them in its tables.
-use mathlib.Core.Path.{_≡_, refl, sym, ap, ap₂, _∙_, subst}
+use mathlib.Core.Path.{_≡_, refl, sym, ap, _∙_}
 use mathlib.Core.Bool.{Bool, true, false, not, _&&_, _||_, cond}
-use mathlib.Core.List.{List, [], _∷_, _++_, map}
+use mathlib.Core.List.{List, [], _∷_}
 use Prim.Native.Nat.{ℕ, zero, suc, _≤_, _<_, _+_}
 use native.Mathlib.Omega.{arith}
 use lib.Dec.{eqb, leb, ltb}
 use lib.ListN.{length}
-use borrow.Author.Tests.{leb-true, ltb-true, eqb-true, eqb-false, not-true}
+use borrow.Author.Tests.{leb-true, ltb-true}
 use Rattle.definition.specs.declared.Kind.{Kind}
-use Rattle.definition.specs.declared.Kind.the-variants.{Root, State, Parallel, Final, Shallow, Deep}
 use Rattle.definition.specs.declared.Answer.the-variants.{Done}
-use Rattle.definition.specs.Rows.{from, all, mem, isEmpty}
-use Rattle.definition.specs.Names.{isName, isId}
-use Rattle.definition.specs.Chart.{Chart, kind, parent, isRoot, isState, isParallel, isFinal, isShallow, isHistory}
-use Rattle.definition.specs.Tables.{noNumber, rowCount, transitionCount, referenceCount, actionCount, nameCount, rowCell, kindOf, kindAt, parentAt, idAt, entryAt, exitAt, listAt, listBlockAt, nameAt, chartOf}
+use Rattle.definition.specs.Rows.{all, mem, isEmpty}
+use Rattle.definition.specs.Chart.{Chart, kind, parent, isRoot, isState, isShallow, isHistory}
+use Rattle.definition.specs.Tables.{rowCount, transitionCount, referenceCount, actionCount, nameCount, rowCell, kindOf, chartOf}
 use Rattle.definition.specs.Tree.{ancestors, isDescendant, isChild, isDomainKind, isCompound, listed}
-use Rattle.definition.specs.Rules.{each, inside, countsFit, sizesFit, rowInRange, transitionInRange, blockFits, compiledSize, rule1, rule2, slotFits, idFits, idDiffers, actionNamed, areApart, isUnder, initialFits, defaultFits, listFits, blocksFit, rowListsFit, targetsFit, rule4, branchesFit, rowBranchesFit, transitionFits, transitionBranchesFit, rule5, keepsRules}
-use Rattle.reading.specs.Content.{Row}
-use Rattle.reading.specs.Layout.{actsAt, rowBack}
-use Rattle.laws.specs.Bools.{and-left, and-right, and3, and7, no, clash, bool-case, or-elim, not-so}
+use Rattle.definition.specs.Rules.{each, inside, countsFit, sizesFit, rowInRange, blockFits, compiledSize, rule1, rule2, slotFits, idFits, actionNamed, isUnder, initialFits, defaultFits, listFits, rowListsFit, rule4, rowBranchesFit, transitionFits, transitionBranchesFit, rule5, keepsRules}
+use Rattle.laws.specs.Bools.{and-left, and-right, and3, and7, no, bool-case}
 use Rattle.laws.specs.Loops.{each-below}
 use Rattle.laws.specs.Sets.{mem-head}
-use Rattle.laws.specs.Lists.{empty-list, all-mem, mem-tail, mem-cases}
-use Rattle.accepted.specs.NameFacts.{id-parts}
-use Rattle.accepted.specs.Tree.{Tree, root-kind, not-root, ancestor-low}
+use Rattle.laws.specs.Lists.{empty-list, all-mem, mem-tail}
+use Rattle.accepted.specs.Tree.{ancestor-low}
 use Rattle.accepted.specs.Sound.{Sound, accepted-rule1, accepted-rule2, accepted-sound}
-use Rattle.written.specs.Sound.{AllOf, no-more, more, Ref, BlockFits, Shaped, RowFits}
-use Rattle.written.specs.TableBlocks.{accepted-root, block-fits, no-block}
+use Rattle.written.specs.Sound.{AllOf, no-more, more}
 
 pub empty-mem : (x : ℕ) → false ≡ mem x []
 unfolding mem

@@ -1,24 +1,22 @@
 -- The tables of a content mean the content again.
 use mathlib.Core.Path.{_≡_, refl, sym, ap, ap₂, _∙_, subst}
 use mathlib.Core.Bool.{Bool, true, false, cond}
-use mathlib.Core.List.{List, [], _∷_, _++_, append-assoc, append-nil, map}
+use mathlib.Core.List.{List, [], _∷_, _++_, map}
 use mathlib.Core.Option.{Option, none, some}
-use Prim.Native.Nat.{ℕ, zero, suc, _≤_, _<_, _+_, _*_}
+use Prim.Native.Nat.{ℕ, suc, _≤_, _<_, _+_, _*_}
 use native.Mathlib.Omega.{arith}
-use lib.Dec.{eqb, ltb}
-use lib.ListN.{length, getD, take, drop, length-append}
-use borrow.Author.Tests.{eqb-true, ne-eqb, lt-ltb}
-use Rattle.definition.specs.Rows.{flat, from, isEmpty}
-use Rattle.definition.specs.Tables.{noNumber, rowCount, transitionCount, referenceCount, descriptorCount, rowCell, transitionCell, transitionBase, referenceBase, descriptorBase, actionBase, part, referencesAt, descriptorsAt, optional, nameAt}
-use Rattle.reading.specs.Content.{Act, Row, Transition, Content, placeOf}
-use Rattle.reading.specs.Layout.{orNone, actCells, idCell, rowActs, rowCells, transitionCells, rowList, targetList, descriptorList, transitionActs, numbersOf, namesOf, actsAt, rowBack, transitionBack, content}
-use Rattle.laws.specs.Lists.{flat-app}
-use Rattle.lay.specs.Sizes.{row-count, transition-count, reference-count, descriptor-count}
+use lib.Dec.{eqb}
+use lib.ListN.{length, getD, take, drop}
+use borrow.Author.Tests.{ne-eqb, lt-ltb}
+use Rattle.definition.specs.Rows.{flat, from}
+use Rattle.definition.specs.Tables.{noNumber, transitionCount, transitionCell, transitionBase, referenceBase, descriptorBase, actionBase, part, referencesAt, descriptorsAt, optional, nameAt}
+use Rattle.reading.specs.Content.{Act, Transition, placeOf}
+use Rattle.reading.specs.Layout.{orNone, actCells, transitionCells, targetList, descriptorList, transitionActs, namesOf, actsAt, transitionBack}
 use Rattle.written.specs.Sound.{AllOf, no-more, more, Always}
-use Rattle.written.specs.Held.{Holds, holds-whole, holds-left, holds-right, holds-at, held-cell, held-part}
+use Rattle.written.specs.Held.{Holds, holds-left, holds-right, holds-at, held-cell, held-part}
 use Rattle.written.specs.SlotNames.{Slotted, slotted-name}
-use Rattle.written.specs.TablesBack.{ActNamed, RowNamed, acts-back, acts-left, acts-right}
-use Rattle.written.specs.TableCells.{list-held, rows-back}
+use Rattle.written.specs.TablesBack.{ActNamed, acts-back, acts-left, acts-right}
+use Rattle.written.specs.TableCells.{list-held}
 
 -- the names of a transition have slots; its condition is a row
 abbrev pub RowOrNone : Option ℕ → Type 0

@@ -1,20 +1,19 @@
 -- The tables of a content mean the content again: actions, rows and transitions.
 use mathlib.Core.Path.{_≡_, refl, sym, ap, ap₂, _∙_, subst}
 use mathlib.Core.Bool.{Bool, true, false, cond}
-use mathlib.Core.List.{List, [], _∷_, _++_, append-assoc, append-nil, map}
-use mathlib.Core.Option.{Option, none, some}
-use Prim.Native.Nat.{ℕ, zero, suc, _≤_, _<_, _+_, _*_}
+use mathlib.Core.List.{List, [], _∷_, _++_, map}
+use mathlib.Core.Option.{none, some}
+use Prim.Native.Nat.{ℕ, suc, _≤_, _<_, _+_, _*_}
 use native.Mathlib.Omega.{arith}
-use lib.Dec.{eqb, ltb}
-use lib.ListN.{length, getD, take, drop, length-append}
-use borrow.Author.Tests.{eqb-true, ne-eqb, lt-ltb}
+use lib.Dec.{eqb}
+use lib.ListN.{length, getD, length-append}
 use Rattle.definition.specs.Rows.{flat, from, isEmpty}
-use Rattle.definition.specs.Tables.{noNumber, rowCount, transitionCount, rowCell, transitionCell, actionCell, noRow, transitionBase, referenceBase, descriptorBase, actionBase, part, referencesAt, descriptorsAt, optional, nameAt}
-use Rattle.reading.specs.Content.{Act, raises, hosts, ifIn, elseifIn, otherwise, endIf, sends, cancels, Row, Transition, Content, placeOf}
-use Rattle.reading.specs.Layout.{orNone, actCells, idCell, rowActs, rowCells, transitionCells, rowList, targetList, descriptorList, transitionActs, namesOf, actOf, actsAt, rowBack, transitionBack}
+use Rattle.definition.specs.Tables.{noNumber, actionCell, actionBase, nameAt}
+use Rattle.reading.specs.Content.{Act, raises, hosts, ifIn, elseifIn, otherwise, endIf, sends, cancels, Row, placeOf}
+use Rattle.reading.specs.Layout.{actCells, idCell, rowActs, namesOf, actOf, actsAt}
 use Rattle.laws.specs.Lists.{flat-app, empty-list}
 use Rattle.written.specs.Sound.{AllOf, no-more, more, Always}
-use Rattle.written.specs.Held.{Holds, holds-left, holds-right, holds-at, held-cell, held-part}
+use Rattle.written.specs.Held.{Holds, holds-left, holds-right, holds-at, held-cell}
 use Rattle.written.specs.SlotNames.{Slotted, slotted-name, slotted-number}
 
 -- the names of an action have slots

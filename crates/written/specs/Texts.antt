@@ -1,19 +1,18 @@
 -- The text of a chart is the text of the tags that it is written as: actions, blocks, transitions.
 use mathlib.Core.Path.{_≡_, refl, sym, ap, ap₂, _∙_}
-use mathlib.Core.Bool.{Bool, true, false, not, _&&_, _||_, cond}
-use mathlib.Core.List.{List, [], _∷_, _++_, append-assoc, append-nil, map}
-use mathlib.Core.Option.{Option, none, some}
-use Prim.Native.Nat.{ℕ, zero, suc}
+use mathlib.Core.Bool.{Bool, true, false, _&&_, cond}
+use mathlib.Core.List.{List, [], _∷_, _++_, append-assoc}
+use mathlib.Core.Option.{none, some}
+use Prim.Native.Nat.{ℕ}
 use lib.Dec.{eqb}
-use Rattle.definition.specs.Rows.{flat, isEmpty}
+use Rattle.definition.specs.Rows.{isEmpty}
 use Rattle.grammar.specs.Grammar.{attribute}
 use Rattle.grammar.specs.Tables.{attrs}
 use Rattle.reading.specs.Tags.{Shape, opening, empty, closing}
-use Rattle.reading.specs.Faults.{internal}
-use Rattle.reading.specs.Content.{Act, raises, hosts, ifIn, elseifIn, otherwise, endIf, sends, cancels, Row, Transition}
-use Rattle.reading.specs.Print.{number, idOf, spaced, quoted, given, condition, actText, isEnd, isIf, rowOfIf, blockFrom, blockText, element, idsText, conditionText, transitionText}
+use Rattle.reading.specs.Content.{Act, raises, hosts, ifIn, elseifIn, otherwise, endIf, sends, cancels, Row}
+use Rattle.reading.specs.Print.{number, idOf, quoted, given, condition, actText, isEnd, isIf, rowOfIf, blockFrom, element}
 use Rattle.written.specs.Pieces.{Attr, Piece, wordText, attrOnto, attrsOnto, shapeOnto, pieceOnto, textOf}
-use Rattle.written.specs.Written.{attr, startTag, emptyTag, endTag, givenAttr, inText, delayAttr, actPiece, emptyIf, blockPieces, elementPieces, typeAttr, condAttr, transitionAttrs, transitionPieces}
+use Rattle.written.specs.Written.{attr, startTag, emptyTag, endTag, givenAttr, inText, delayAttr, actPiece, emptyIf, blockPieces, elementPieces}
 
 -- ---- what follows a tag
 

@@ -1,27 +1,24 @@
 -- The names that the tags of a chart use, in the order of the text: ids, events, names of actions.
 use mathlib.Core.Path.{_≡_, refl, sym, ap, ap₂, _∙_, subst}
-use mathlib.Core.Bool.{Bool, true, false, not, _&&_, _||_, cond}
+use mathlib.Core.Bool.{Bool, true, false, _&&_, cond}
 use mathlib.Core.List.{List, [], _∷_, _++_, append-nil, append-assoc, map}
-use mathlib.Core.Option.{Option, none, some}
-use Prim.Native.Nat.{ℕ, zero, suc}
+use mathlib.Core.Option.{none, some}
+use Prim.Native.Nat.{ℕ}
 use lib.Dec.{eqb}
 use Rattle.definition.specs.Rows.{isEmpty, flat}
 use Rattle.definition.specs.Names.{isName}
 use Rattle.grammar.specs.Grammar.{attribute}
 use Rattle.grammar.specs.Tables.{attrs}
-use Rattle.reading.specs.Tags.{Part, Shape, opening, empty, closing, Markup}
-use Rattle.reading.specs.Faults.{itemsAt, itemBytes, namesIn, namespace, versionText, internal, deep}
-use Rattle.reading.specs.Content.{Act, raises, hosts, ifIn, elseifIn, otherwise, endIf, sends, cancels, Row, Transition, Content, ofSource, usesIn, usesOf}
-use Rattle.reading.specs.Print.{number, idOf, spaced, idsText, isEnd, isIf, rowOfIf, isElementList, isHistoryKind}
+use Rattle.reading.specs.Faults.{itemsAt, itemBytes, namesIn}
+use Rattle.reading.specs.Content.{Act, raises, hosts, ifIn, elseifIn, otherwise, endIf, sends, cancels, Row, usesIn, usesOf}
+use Rattle.reading.specs.Print.{number, spaced, isEnd, isIf, rowOfIf}
 use Rattle.laws.specs.Bools.{and-left, and-right, no}
 use Rattle.laws.specs.Lists.{flat-app, empty-list}
-use Rattle.written.specs.Pieces.{Attr, Piece, attrsAt, partsAt, partAt, behindAttr, markupAt, tagsAt}
-use Rattle.written.specs.Written.{attr, startTag, emptyTag, endTag, givenAttr, inText, delayAttr, actPiece, emptyIf, blockPieces, elementPieces, typeAttr, condAttr, transitionAttrs, transitionPieces, blockElement, defaultPieces, listPieces, innerPieces}
-use Rattle.written.specs.Sound.{AllOf, no-more, more, ActFits, BlockFits, DescriptorFits, TransitionFits, RowFits}
-use Rattle.written.specs.Items.{Solid, name-solid, items-spaced}
-use Rattle.written.specs.InnerSays.{descriptors-read, given-whole}
+use Rattle.written.specs.Pieces.{Attr, Piece, attrsAt, partsAt, partAt, behindAttr, tagsAt}
+use Rattle.written.specs.Written.{attr, startTag, emptyTag, endTag, inText, delayAttr, actPiece, emptyIf, blockPieces, elementPieces}
+use Rattle.written.specs.Sound.{AllOf, no-more, more, ActFits}
+use Rattle.written.specs.Items.{name-solid, items-spaced}
 use Rattle.written.specs.Says.{tags-both, behindAll}
-use Rattle.written.specs.Placed.{listBy}
 
 -- the tags use exactly these names
 pub record Uses (ps : List Piece) (us : List (List ℕ)) : Type 0 where

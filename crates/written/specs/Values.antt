@@ -1,19 +1,18 @@
 -- Names, lists of names, descriptors and free values as they are written pass as values of their kinds.
-use mathlib.Core.Path.{_≡_, refl, sym, ap, _∙_, subst}
+use mathlib.Core.Path.{_≡_, refl, sym, ap, _∙_}
 use mathlib.Core.Bool.{Bool, true, false, not, _&&_, _||_, cond}
-use mathlib.Core.List.{List, [], _∷_, _++_, append-assoc, append-nil, map}
-use Prim.Native.Nat.{ℕ, zero, suc, _≤_, _<_, _+_}
+use mathlib.Core.List.{List, [], _∷_, _++_, append-assoc, append-nil}
+use Prim.Native.Nat.{ℕ}
 use native.Mathlib.Omega.{arith}
 use lib.Dec.{eqb, leb}
 use lib.ListN.{length}
-use borrow.Author.Tests.{eqb-true, leb-true, le-leb}
+use borrow.Author.Tests.{eqb-true}
 use Rattle.definition.specs.Rows.{same, isEmpty}
 use Rattle.definition.specs.Names.{isName, star, dotStar, bare, isDescriptor}
 use Rattle.grammar.specs.Grammar.{isSpace, isChar, isToken, nameStep, valueStep, valueEnds}
 use Rattle.reading.specs.Faults.{spelt}
-use Rattle.reading.specs.Content.{Row}
 use Rattle.reading.specs.Print.{spaced}
-use Rattle.laws.specs.Bools.{and-left, and-right, and-true, or-elim, no, bool-case}
+use Rattle.laws.specs.Bools.{and-right, or-elim, no}
 use Rattle.laws.specs.Lists.{same-eq}
 use Rattle.written.specs.Walks.{reads}
 use Rattle.written.specs.Sound.{AllOf, no-more, more, DescriptorFits}

@@ -1,17 +1,13 @@
 -- A text as written is read into the tags that were written, with their offsets, if each tag may stand where it stands.
-use mathlib.Core.Path.{_≡_, refl, sym, ap, _∙_}
-use mathlib.Core.Bool.{Bool, true, false, not, _&&_, cond}
-use mathlib.Core.List.{List, [], _∷_, _++_, append-assoc}
-use Prim.Native.Nat.{ℕ, zero, suc, _+_}
-use lib.Dec.{eqb}
-use lib.ListN.{length}
-use Rattle.grammar.specs.declared.Place.{Place}
+use mathlib.Core.Path.{_≡_, refl, ap, _∙_}
+use mathlib.Core.Bool.{true}
+use mathlib.Core.List.{List, [], _∷_, _++_}
+use Prim.Native.Nat.{ℕ, _+_}
 use Rattle.grammar.specs.declared.Place.the-variants.{Content, Tag, Slash}
-use Rattle.grammar.specs.declared.Step.{Step}
 use Rattle.grammar.specs.declared.Step.the-variants.{Go, Open}
-use Rattle.grammar.specs.Grammar.{isSpace, isChar, isComplete, mayEnd, after, opens, tagStep, only, stepOf, State, live, next, run}
-use Rattle.reading.specs.Tags.{Part, Shape, opening, empty, closing, Markup, Draft, noted, emitted, tagsFrom}
-use Rattle.written.specs.Pieces.{Attr, Piece, wordText, attrsOnto, textOf, further, partsAt, behindAttrs, attrsAt, pieceOnto, markupAt, behindPiece, tagsAt, draft}
+use Rattle.grammar.specs.Grammar.{isSpace, isChar, isComplete, mayEnd, after, opens, tagStep, only, stepOf, live, next, run}
+use Rattle.reading.specs.Tags.{Part, opening, empty, closing, Markup, noted, emitted, tagsFrom}
+use Rattle.written.specs.Pieces.{Attr, Piece, wordText, attrsOnto, textOf, partsAt, behindAttrs, attrsAt, pieceOnto, markupAt, behindPiece, tagsAt, draft}
 use Rattle.written.specs.Begins.{May, Behind, space, end, slash, Ends, closes, closes-run}
 use Rattle.written.specs.BeginTags.{begins}
 use Rattle.written.specs.BeginRuns.{begins-run}

@@ -1,18 +1,16 @@
 -- The tags of a text as written are the tags that were written, and the grammar's walk over it ends between tags, by the levels that they open and close.
 use mathlib.Core.Path.{_≡_, refl, sym, ap, _∙_}
-use mathlib.Core.Bool.{Bool, true, false, not, _&&_, cond}
+use mathlib.Core.Bool.{Bool, true, false, not, _&&_}
 use mathlib.Core.List.{List, [], _∷_, _++_, append-assoc, append-nil}
-use Prim.Native.Nat.{ℕ, zero, suc, _+_}
+use Prim.Native.Nat.{ℕ, _+_}
 use lib.Dec.{eqb}
 use lib.ListN.{length}
-use Rattle.grammar.specs.declared.Place.{Place}
-use Rattle.grammar.specs.declared.Place.the-variants.{Content, Tag, Value, Slash}
-use Rattle.grammar.specs.declared.Step.{Step}
+use Rattle.grammar.specs.declared.Place.the-variants.{Tag, Value}
 use Rattle.grammar.specs.declared.Step.the-variants.{Go}
-use Rattle.grammar.specs.Grammar.{isSpace, isChar, attribute, added, isComplete, mayEnd, after, opens, valueStep, valueEnds, kindOf, tagStep, valueAt, valueStepAt, only, stepOf, State, live, next, run}
-use Rattle.reading.specs.Tags.{Part, Shape, opening, empty, closing, Markup, Draft, noted, emitted, tagsFrom}
-use Rattle.laws.specs.Bools.{and-left, and-right, no}
-use Rattle.written.specs.Pieces.{Attr, Piece, wordText, attrsOnto, textOf, further, partAt, partsAt, behindAttr, behindAttrs, attrsAt, shapeAt, behindShape, markupAt, behindPiece, tagsAt, draft, valueAt as valueFrom}
+use Rattle.grammar.specs.Grammar.{isChar, attribute, added, valueStep, valueEnds, kindOf, valueAt, valueStepAt, stepOf, live, next, run}
+use Rattle.reading.specs.Tags.{Part, noted, emitted, tagsFrom}
+use Rattle.laws.specs.Bools.{and-left, and-right}
+use Rattle.written.specs.Pieces.{Attr, attrsOnto, further, partAt, partsAt, behindAttr, behindAttrs, draft, valueAt as valueFrom}
 use Rattle.written.specs.Begins.{Follows, names, names-run}
 
 -- ---- a value

@@ -1,25 +1,24 @@
 -- Reading what was written gives the content that was written: "Reading what was written gives an equal chart." (R-4, 4.3)
-use mathlib.Core.Path.{_≡_, refl, sym, ap, ap₂, _∙_, subst}
-use mathlib.Core.Bool.{Bool, true, false, not, _&&_, _||_, cond}
+use mathlib.Core.Path.{_≡_, refl, sym, ap, _∙_, subst}
+use mathlib.Core.Bool.{Bool, true, false, _||_, cond}
 use mathlib.Core.List.{List, [], _∷_, _++_, append-nil}
-use mathlib.Core.Option.{Option, none, some}
+use mathlib.Core.Option.{none}
 use Prim.Native.Nat.{ℕ, zero, suc, _≤_, _<_, _+_}
 use native.Mathlib.Omega.{arith}
-use lib.Dec.{eqb, leb}
 use lib.ListN.{length}
 use borrow.Author.Tests.{le-leb}
 use Rattle.definition.specs.Rows.{same, flat}
 use Rattle.definition.specs.Names.{isName}
 use Rattle.definition.specs.Tables.{noNumber}
 use Rattle.grammar.specs.declared.Place.the-variants.{Content as Between}
-use Rattle.grammar.specs.Grammar.{State, live, run, start, accepts, isText, mostBytes, inGrammar}
-use Rattle.reading.specs.Tags.{Markup, tagsFrom, tagsOf}
+use Rattle.grammar.specs.Grammar.{live, run, start, accepts, isText, inGrammar}
+use Rattle.reading.specs.Tags.{tagsFrom, tagsOf}
 use Rattle.reading.specs.Faults.{idsOf, isAmong, tagFaults, faults, least, firstFault}
-use Rattle.reading.specs.Content.{Row, Transition, Content, Fact, factsFrom, contentFrom, contentOf, placeOf, rowNamed}
+use Rattle.reading.specs.Content.{Row, Content, factsFrom, contentFrom, contentOf, placeOf, rowNamed}
 use Rattle.reading.specs.Print.{idOf, print}
-use Rattle.laws.specs.Bools.{bool-case, no}
+use Rattle.laws.specs.Bools.{bool-case}
 use Rattle.laws.specs.Lists.{same-self}
-use Rattle.written.specs.Pieces.{Piece, textOf, tagsAt, draft}
+use Rattle.written.specs.Pieces.{tagsAt, draft}
 use Rattle.written.specs.Walked.{Fits, text-run, text-tags}
 use Rattle.written.specs.Written.{pieces}
 use Rattle.written.specs.Sound.{AllOf, no-more, more, Ref, Shaped, RowFits, TransitionFits}
@@ -27,7 +26,6 @@ use Rattle.written.specs.Printed.{print-text}
 use Rattle.written.specs.Laid.{Laid, laid-out, lays}
 use Rattle.written.specs.Stand.{pieces-fit}
 use Rattle.written.specs.BlockSays.{Known}
-use Rattle.written.specs.RowSays.{rowsSaid}
 use Rattle.written.specs.RowsSaid.{pieces-said}
 use Rattle.written.specs.Order.{Ordered, content-again}
 use Rattle.written.specs.Noted.{Notes}
