@@ -57,3 +57,4 @@ pub mod Limits
 pub mod ReadRule1
 pub mod ReadSizes
 pub mod ReadWhole
+pub mod Equal
