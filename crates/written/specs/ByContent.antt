@@ -61,7 +61,7 @@ chartIn c =
 
 -- ---- it is that of the tables
 
-act-alike : (nm : ℕ → List ℕ) (k x y z : ℕ) → erase (actionOf k x) ≡ action (actOf nm k x y z)
+act-alike : (nm : ℕ → List ℕ) (k x y z : ℕ) → erase (actionOf k x y z) ≡ action (actOf nm k x y z)
 act-alike nm zero x y z = refl
 act-alike nm (suc zero) x y z = refl
 act-alike nm (suc (suc zero)) x y z = refl

@@ -30,7 +30,7 @@ pub record Origin (numbers names v : List ℕ) : Type 0 where
   pub is : nameAt names number ≡ v
 
 module _ (numbers names : List ℕ) (h : keepsRules numbers names ≡ Done) where
-  act-origin : (k x y z : ℕ) → k ≤ 5 → argumentFits numbers (actionOf k x) x ≡ true → AllOf (Origin numbers names) (actUses (actOf (nameAt names) k x y z))
+  act-origin : (k x y z : ℕ) → k ≤ 5 → argumentFits numbers (actionOf k x y z) x ≡ true → AllOf (Origin numbers names) (actUses (actOf (nameAt names) k x y z))
   unfolding argumentFits
   act-origin zero x y z l a = more (record { number = x; below = ltb-true x (nameCount numbers) a; is = refl }) no-more
   act-origin (suc zero) x y z l a = no-more

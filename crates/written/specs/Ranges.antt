@@ -57,7 +57,7 @@ module _ (numbers : List ℕ) (slots : List (List ℕ)) where
   unfolding actionCell
   cell-of a k ys h l = held-cell h k l
 
-  four-in : (a w x : ℕ) → Holds numbers (actionBase numbers + a * 4) (w ∷ x ∷ 0 ∷ 0 ∷ []) → leb w 5 ≡ true → argumentFits numbers (actionOf w x) x ≡ true → actionInRange numbers a ≡ true
+  four-in : (a w x : ℕ) → Holds numbers (actionBase numbers + a * 4) (w ∷ x ∷ 0 ∷ 0 ∷ []) → leb w 5 ≡ true → argumentFits numbers (actionOf w x 0 0) x ≡ true → actionInRange numbers a ≡ true
   unfolding actionInRange actionAt
   four-in a w x h l f =
       rw (cell-of a 0 cells h (omega arith), cell-of a 1 cells h (omega arith), cell-of a 2 cells h (omega arith), cell-of a 3 cells h (omega arith), l, f) refl

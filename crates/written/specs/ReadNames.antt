@@ -81,7 +81,7 @@ slots-fit slots f k l =
 
 -- ---- actions
 
-raise-fits : (names : List ℕ) (n k x y z : ℕ) → ActFits n (actOf (nameAt names) k x y z) → raiseFits names (actionOf k x) ≡ true
+raise-fits : (names : List ℕ) (n k x y z : ℕ) → ActFits n (actOf (nameAt names) k x y z) → raiseFits names (actionOf k x y z) ≡ true
 unfolding raiseFits
 raise-fits names n zero x y z f = f
 raise-fits names n (suc zero) x y z f = refl

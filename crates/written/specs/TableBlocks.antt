@@ -39,7 +39,7 @@ in-no-root c r zero h = absurd (by (kind c 0) r h)
 in-no-root c r (suc i) h = omega arith
 
 module _ (numbers names : List ℕ) (root : isRoot (kind (chartOf numbers) 0) ≡ true) where
-  act-fits : (k x y z : ℕ) → k ≤ 5 → argumentFits numbers (actionOf k x) x ≡ true → raiseFits names (actionOf k x) ≡ true → testFits (chartOf numbers) (actionOf k x) ≡ true →
+  act-fits : (k x y z : ℕ) → k ≤ 5 → argumentFits numbers (actionOf k x y z) x ≡ true → raiseFits names (actionOf k x y z) ≡ true → testFits (chartOf numbers) (actionOf k x y z) ≡ true →
       ActFits (rowCount numbers) (actOf (nameAt names) k x y z)
   unfolding argumentFits raiseFits testFits
   act-fits zero x y z l a r t = r
@@ -77,7 +77,7 @@ with-else [] = refl
 with-else (s ∷ outer) = refl
 
 -- one action, and those behind it
-nest-one : (nm : ℕ → List ℕ) (k x y z : ℕ) → k ≤ 5 → (ifs : List Bool) (rest : List Action) (acts : List Act) → nests ifs (actionOf k x ∷ rest) ≡ true →
+nest-one : (nm : ℕ → List ℕ) (k x y z : ℕ) → k ≤ 5 → (ifs : List Bool) (rest : List Action) (acts : List Act) → nests ifs (actionOf k x y z ∷ rest) ≡ true →
     ((outer : List Bool) → nests outer rest ≡ true → balanced (length outer) acts ≡ true) → balanced (length ifs) (actOf nm k x y z ∷ acts) ≡ true
 unfolding nests balanced
 nest-one nm zero x y z l ifs rest acts h r = r ifs h
