@@ -6,6 +6,8 @@ use std::sync::atomic::{AtomicU64, Ordering};
 use std::thread;
 
 const THREADS: usize = 2;
+/// A read that is lent no scratch takes 2.4 MB.
+const STACK: usize = 8 << 20;
 
 /// What is counted while seeds are tried.
 pub trait Tally: Clone + Send + Sync {
@@ -40,7 +42,8 @@ pub fn try_all<T: Tally>(
     let mut all = none.clone();
     let mut failures = Vec::new();
     thread::scope(|scope| {
-        let workers: Vec<_> = (0..THREADS).map(|_| scope.spawn(work)).collect();
+        let start = |_| thread::Builder::new().stack_size(STACK).spawn_scoped(scope, work).expect("a worker starts");
+        let workers: Vec<_> = (0..THREADS).map(start).collect();
         for worker in workers {
             let (tally, failed) = worker.join().expect("a worker ends");
             all.join(&tally);
