@@ -28,6 +28,9 @@ FAULTS = {
     "text-between-tags": ("<scxml>x</scxml>", 7),
     "entity-in-name": ("<scxml><state id='&apos;'/></scxml>", 18),
     "other-entity": ("<scxml version='&lx;'/>", 18),
+    "send-in-block": ("<scxml><state id='s'><onentry><send id='k' event='x' delay='5'/></onentry></state></scxml>", 31),
+    "cancel-in-block": ("<scxml><state id='s'><onentry><cancel sendid='k'/></onentry></state></scxml>", 31),
+    "send-in-row": ("<scxml><send event='x'/></scxml>", 9),
     "raise-in-row": ("<scxml><raise event='a'/></scxml>", 8),
     "initial-twice": ("<scxml><state id='a' initial='b'><initial>", 34),
     "initial-without-transition": ("<scxml><state id='a'><initial></", 31),
@@ -58,7 +61,7 @@ FAULTS = {
     "missing-id": ("<scxml><state initial='q'/></scxml>", 7),
 }
 
-# name: the text, the rule that refuses it, the numbers of its tables, and what is written of it behind ROOT where a coming request makes it a chart
+# name: the text, the rule that refuses it, the numbers of its tables, and of some what is written of it behind ROOT
 REFUSALS = {
     "state-in-final": (
         "<scxml><final id='f'><state id='s'/></final></scxml>",
@@ -131,15 +134,6 @@ REFUSALS = {
         [3, 0, 0, 0, 1, 2, 0, 65535, 65535, 0, 0, 0, 0, 0, 0, 0, 0, 1, 0, 0, 0, 0, 0, 0, 0, 0, 0, 0, 1, 0, 1, 0, 1, 1, 0, 0, 0, 1, 0, 4, 0,
          0, 0],
         '><state id="s"/><state id="t"><onentry><else/></onentry></state></scxml>',
-    ),
-    "send-and-cancel": (
-        "<scxml><state id='s'/><state id='t'><onentry><send id='k' event='x' delay='5'/><cancel sendid='k'/></onentry>"
-        "</state></scxml>",
-        1,
-        [3, 0, 0, 0, 2, 4, 0, 65535, 65535, 0, 0, 0, 0, 0, 0, 0, 0, 1, 0, 0, 0, 0, 0, 0, 0, 0, 0, 0, 1, 0, 1, 0, 2, 2, 0, 0, 0, 2, 0, 6, 3,
-         5, 2, 7, 2, 0, 0],
-        '><state id="s"/><state id="t"><onentry><send id="k" event="x" delay="5"/><cancel sendid="k"/></onentry>'
-        "</state></scxml>",
     ),
     "eventless-without-target": (
         '<scxml><state id=\'s\'><transition cond="In(\'s\')"/></state></scxml>',

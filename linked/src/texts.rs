@@ -8,12 +8,12 @@ use crate::seeds::Tally;
 use second::generate::{self, Flavour};
 use second::random::Random;
 use second::text::damage::{damaged, words, BYTES};
-use second::text::elements::{Name, ALL, KNOWN};
-use second::text::faults::{fault, tags};
+use second::text::elements::{Name, KNOWN};
+use second::text::faults::tags;
 use second::text::plant::planted;
 use second::text::read::{meaning, read_into, Refusal};
 use second::text::recogniser::{Recogniser, Ways};
-use second::text::samples::{EVERYTHING, LATER};
+use second::text::samples::{BRANCHES, EVERYTHING};
 use second::text::scan::scan;
 use second::text::spell::spell;
 
@@ -27,7 +27,7 @@ const DAMAGED: usize = 6;
 const ROWS: [&str; 4] = ["state", "parallel", "final", "history"];
 
 /// The texts of which every byte is changed.
-const TEXTS: [&str; 2] = [EVERYTHING, LATER];
+const TEXTS: [&str; 2] = [EVERYTHING, BRANCHES];
 
 /// Texts by their answers.
 #[derive(Clone, Default)]
@@ -41,22 +41,12 @@ impl Tally for Counts {
     }
 }
 
-/// What the second program answers, and how much it writes. send and cancel are of the grammar, but no
-/// action of the tables yet: a text with one that reads well is more than rule 1 allows.
-fn expected(text: &[u8], numbers: &mut [u64], names: &mut [u8]) -> Result<(usize, usize), Refusal> {
-    match fault(text, ALL) {
-        Some(place) => Err(Refusal::Text(place)),
-        None if scan(text, KNOWN).is_err() => Err(Refusal::Rule(1)),
-        None => read_into(text, numbers, names),
-    }
-}
-
 /// Reads with the library in both its forms and with the second program, into places of these sizes.
 fn reads_alike(text: &[u8], cells: usize, bytes: usize, random: &mut Random) -> Result<usize, String> {
     let numbers = Guarded::new(cells, || random.number());
     let names = Guarded::new(bytes, || random.number() as u8);
     let (mut own_numbers, mut own_names) = (numbers.clone(), names.clone());
-    let own = expected(text, own_numbers.lent(), own_names.lent());
+    let own = read_into(text, own_numbers.lent(), own_names.lent());
     let wanted = match own {
         Ok((cells, bytes)) => (0, 0, cells, bytes),
         Err(Refusal::Text(place)) => (BAD_TEXT as u32, place, 0, 0),
@@ -185,7 +175,7 @@ pub fn try_place(place: u64, counts: &mut Counts) -> Result<(), String> {
         place -= text.len();
         text = TEXTS[1].as_bytes();
     }
-    let mut recogniser = Recogniser::knowing(ALL);
+    let mut recogniser = Recogniser::default();
     let mut ways = recogniser.start();
     for &byte in &text[..place] {
         ways = recogniser.step(&ways, byte);

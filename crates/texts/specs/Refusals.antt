@@ -253,46 +253,6 @@ pub again-stray-else :
 unfolding everything
 again-stray-else = refl
 
--- <scxml><state id='s'/><state id='t'><onentry><send id='k' event='x' delay='5'/><cancel sendid='k'/></onentry></state></scxml>
-abbrev text-send-and-cancel : List ℕ
-text-send-and-cancel =
-    60 ∷ 115 ∷ 99 ∷ 120 ∷ 109 ∷ 108 ∷ 62 ∷ 60 ∷ 115 ∷ 116 ∷ 97 ∷ 116 ∷ 101 ∷ 32 ∷ 105 ∷ 100 ∷ 61 ∷ 39 ∷ 115 ∷ 39 ∷ 47 ∷ 62 ∷ 60 ∷ 115 ∷ 116 ∷ 97 ∷ 116
-    ∷ 101 ∷ 32 ∷ 105 ∷ 100 ∷ 61 ∷ 39 ∷ 116 ∷ 39 ∷ 62 ∷ 60 ∷ 111 ∷ 110 ∷ 101 ∷ 110 ∷ 116 ∷ 114 ∷ 121 ∷ 62 ∷ 60 ∷ 115 ∷ 101 ∷ 110 ∷ 100 ∷ 32 ∷ 105 ∷ 100
-    ∷ 61 ∷ 39 ∷ 107 ∷ 39 ∷ 32 ∷ 101 ∷ 118 ∷ 101 ∷ 110 ∷ 116 ∷ 61 ∷ 39 ∷ 120 ∷ 39 ∷ 32 ∷ 100 ∷ 101 ∷ 108 ∷ 97 ∷ 121 ∷ 61 ∷ 39 ∷ 53 ∷ 39 ∷ 47 ∷ 62 ∷ 60
-    ∷ 99 ∷ 97 ∷ 110 ∷ 99 ∷ 101 ∷ 108 ∷ 32 ∷ 115 ∷ 101 ∷ 110 ∷ 100 ∷ 105 ∷ 100 ∷ 61 ∷ 39 ∷ 107 ∷ 39 ∷ 47 ∷ 62 ∷ 60 ∷ 47 ∷ 111 ∷ 110 ∷ 101 ∷ 110 ∷ 116 ∷
-    114 ∷ 121 ∷ 62 ∷ 60 ∷ 47 ∷ 115 ∷ 116 ∷ 97 ∷ 116 ∷ 101 ∷ 62 ∷ 60 ∷ 47 ∷ 115 ∷ 99 ∷ 120 ∷ 109 ∷ 108 ∷ 62 ∷ []
-
-pub send-and-cancel :
-    readOf text-send-and-cancel ≡ refused 1
-unfolding everything
-send-and-cancel = refl
-
-pub numbers-send-and-cancel :
-    numbersOf (slotsOf (tagsOf text-send-and-cancel)) (contentOf (tagsOf text-send-and-cancel)) ≡ 3 ∷ 0 ∷ 0 ∷ 0 ∷ 2 ∷ 4 ∷ 0 ∷ 65535 ∷ 65535 ∷ 0 ∷ 0 ∷
-    0 ∷ 0 ∷ 0 ∷ 0 ∷ 0 ∷ 0 ∷ 1 ∷ 0 ∷ 0 ∷ 0 ∷ 0 ∷ 0 ∷ 0 ∷ 0 ∷ 0 ∷ 0 ∷ 0 ∷ 1 ∷ 0 ∷ 1 ∷ 0 ∷ 2 ∷ 2 ∷ 0 ∷ 0 ∷ 0 ∷ 2 ∷ 0 ∷ 6 ∷ 3 ∷ 5 ∷ 2 ∷ 7 ∷ 2 ∷ 0 ∷ 0 ∷ []
-unfolding everything
-numbers-send-and-cancel = refl
-
-abbrev written-send-and-cancel : List ℕ
-written-send-and-cancel =
-    60 ∷ 115 ∷ 99 ∷ 120 ∷ 109 ∷ 108 ∷ 32 ∷ 120 ∷ 109 ∷ 108 ∷ 110 ∷ 115 ∷ 61 ∷ 34 ∷ 104 ∷ 116 ∷ 116 ∷ 112 ∷ 58 ∷ 47 ∷ 47 ∷ 119 ∷ 119 ∷ 119 ∷ 46 ∷ 119 ∷
-    51 ∷ 46 ∷ 111 ∷ 114 ∷ 103 ∷ 47 ∷ 50 ∷ 48 ∷ 48 ∷ 53 ∷ 47 ∷ 48 ∷ 55 ∷ 47 ∷ 115 ∷ 99 ∷ 120 ∷ 109 ∷ 108 ∷ 34 ∷ 32 ∷ 118 ∷ 101 ∷ 114 ∷ 115 ∷ 105 ∷ 111
-    ∷ 110 ∷ 61 ∷ 34 ∷ 49 ∷ 46 ∷ 48 ∷ 34 ∷ 62 ∷ 60 ∷ 115 ∷ 116 ∷ 97 ∷ 116 ∷ 101 ∷ 32 ∷ 105 ∷ 100 ∷ 61 ∷ 34 ∷ 115 ∷ 34 ∷ 47 ∷ 62 ∷ 60 ∷ 115 ∷ 116 ∷ 97 ∷
-    116 ∷ 101 ∷ 32 ∷ 105 ∷ 100 ∷ 61 ∷ 34 ∷ 116 ∷ 34 ∷ 62 ∷ 60 ∷ 111 ∷ 110 ∷ 101 ∷ 110 ∷ 116 ∷ 114 ∷ 121 ∷ 62 ∷ 60 ∷ 115 ∷ 101 ∷ 110 ∷ 100 ∷ 32 ∷ 105 ∷
-    100 ∷ 61 ∷ 34 ∷ 107 ∷ 34 ∷ 32 ∷ 101 ∷ 118 ∷ 101 ∷ 110 ∷ 116 ∷ 61 ∷ 34 ∷ 120 ∷ 34 ∷ 32 ∷ 100 ∷ 101 ∷ 108 ∷ 97 ∷ 121 ∷ 61 ∷ 34 ∷ 53 ∷ 34 ∷ 47 ∷ 62 ∷
-    60 ∷ 99 ∷ 97 ∷ 110 ∷ 99 ∷ 101 ∷ 108 ∷ 32 ∷ 115 ∷ 101 ∷ 110 ∷ 100 ∷ 105 ∷ 100 ∷ 61 ∷ 34 ∷ 107 ∷ 34 ∷ 47 ∷ 62 ∷ 60 ∷ 47 ∷ 111 ∷ 110 ∷ 101 ∷ 110 ∷
-    116 ∷ 114 ∷ 121 ∷ 62 ∷ 60 ∷ 47 ∷ 115 ∷ 116 ∷ 97 ∷ 116 ∷ 101 ∷ 62 ∷ 60 ∷ 47 ∷ 115 ∷ 99 ∷ 120 ∷ 109 ∷ 108 ∷ 62 ∷ []
-
-pub print-send-and-cancel :
-    print (contentOf (tagsOf text-send-and-cancel)) ≡ written-send-and-cancel
-unfolding everything
-print-send-and-cancel = refl
-
-pub again-send-and-cancel :
-    contentOf (tagsOf written-send-and-cancel) ≡ contentOf (tagsOf text-send-and-cancel)
-unfolding everything
-again-send-and-cancel = refl
-
 -- <scxml><state id='s'><transition cond="In('s')"/></state></scxml>
 abbrev text-eventless-without-target : List ℕ
 text-eventless-without-target =

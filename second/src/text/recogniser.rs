@@ -1,7 +1,7 @@
 //! A recogniser of any EBNF without left recursion: it keeps every way in which the text so far can be
 //! the beginning of a text of the grammar, each a stack of what is still to come.
 
-use super::ebnf::{Grammar, Node, NodeNumber, SCXML_TEXT};
+use super::ebnf::{Grammar, Node, NodeNumber, LATER_ACTIONS, SCXML_TEXT};
 use super::elements::{Element, KNOWN};
 use std::collections::{HashMap, HashSet};
 use std::hash::{BuildHasherDefault, Hasher};
@@ -73,7 +73,8 @@ impl Recogniser {
     /// Of the grammar of SCXML text, in which blocks hold these actions.
     pub fn knowing(actions: &'static [Element]) -> Recogniser {
         let words: Vec<&str> = actions.iter().map(|action| action.entry().word).collect();
-        let others = SCXML_TEXT.lines().filter(|line| !line.starts_with("action "));
+        let rules = SCXML_TEXT.lines().chain(LATER_ACTIONS.lines());
+        let others = rules.filter(|line| !line.starts_with("action "));
         let action = format!("action = {}", words.join(" | "));
         let grammar = Grammar::read(others.chain([action.as_str()]));
         assert!(grammar.can_always_end(), "a way that is left leads to a text");

@@ -7,6 +7,11 @@ pub const EVERYTHING: &str = "<!-- - --> \n<scxml xmlns='http://www.w3.org/2005/
  target='c'><log label='&quot;2'/></transition> </initial><final id='c'/></state></state>
 <parallel id='p'><history id='h' type='deep'><transition target='d'/></history><state id='d'/></parallel></scxml> <!--->-->\r\n";
 
+/// The actions that hold others and stand between them.
+pub const BRANCHES: &str = "<scxml><state id='a'><onexit><if cond=\"In('a')\"><raise event='e' /><!-- --><elseif cond='In(&apos;a&apos;)'
+ /><log label='1'></log><if cond='&lt;'/><else></else ></if ><else/><raise\tevent=\"e\"> </raise></onexit>
+<transition><if cond=''><log label='1'/></if></transition></state></scxml>";
+
 /// The actions of later requests.
 pub const LATER: &str = "<scxml><state id='a'><onexit><if cond=\"In('a')\"><send event='e' /><!-- --><elseif cond='In(&apos;a&apos;)'
  /><cancel sendid='s'></cancel><if cond='&lt;'/><else></else ></if ><else/><send\tid='s' delay='5' event=\"e\"> </send><raise event='f'/></onexit>

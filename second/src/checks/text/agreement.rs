@@ -10,7 +10,7 @@ use crate::text::damage::{damaged, words, BYTES};
 use crate::text::elements::{Element, ALL, KNOWN};
 use crate::text::read::{read, Refusal};
 use crate::text::recogniser::{Recogniser, Ways};
-use crate::text::samples::{EVERYTHING, LATER};
+use crate::text::samples::{BRANCHES, EVERYTHING, LATER};
 use crate::text::scan::scan;
 use crate::text::spell::spell;
 
@@ -24,6 +24,7 @@ pub fn checks() -> Vec<Check> {
         ("everything", EVERYTHING, KNOWN),
         ("chart A", CHART_A, KNOWN),
         ("the numbered chart", NUMBERED, KNOWN),
+        ("branches", BRANCHES, KNOWN),
         ("later actions", LATER, ALL),
         ("everything where later actions are known", EVERYTHING, ALL),
     ];

@@ -3,7 +3,8 @@
 use super::examples::{EXAMPLES, LATER};
 use super::{agrees, answers, unmarked, Check};
 use crate::invariants::{ensure, Found};
-use crate::text::elements::ALL;
+use crate::text::ebnf::SCXML_TEXT;
+use crate::text::elements::{ALL, KNOWN};
 use crate::text::faults::fault;
 use crate::text::recogniser::Recogniser;
 
@@ -15,8 +16,15 @@ pub fn checks() -> Vec<Check> {
         })
     };
     let mut checks: Vec<Check> = EXAMPLES.iter().map(check).collect();
+    checks.push(Check::new("text: the actions of docs are those that are read", known_actions));
     checks.push(Check::new("text: actions of later requests, where they are known", later_actions));
     checks
+}
+
+fn known_actions() -> Found {
+    let words: Vec<&str> = KNOWN.iter().map(|action| action.entry().word).collect();
+    let rule = SCXML_TEXT.lines().find(|line| line.starts_with("action "));
+    ensure(rule == Some(&format!("action      = {}", words.join(" | "))), &format!("{rule:?}"))
 }
 
 fn later_actions() -> Found {
