@@ -71,7 +71,7 @@ unfoldable pub pickAttribute : ℕ → ℕ → ℕ → ℕ → ℕ → ℕ → �
 pickAttribute zero j e x w k b = 4
 pickAttribute (suc n) j e x w k b = cond (not (has x j) && follows w (attribute e j) k b) j (pickAttribute n (suc j) e x w k b)
 
--- a start tag may end: raise has its event, log its label, the transition of an initial element its target
+-- a start tag may end: the attribute that its element requires is there, if it requires one
 unfoldable pub isComplete : ℕ → ℕ → Bool
 isComplete e x = eqb (getD needed e 4) 4 || has x (getD needed e 4)
 

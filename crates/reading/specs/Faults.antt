@@ -205,7 +205,7 @@ abbrev pub typesOf : ℕ → List (List ℕ)
 typesOf e = cond (eqb e 4) (shallow ∷ deep ∷ []) (external ∷ internal ∷ [])
 
 -- xmlns and version have one value, a type two, "A log's label is a decimal host action from 0 to 65,535" (1.5), a delay has at most 4,294,967,295
--- milliseconds (R-9), a cond is In and a reference, initial and target are references, all others names or descriptors
+-- ticks (R-9), a cond is In and a reference, initial and target are references, all others names or descriptors
 unfoldable pub partFaults : List (List ℕ) → Part → List ℕ
 partFaults ids p =
     let w = p .word in
