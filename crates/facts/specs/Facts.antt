@@ -6,10 +6,9 @@ use Prim.Native.Nat.{ℕ, zero, suc, _-_, _≤_, _<_}
 use native.Mathlib.Omega.{arith}
 use lib.Dec.{eqb}
 use borrow.Author.Tests.{le-leb, lt-leb, eqb-true, not-true, not-false}
-use Rattle.definition.specs.Rows.{same}
 use Rattle.reading.specs.Tags.{Part}
-use Rattle.reading.specs.Faults.{namesIn, plain, idWord, initialWord, typeWord, eventWord, condWord, targetWord, states, valueOf, internal as internalText}
-use Rattle.reading.specs.Content.{Block, blockOf, kindIn, rowsIn, conditionIn, actIn, Fact, rowFact, listFact, transitionFact, actionFact, isDefault, turn}
+use Rattle.reading.specs.Faults.{namesIn, idWord, initialWord, eventWord, condWord, targetWord, states, valueOf}
+use Rattle.reading.specs.Content.{Block, blockOf, isInternal, kindIn, rowsIn, conditionIn, actIn, Fact, rowFact, listFact, transitionFact, actionFact, isDefault, turn}
 use Rattle.turns.specs.declared.SpotCells.{SpotCells}
 use Rattle.turns.specs.Spots.{spotBy, spotAs, row-of, wants-of, isPlain}
 use Rattle.facts.specs.declared.Said.{Said}
@@ -22,7 +21,7 @@ saidFacts ids e ps Nothing = []
 saidFacts ids e ps (Row q) = rowFact (kindIn e ps) q (valueOf idWord ps) (rowsIn ids (valueOf initialWord ps)) ∷ []
 saidFacts ids e ps (ListOf i) = listFact i (rowsIn ids (valueOf targetWord ps)) ∷ []
 saidFacts ids e ps (Transition i) =
-    transitionFact i (namesIn (valueOf eventWord ps)) (conditionIn ids ps) (same (plain (valueOf typeWord ps)) internalText) (rowsIn ids (valueOf targetWord ps)) ∷ []
+    transitionFact i (namesIn (valueOf eventWord ps)) (conditionIn ids ps) (isInternal ps) (rowsIn ids (valueOf targetWord ps)) ∷ []
 saidFacts ids e ps (Action p i) = actionFact (record { part = p; owner = i }) (actIn ids e ps) ∷ []
 
 abbrev pub partOf : ℕ → ℕ
@@ -141,7 +140,7 @@ module _ (s : SpotCells) (e : ℕ) (p : Bool) where
                 rw (lt-leb e 4 h, o .0, o .1, o .2, moving, default-is ps k ∙ d)
                 (ap
                 (λ (i : ℕ).
-                transitionFact i (namesIn (valueOf eventWord ps)) (conditionIn ids ps) (same (plain (valueOf typeWord ps)) internalText) (rowsIn ids (valueOf targetWord ps)) ∷ [])
+                transitionFact i (namesIn (valueOf eventWord ps)) (conditionIn ids ps) (isInternal ps) (rowsIn ids (valueOf targetWord ps)) ∷ [])
                 (row-of (s .what) (s .number)));
           }
 

@@ -8,7 +8,7 @@ use lib.ListN.{length}
 use Rattle.definition.specs.Rows.{same, flat, from}
 use Rattle.definition.specs.Tables.{noNumber}
 use Rattle.reading.specs.Tags.{Part, opening, empty, closing, Markup}
-use Rattle.reading.specs.Faults.{namesIn, plain, inner, decimal, idWord, initialWord, typeWord, eventWord, condWord, targetWord, labelWord, delayWord, sendidWord, states, valueOf, idsOf, isAmong, internal as internalText, deep as deepText}
+use Rattle.reading.specs.Faults.{namesIn, plain, inner, decimal, idWord, initialWord, typeWord, eventWord, condWord, targetWord, labelWord, delayWord, sendidWord, states, valueOf, valueOr, idsOf, isAmong, external, internal as internalText, shallow, deep as deepText}
 
 -- actions: raise and log (1.1); if, elseif, else (R-5) and the end of an if are actions of the block that they stand in; send and cancel (R-9)
 pub data Act : Type 0 where
@@ -99,8 +99,12 @@ abbrev pub blockOf : Spot → Block
 blockOf (inRow i d) = record { part = 0; owner = i }
 blockOf (inBlock k) = k
 
+-- the defaults, "external" of a transition and "shallow" of a history (1.8)
+abbrev pub isInternal : List Part → Bool
+isInternal ps = same (plain (valueOr external typeWord ps)) internalText
+
 abbrev pub kindIn : ℕ → List Part → ℕ
-kindIn e ps = cond (eqb e 4 && same (plain (valueOf typeWord ps)) deepText) 5 e
+kindIn e ps = cond (eqb e 4 && same (plain (valueOr shallow typeWord ps)) deepText) 5 e
 
 -- raise, log, if, else, elseif, send, cancel
 unfoldable pub actIn : List (List ℕ) → ℕ → List Part → Act
@@ -137,7 +141,7 @@ turn ids s n m e ps =
     (cond (isDefault s e ps)
     (record { facts = listFact (rowOf s) (rowsIn ids (valueOf targetWord ps)) ∷ []; inside = inBlock (record { part = 3; owner = rowOf s }); around = settled s; rows = n; transitions = m })
     (record {
-      facts = transitionFact (rowOf s) (namesIn (valueOf eventWord ps)) (conditionIn ids ps) (same (plain (valueOf typeWord ps)) internalText) (rowsIn ids (valueOf targetWord ps)) ∷ [];
+      facts = transitionFact (rowOf s) (namesIn (valueOf eventWord ps)) (conditionIn ids ps) (isInternal ps) (rowsIn ids (valueOf targetWord ps)) ∷ [];
       inside = inBlock (record { part = 4; owner = m });
       around = s;
       rows = n;

@@ -141,6 +141,10 @@ unfoldable pub valueOf : ℕ → List Part → List ℕ
 valueOf w [] = []
 valueOf w (p ∷ ps) = cond (eqb (p .word) w) (p .bytes) (valueOf w ps)
 
+-- "the attribute's part of the document, or where it is absent the part of the defaults text" (1.8): its value, or this default
+abbrev pub valueOr : List ℕ → ℕ → List Part → List ℕ
+valueOr default w ps = cond (states w ps) (valueOf w ps) default
+
 -- state, parallel, final, history
 abbrev pub isRowTag : ℕ → Bool
 isRowTag e = leb 1 e && leb e 4

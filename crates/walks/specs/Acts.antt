@@ -13,6 +13,7 @@ use Rattle.reading.specs.Faults.{plain, decimal, partFaults, states, valueOf, i
 use Rattle.reading.specs.Content.{sends, placeOf, rowIn, actIn}
 use Rattle.reading.specs.Layout.{actCells}
 use Rattle.tags.specs.Cells.{statedIn, Stated}
+use Rattle.attribute.specs.Laws.{value-at}
 use Rattle.values.specs.Ids.{idsFrom, Noted}
 use Rattle.bins.specs.Binned.{Item}
 use Rattle.items.specs.Items.{under}
@@ -20,7 +21,7 @@ use Rattle.walks.specs.declared.plan.Plan.{Plan}
 use Rattle.walks.specs.declared.name_items.Filing.{Filing}
 use Rattle.walks.specs.declared.acts.ActCells.{ActCells}
 use Rattle.walks.specs.Filed.{one, Fileable, FiledBy, fileable-first, fileable-rest, filed-both}
-use Rattle.walks.specs.Told.{valueAt, value-at, word-room, PlaceRoom, DecimalRoom, CondAtRoom, label-room, delay-room, condition-room}
+use Rattle.walks.specs.Told.{valueAt, word-room, PlaceRoom, DecimalRoom, CondAtRoom, label-room, delay-room, condition-room}
 
 abbrev pub withFirst : ℕ → ℕ → ActCells
 withFirst what first = record { what = what; first = first; second = 0; third = 0 }

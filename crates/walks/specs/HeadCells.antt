@@ -7,26 +7,52 @@ use native.Mathlib.Omega.{arith}
 use lib.Dec.{eqb}
 use lib.ListN.{length, take, drop, length-drop}
 use lib.Seq.{length-take-le}
-use borrow.Author.Tests.{not-true, not-false}
+use borrow.Author.Tests.{not-true, not-false, eqb-true}
 use Rattle.definition.specs.Rows.{same, isEmpty}
 use Rattle.reading.specs.Faults.{plain, deep, internal}
 use Rattle.reading.specs.Content.{placeOf, rowIn}
 use Rattle.reading.specs.Layout.{idCell}
 use Rattle.tags.specs.Cells.{statedIn, fromIn, toIn}
+use Rattle.attribute.specs.declared.Default.{Default}
+use Rattle.attribute.specs.declared.Default.the-variants.{External, Shallow}
+use Rattle.attribute.specs.Values.{defaultsText, defaultPart, defaultOf, default-is, valueIn}
 use Rattle.values.specs.Ids.{idsFrom}
 use Rattle.walks.specs.Told.{valueAt, part-at, PlaceRoom}
 
+-- ---- the type
+
+-- what a type is that is not its default
+abbrev pub otherOf : Default → List ℕ
+otherOf External = internal
+otherOf Shallow = deep
+
+module _ (text cells : List ℕ) (d : Default) (v : List ℕ) (told : v ≡ valueIn text cells 28 (defaultPart defaultsText d)) where
+  type-is : v ≡ valueIn text cells 28 (defaultOf d)
+  type-is = told ∙ ap (λ (x : List ℕ). valueIn text cells 28 x) (default-is d)
+
+  other-is : (o : List ℕ) (r : Bool) → o ≡ otherOf d → r ≡ same (plain v) o → r ≡ same (plain (valueIn text cells 28 (defaultOf d))) (otherOf d)
+  other-is o r e q = q ∙ ap (λ (x : List ℕ). same (plain x) o) type-is ∙ ap (same (plain (valueIn text cells 28 (defaultOf d)))) e
+
+  pub other-internal : (r : Bool) → d ≡ External → r ≡ same (plain v) internal → r ≡ same (plain (valueIn text cells 28 (defaultOf d))) (otherOf d)
+  other-internal r e q = other-is internal r (ap otherOf (sym e)) q
+
+  pub other-deep : (r : Bool) → d ≡ Shallow → r ≡ same (plain v) deep → r ≡ same (plain (valueIn text cells 28 (defaultOf d))) (otherOf d)
+  other-deep r e q = other-is deep r (ap otherOf (sym e)) q
+
 -- ---- the kind
 
-module _ (text cells : List ℕ) (e from to : ℕ) (a : from ≡ fromIn cells 28) (b : to ≡ toIn cells 28) (z : Bool) (is : z ≡ same (plain (take (to - from) (drop from text))) deep) where
-  deep-is : z ≡ same (plain (valueAt text cells 28)) deep
-  deep-is = is ∙ ap (λ (v : List ℕ). same (plain v) deep) (part-at text cells 28 from to a b)
+pub kind-own : (v : List ℕ) (e r : ℕ) → not (eqb e 4) ≡ true → r ≡ e → r ≡ cond (eqb e 4 && same (plain v) deep) 5 e
+kind-own v e r q p = p ∙ ap (λ (y : Bool). cond (y && same (plain v) deep) 5 e) (sym (not-true (eqb e 4) q))
 
-  pub kind-deep : (eqb e 4 && z) ≡ true → 5 ≡ cond (eqb e 4 && same (plain (valueAt text cells 28)) deep) 5 e
-  kind-deep q = ap (λ (y : Bool). cond y 5 e) (sym q) ∙ ap (λ (y : Bool). cond (eqb e 4 && y) 5 e) deep-is
+module _ (v : List ℕ) (e : ℕ) (history : not (eqb e 4) ≡ false) (z : Bool) (is : z ≡ same (plain v) deep) where
+  kind-is : cond z 5 e ≡ cond (eqb e 4 && same (plain v) deep) 5 e
+  kind-is = ap (λ (y : Bool). cond y 5 e) is ∙ ap (λ (y : Bool). cond (y && same (plain v) deep) 5 e) (sym (not-false (eqb e 4) history))
 
-  pub kind-own : (r : ℕ) → (eqb e 4 && z) ≡ false → r ≡ e → r ≡ cond (eqb e 4 && same (plain (valueAt text cells 28)) deep) 5 e
-  kind-own r q p = p ∙ ap (λ (y : Bool). cond y 5 e) (sym q) ∙ ap (λ (y : Bool). cond (eqb e 4 && y) 5 e) deep-is
+  pub kind-deep : z ≡ true → 5 ≡ cond (eqb e 4 && same (plain v) deep) 5 e
+  kind-deep q = ap (λ (y : Bool). cond y 5 e) (sym q) ∙ kind-is
+
+  pub kind-shallow : z ≡ false → 4 ≡ cond (eqb e 4 && same (plain v) deep) 5 e
+  kind-shallow q = sym (eqb-true e 4 (not-false (eqb e 4) history)) ∙ ap (λ (y : Bool). cond y 5 e) (sym q) ∙ kind-is
 
 -- ---- the id
 
@@ -69,12 +95,9 @@ module _ (text cells ids : List ℕ) (n : ℕ) (stated : Bool) (is : stated ≡ 
 
 -- ---- internal
 
-module _ (text cells : List ℕ) (from to : ℕ) (a : from ≡ fromIn cells 28) (b : to ≡ toIn cells 28) (z : Bool) (is : z ≡ same (plain (take (to - from) (drop from text))) internal) where
-  internal-is : z ≡ same (plain (valueAt text cells 28)) internal
-  internal-is = is ∙ ap (λ (v : List ℕ). same (plain v) internal) (part-at text cells 28 from to a b)
+module _ (v : List ℕ) (z : Bool) (is : z ≡ same (plain v) internal) where
+  pub internal-so : z ≡ true → _≡_ {A = ℕ} 1 (cond (same (plain v) internal) 1 0)
+  internal-so q = ap (λ (y : Bool). cond {A = ℕ} y 1 0) (sym q ∙ is)
 
-  pub internal-so : z ≡ true → _≡_ {A = ℕ} 1 (cond (same (plain (valueAt text cells 28)) internal) 1 0)
-  internal-so q = ap (λ (y : Bool). cond {A = ℕ} y 1 0) (sym q ∙ internal-is)
-
-  pub external-so : z ≡ false → _≡_ {A = ℕ} 0 (cond (same (plain (valueAt text cells 28)) internal) 1 0)
-  external-so q = ap (λ (y : Bool). cond {A = ℕ} y 1 0) (sym q ∙ internal-is)
+  pub external-so : z ≡ false → _≡_ {A = ℕ} 0 (cond (same (plain v) internal) 1 0)
+  external-so q = ap (λ (y : Bool). cond {A = ℕ} y 1 0) (sym q ∙ is)

@@ -10,11 +10,13 @@ use lib.ListN.{length, getD, set, length-set}
 use borrow.Author.Tests.{lt-ltb, le-ltb}
 use Rattle.definition.specs.Rows.{same}
 use Rattle.reading.specs.Tags.{Part}
-use Rattle.reading.specs.Faults.{plain, deep, internal, states, valueOf, idWord, typeWord, condWord}
-use Rattle.reading.specs.Content.{Block, Act, Fact, rowFact, listFact, transitionFact, actionFact, endIf, kindIn, conditionIn, rowIn}
+use Rattle.reading.specs.Faults.{plain, external, internal, shallow, deep, states, valueOf, idWord, condWord}
+use Rattle.reading.specs.Content.{Block, Act, Fact, rowFact, listFact, transitionFact, actionFact, endIf, isInternal, kindIn, conditionIn, rowIn}
 use Rattle.reading.specs.Layout.{orNone, idCell}
 use Rattle.tags.specs.Cells.{statedIn, Stated}
 use Rattle.turns.specs.declared.SpotCells.{SpotCells}
+use Rattle.attribute.specs.Values.{valueIn}
+use Rattle.attribute.specs.Laws.{value-at, value-or}
 use Rattle.facts.specs.declared.Said.{Said}
 use Rattle.facts.specs.declared.Said.the-variants.{Nothing, Row, List as ListOf, Transition, Action}
 use Rattle.facts.specs.Facts.{partOf, saidFacts, ends}
@@ -26,7 +28,7 @@ use Rattle.walks.specs.declared.sources.Counts.{Counts}
 use Rattle.walks.specs.declared.item_walk.TagAt.{TagAt}
 use Rattle.walks.specs.declared.heads.HeadAt.{HeadAt}
 use Rattle.walks.specs.Keys.{Few}
-use Rattle.walks.specs.Told.{valueAt, value-at, word-room, WordRoom, PlaceRoom, CondAtRoom, condition-room}
+use Rattle.walks.specs.Told.{valueAt, word-room, WordRoom, PlaceRoom, CondAtRoom, condition-room}
 use Rattle.walks.specs.Acts.{ActRoom}
 use Rattle.walks.specs.Said.{endSaid, TagSaid}
 use Rattle.walks.specs.Plan.{layBase}
@@ -132,7 +134,7 @@ module _ (text cells ids slots out : List ℕ) (p : Plan) where
   set-size : (a b c x y z : ℕ) → length (set (set (set out a x) b y) c z) ≡ length out
   set-size a b c x y z = length-set (set (set out a x) b y) c z ∙ length-set (set out a x) b y ∙ length-set out a x
 
-  pub row-in : (i q e k w d : ℕ) → i < p .rows → k ≡ cond (eqb e 4 && same (plain (valueAt text cells 28)) deep) 5 e → w ≡ q →
+  pub row-in : (i q e k w d : ℕ) → i < p .rows → k ≡ cond (eqb e 4 && same (plain (valueIn text cells 28 shallow)) deep) 5 e → w ≡ q →
       d ≡ idCell (idsFrom text slots (p .slots) 0) (valueAt text cells 26) →
       RowLaid text cells slots out (set (set (set out (6 + i * 11) k) (6 + i * 11 + 1) w) (6 + i * 11 + 2) d) p i q e
   row-in i q e k w d l a b c =
@@ -140,7 +142,7 @@ module _ (text cells ids slots out : List ℕ) (p : Plan) where
         size = set-size (6 + i * 11) (6 + i * 11 + 1) (6 + i * 11 + 2) k w d;
         is = λ ps s.
             let slotsHere = idsFrom text slots (p .slots) 0 in
-            let ki : k ≡ kindIn e ps = a ∙ ap (λ (v : List ℕ). cond (eqb e 4 && same (plain v) deep) 5 e) (value-at text cells 28 ps s (omega arith) (omega arith)) in
+            let ki : k ≡ kindIn e ps = a ∙ ap (λ (v : List ℕ). cond (eqb e 4 && same (plain v) deep) 5 e) (value-or text cells shallow 28 ps s (omega arith) (omega arith)) in
             let di : d ≡ idCell slotsHere (valueOf idWord ps) = c ∙ ap (idCell slotsHere) (value-at text cells 26 ps s (omega arith) (omega arith)) in
             ap (λ (x : ℕ). rowSet out i x w d) ki ∙ ap (λ (x : ℕ). rowSet out i (kindIn e ps) x d) b ∙ ap (λ (x : ℕ). rowSet out i (kindIn e ps) q x) di ∙
             ap (λ (z : Bool). cond z (rowSet out i (kindIn e ps) q (idCell slotsHere (valueOf idWord ps))) out) (sym (lt-ltb i (p .rows) l));
@@ -151,14 +153,14 @@ pub record TransitionLaid (text cells ids ranks out out' : List ℕ) (p : Plan) 
   pub is : (ps : List Part) → Stated text cells ps →
       out' ≡
       cond (ltb (getD ranks m 0) (p .transitions))
-      (transitionSet out (p .rows) (getD ranks m 0) q (orNone (conditionIn (idsFrom text ids (p .ids) 0) ps)) (cond (same (plain (valueOf typeWord ps)) internal) 1 0)) out
+      (transitionSet out (p .rows) (getD ranks m 0) q (orNone (conditionIn (idsFrom text ids (p .ids) 0) ps)) (cond (isInternal ps) 1 0)) out
 
 module _ (text cells ids ranks out : List ℕ) (p : Plan) (m q : ℕ) (r : ℕ) (rank : r ≡ getD ranks m 0) where
   abbrev idsHere : List (List ℕ)
   idsHere = idsFrom text ids (p .ids) 0
 
   abbrev laid : List Part → ℕ → Bool → List ℕ
-  laid ps x z = cond z (transitionSet out (p .rows) x q (orNone (conditionIn idsHere ps)) (cond (same (plain (valueOf typeWord ps)) internal) 1 0)) out
+  laid ps x z = cond z (transitionSet out (p .rows) x q (orNone (conditionIn idsHere ps)) (cond (isInternal ps) 1 0)) out
 
   pub transition-out : p .transitions ≤ r → TransitionLaid text cells ids ranks out out p m q
   transition-out l =
@@ -175,7 +177,7 @@ module _ (text cells ids ranks out : List ℕ) (p : Plan) (m q : ℕ) (r : ℕ) 
       by false x = refl
 
   pub transition-in : (w c y : ℕ) → r < p .transitions → w ≡ q → c ≡ cond (statedIn cells 30) (rowIn idsHere (valueAt text cells 30)) 65535 →
-      y ≡ cond (same (plain (valueAt text cells 28)) internal) 1 0 →
+      y ≡ cond (same (plain (valueIn text cells 28 external)) internal) 1 0 →
       TransitionLaid text cells ids ranks out (set (set (set out (6 + p .rows * 11 + r * 9) w) (6 + p .rows * 11 + r * 9 + 3) c) (6 + p .rows * 11 + r * 9 + 4) y) p m q
   transition-in w c y l a b d =
       record {
@@ -184,8 +186,8 @@ module _ (text cells ids ranks out : List ℕ) (p : Plan) (m q : ℕ) (r : ℕ) 
             let ci : c ≡ orNone (conditionIn idsHere ps) =
             b ∙ ap (λ (z : Bool). cond z (rowIn idsHere (valueAt text cells 30)) 65535) (s .there 30 (omega arith) (omega arith)) ∙
             ap (λ (v : List ℕ). cond (states condWord ps) (rowIn idsHere v) 65535) (value-at text cells 30 ps s (omega arith) (omega arith)) ∙ sym (or-none ps) in
-            let yi : y ≡ cond (same (plain (valueOf typeWord ps)) internal) 1 0 =
-            d ∙ ap (λ (v : List ℕ). cond {A = ℕ} (same (plain v) internal) 1 0) (value-at text cells 28 ps s (omega arith) (omega arith)) in
+            let yi : y ≡ cond (isInternal ps) 1 0 =
+            d ∙ ap (λ (v : List ℕ). cond {A = ℕ} (same (plain v) internal) 1 0) (value-or text cells external 28 ps s (omega arith) (omega arith)) in
             ap (λ (x : ℕ). transitionSet out (p .rows) r x c y) a ∙ ap (λ (x : ℕ). transitionSet out (p .rows) r q x y) ci ∙
             ap (λ (x : ℕ). transitionSet out (p .rows) r q (orNone (conditionIn idsHere ps)) x) yi ∙ ap (laid ps r) (sym (lt-ltb r (p .transitions) l)) ∙
             ap (λ (x : ℕ). laid ps x (ltb x (p .transitions))) rank;

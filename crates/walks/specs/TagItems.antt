@@ -11,6 +11,7 @@ use Rattle.reading.specs.Content.{actIn}
 use Rattle.reading.specs.Layout.{actCells}
 use Rattle.tags.specs.Cells.{fromIn, toIn, Stated}
 use Rattle.turns.specs.declared.SpotCells.{SpotCells}
+use Rattle.attribute.specs.Laws.{value-at}
 use Rattle.facts.specs.declared.Said.{Said}
 use Rattle.facts.specs.declared.Said.the-variants.{Nothing, Row, List as ListOf, Transition, Action}
 use Rattle.facts.specs.Facts.{partOf, ends}
@@ -24,7 +25,7 @@ use Rattle.walks.specs.declared.tag_items.Tag.{Tag}
 use Rattle.walks.specs.Filed.{Fileable, FiledBy, filed-none, fileable-first, fileable-rest, filed-both}
 use Rattle.walks.specs.Keys.{Few}
 use Rattle.walks.specs.Names.{namesItems, NamesRoom}
-use Rattle.walks.specs.Told.{valueAt, part-at, value-at, word-room, PlaceRoom}
+use Rattle.walks.specs.Told.{valueAt, part-at, word-room, PlaceRoom}
 use Rattle.walks.specs.Acts.{fourOf, ActRoom, ActIs, FileActRoom}
 
 abbrev pub filingOf : Plan → ℕ → ℕ → Filing

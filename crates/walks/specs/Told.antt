@@ -17,6 +17,7 @@ use Rattle.reading.specs.Tags.{Part}
 use Rattle.reading.specs.Content.{placeOf, rowIn}
 use Rattle.marks.specs.Grouped.{bytesFrom}
 use Rattle.tags.specs.Cells.{statedIn, fromIn, toIn, longCell, Stated}
+use Rattle.attribute.specs.Laws.{value-at}
 use Rattle.values.specs.declared.conditions.Condition.{Condition}
 use Rattle.values.specs.declared.conditions.Condition.the-variants.{Other, In}
 use Rattle.values.specs.Conditions.{conditionOf}
@@ -27,11 +28,6 @@ use Rattle.walks.specs.Names.{place-few}
 
 abbrev pub valueAt : List ℕ → List ℕ → ℕ → List ℕ
 valueAt text cells w = bytesFrom text (fromIn cells w) (toIn cells w)
-
-pub value-at : (text cells : List ℕ) (w : ℕ) (ps : List Part) → Stated text cells ps → 24 ≤ w → w < 35 → valueAt text cells w ≡ valueOf w ps
-value-at text cells w ps h l u =
-    let long : toIn cells w - fromIn cells w ≡ getD cells (longCell w) 0 - 1 = omega arith in
-    ap (λ (n : ℕ). take n (drop (fromIn cells w) text)) long ∙ h .value w l u
 
 -- a part of the text by the two ends that the cells tell
 pub part-at : (text cells : List ℕ) (w from to : ℕ) → from ≡ fromIn cells w → to ≡ toIn cells w → take (to - from) (drop from text) ≡ valueAt text cells w

@@ -7,7 +7,7 @@ use Prim.Native.Nat.{ℕ, suc}
 use Rattle.definition.specs.Rows.{isEmpty, same, flat}
 use Rattle.grammar.specs.Grammar.{attribute}
 use Rattle.grammar.specs.Tables.{attrs}
-use Rattle.reading.specs.Faults.{namesIn, states, valueOf, decoded, plain, internal}
+use Rattle.reading.specs.Faults.{namesIn, states, valueOf, decoded, plain, external, internal}
 use Rattle.reading.specs.Content.{Act, Row, Transition, Block, Spot, inRow, inBlock, Fact, listFact, transitionFact, actionFact, Turn, turn, actIn, rowNamed, rowsIn, rowIn}
 use Rattle.reading.specs.Print.{idOf, spaced, idsText}
 use Rattle.laws.specs.Lists.{empty-list}
@@ -38,7 +38,7 @@ unfolding isEmpty
 given-whole [] = refl
 given-whole (b ∷ bs) = refl
 
-type-read : (y : Bool) → same (plain (cond y internal [])) internal ≡ y
+type-read : (y : Bool) → same (plain (cond y internal external)) internal ≡ y
 unfolding decoded same
 type-read true = refl
 type-read false = refl
@@ -78,7 +78,7 @@ module _ (rs : List Row) (ids : List (List ℕ)) (n : ℕ) (known : Known rs ids
 
   module _ (i k m j : ℕ) (v w : List ℕ) where
     turn-by : (y d : Bool) (o : Option ℕ) (g : Bool) → turn ids (inRow i false) k m 6 (partsAt j 6 (typeAttr y ++ (there d 1 v ++ (condAttr rs o ++ there g 3 w)))) ≡
-        turned i k m (namesIn (cond d [] v)) (conditionRead o) (same (plain (cond y internal [])) internal) (rowsIn ids (cond g [] w))
+        turned i k m (namesIn (cond d [] v)) (conditionRead o) (same (plain (cond y internal external)) internal) (rowsIn ids (cond g [] w))
     unfolding turn actIn partsAt attribute attrs states valueOf
     turn-by true true none true = refl
     turn-by true true none false = refl
