@@ -1,0 +1,5 @@
+pub mod Marks
+pub mod Shares
+pub mod Paths
+pub mod Places
+pub mod Turns
