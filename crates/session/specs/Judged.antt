@@ -20,6 +20,7 @@ use Rattle.laws.specs.Loops.{each-below, below-each}
 use Rattle.laws.specs.Maps.{map-length, map-at}
 use Rattle.accepted.specs.Tree.{Tree}
 use Rattle.paths.specs.History.{storedAt}
+unfoldable pub use Rattle.histories.specs.Places.{holdsPlace}
 use Rattle.queue.specs.Queues.{queueBytes, queueOf, isQueue, names-length}
 use Rattle.session.specs.declared.Session.{Session}
 use Rattle.state.specs.State.{historyWords, rowsAt, modeFrom}
@@ -38,10 +39,6 @@ pub record Sized (s : Session) : Type 0 where
   pub lengths : Lengths (s .configuration) (s .history) (s .internal) (s .external)
   pub configurationFits : Fits (s .configuration)
   pub historyFits : Fits (s .history)
-
--- the set stored at a place is none, or one that the history of that row may have stored
-unfoldable pub holdsPlace : Chart → List ℕ → ℕ → Bool
-holdsPlace c history h = isEmpty (storedAt history h) || (isHistory (kind c h) && isStorable c h (storedAt history h))
 
 -- ended with nothing active and no names; running or closing by the finals under root
 unfoldable pub modeHolds : Chart → List ℕ → ℕ → ℕ → ℕ → Bool

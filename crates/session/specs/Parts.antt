@@ -15,7 +15,7 @@ use Rattle.definition.specs.Tables.{chartOf}
 use Rattle.follower.specs.Follower.{isFinalUnderRoot}
 use Rattle.follower.specs.Legal.{isLegal, isStorable}
 use Rattle.definition.specs.Compiled.{words}
-use Rattle.laws.specs.Bools.{clash, bool-case, and-left, and-right, and-true}
+use Rattle.laws.specs.Bools.{clash, bool-case, not-so, and-left, and-right, and-true}
 use Rattle.laws.specs.Loops.{all-append, each-below, below-each}
 use Rattle.laws.specs.Orders.{lt-case}
 use Rattle.laws.specs.Parts.{part-end}
@@ -74,6 +74,12 @@ module _ (c : Chart) (ws : List ℕ) (n : ℕ) where
   rows-hold z e =
       sym (below-each (holdsPlace c ws) 256
       (λ h l. lt-case h n (λ g. each-below (holdsPlace c ws) n e h g) (λ g. rw (none-stored ws h (λ k m. zero-behind z k (omega arith))))))
+
+  -- what was found of the places of the rows is so of all
+  pub rows-told : all (eqb 0) (drop (n * 4) ws) ≡ true → n ≤ 256 → (b : Bool) → b ≡ all (holdsPlace c ws) (from n 0) → b ≡ all (holdsPlace c ws) (from 256 0)
+  rows-told z l true e = rows-hold z (sym e)
+  rows-told z l false e =
+      sym (not-so _ (λ w. clash _ (below-each (holdsPlace c ws) n (λ h g. each-below (holdsPlace c ws) 256 w h (omega arith))) (sym e)))
 
   pub blank-holds : all (eqb 0) (drop (n * 4) ws) ≡ true → all (eqb 0) (take (n * 4) ws) ≡ true → true ≡ all (holdsPlace c ws) (from 256 0)
   unfolding holdsPlace isEmpty

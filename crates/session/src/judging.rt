@@ -1,6 +1,6 @@
 // "a session is not well formed": the test behind refusal 9.
 ghost use mathlib.Core.Path.{_≡_};
-ghost use Prim.Native.Nat.{_+_, _*_, _<_};
+ghost use Prim.Native.Nat.{_+_, _*_, _≤_, _<_};
 ghost use lib.Dec.{eqb};
 ghost use lib.ListN.{length};
 ghost use Rattle.definition.specs.Rows.{all, from};
@@ -15,6 +15,9 @@ use state::CLOSING;
 use state::ENDED;
 use state::RUNNING;
 use tables::columns::SET_WIDTH;
+
+// So many places are judged one by one; with more of them it takes less to judge all together.
+const FEW_PLACES: u64 = 6;
 
 // "is closing exactly if a final under root is active; is ended exactly if nothing is active, its queues then empty"; legal unless ended.
 pub fn mode_holds(chart: &[u64], conf: RowSet, internal: u64, external: u64, mode: u64) -> bool
@@ -69,7 +72,26 @@ fn are_zero(words: &[u64]) -> bool
     any == 0
 }
 
-// Nothing may be stored behind the rows of the chart. Most sessions store nothing at all: that is told before any place is looked at.
+// Whether more places store something than are judged one by one.
+fn are_many(history: &[u64], rows: usize) -> bool
+    requires { ⌜ (rows ≤ 256) × (length (now history) ≡ 1024) ⌝ }
+{
+    let mut left = FEW_PLACES;
+    let mut h = 0;
+    while h < rows {
+        if !chart::set_at(history, h * SET_WIDTH).is_empty() {
+            if left == 0 {
+                return true;
+            }
+            left -= 1;
+        }
+        h += 1;
+    }
+    false
+}
+
+// Nothing may be stored behind the rows of the chart. Most sessions store nothing at all: that is told before any place is looked at. Many places are judged
+// together, in a time that grows with the rows; one by one each takes as long as the rows below its history's parent are many.
 pub fn history_holds(chart: &[u64], history: &[u64]) -> bool
     requires { ⌜ Ready (now chart) × (length (now history) ≡ 1024) ⌝ }
     ensures { λ b. ⌜ b ≡ all (holdsPlace (chartOf (now (chart .entry))) (now (history .entry))) (from 256 0) ⌝ }
@@ -81,6 +103,9 @@ pub fn history_holds(chart: &[u64], history: &[u64]) -> bool
     }
     if are_zero(&history[..end]) {
         return true;
+    }
+    if are_many(history, rows) {
+        return histories::places_hold(chart, history);
     }
     let mut h = 0;
     while h < rows {

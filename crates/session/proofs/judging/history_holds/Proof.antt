@@ -1,7 +1,7 @@
 use borrow.Author.Needs.{needs}
-use mathlib.Core.Path.{_≡_, refl, sym, _∙_}
+use mathlib.Core.Path.{_≡_, refl, sym, ap, _∙_}
 use mathlib.Core.Bool.{true}
-use Prim.Native.Nat.{_-_, _*_, _≤_}
+use Prim.Native.Nat.{ℕ, _-_, _*_, _≤_}
 use native.Mathlib.Omega.{arith}
 use borrow.Author.Tests.{not-true, not-false}
 use lib.Seq.{length-take-le}
@@ -9,7 +9,7 @@ use Rattle.laws.specs.Loops.{all-begin, all-turn, all-leave, all-done, said-not
 use Rattle.definition.specs.Rows.{all, from}
 use Rattle.definition.specs.Tables.{chartOf}
 use Rattle.session.specs.Judged.{holdsPlace}
-use Rattle.session.specs.Parts.{rows-hold, blank-holds, behind-told, behind-holds}
+use Rattle.session.specs.Parts.{rows-hold, rows-told, blank-holds, behind-told, behind-holds}
 use Rattle.session.proofs.judging.history_holds.Statement.{statement}
 use Rattle.session.proofs.judging.history_holds.Tie as tie
 
@@ -68,22 +68,43 @@ returns-2 c =
     let behind = behind-told history (rows * 4) _ _ (c .before .before .before .before .are-zero .ensures) (not-false _ (c .before .before .before .if1 .left)) in
     blank-holds (chartOf _) history rows behind (sym (c .before .are-zero2 .ensures) ∙ c .if2 .taken)
 
+are-many-requires : tie.Need-are-many-requires Inv-loop μ-loop
+are-many-requires c κs =
+    let start = c .before .before .before .before .before .before .before .before .before in
+    let count = c .before .before .before .before .before .before .row-count .ensures in
+    let few = start .pre .0 .tables .sized .counts .rows in
+    (omega arith, start .pre .1)
+
+places-hold-requires : tie.Need-places-hold-requires Inv-loop μ-loop
+places-hold-requires c κs = let pre = c .before .before .before .before .before .before .before .before .before .before .before .pre in (pre .0, pre .1)
+
+returns-3 : tie.Need-returns-3 Inv-loop μ-loop
+returns-3 c =
+    let start = c .before .before .before .before .before .before .before .before .before .before .before .before in
+    let chart = start .args .chart .now in
+    let history = start .args .history .now in
+    let rows = c .before .before .before .before .before .before .before .before .before .row-count .result in
+    let count = c .before .before .before .before .before .before .before .before .before .row-count .ensures in
+    let few = start .pre .0 .tables .sized .counts .rows in
+    let behind = behind-told history (rows * 4) _ _ (c .before .before .before .before .before .before .before .are-zero .ensures) (not-false _ (c .before .before .before .before .before .before .if1 .left)) in
+    rows-told (chartOf chart) history rows behind (omega arith) _ (c .places-hold .ensures ∙ ap (λ (k : ℕ). all (holdsPlace (chartOf chart) history) (from k 0)) (sym count))
+
 loop-holds : tie.Need-loop-holds Inv-loop μ-loop
 loop-holds c = (omega arith, all-begin _)
 
 place-holds-requires : tie.Need-place-holds-requires Inv-loop μ-loop
 place-holds-requires c κs =
-    let pre = c .before .before .before .before .before .before .before .before .before .before .before .pre in
-    let count = c .before .before .before .before .before .before .before .before .row-count .ensures in
+    let pre = c .before .before .before .before .before .before .before .before .before .before .before .before .before .pre in
+    let count = c .before .before .before .before .before .before .before .before .before .before .row-count .ensures in
     let few = pre .0 .tables .sized .counts .rows in
     (pre .0, pre .1, omega arith)
 
-returns-3 : tie.Need-returns-3 Inv-loop μ-loop
-returns-3 c =
+returns-4 : tie.Need-returns-4 Inv-loop μ-loop
+returns-4 c =
     let l = c .before .before .before .loop in
-    let count = c .before .before .before .before .before .before .before .before .before .before .row-count .ensures in
-    let few = c .before .before .before .before .before .before .before .before .before .before .before .before .before .pre .0 .tables .sized .counts .rows in
-    all-leave _ (l .h) 256 256 (omega arith) refl (said-not-yes _ _ (c .before .place-holds .ensures) (c .if3 .taken))
+    let count = c .before .before .before .before .before .before .before .before .before .before .before .before .row-count .ensures in
+    let few = c .before .before .before .before .before .before .before .before .before .before .before .before .before .before .before .pre .0 .tables .sized .counts .rows in
+    all-leave _ (l .h) 256 256 (omega arith) refl (said-not-yes _ _ (c .before .place-holds .ensures) (c .if4 .taken))
 
 add-h : tie.Need-add-h Inv-loop μ-loop
 add-h c = search needs
@@ -92,14 +113,14 @@ loop-less : tie.Need-loop-less Inv-loop μ-loop
 loop-less c = omega arith
 
 loop-again : tie.Need-loop-again Inv-loop μ-loop
-loop-again c = let l = c .before .before .before .loop in (omega arith, all-turn _ (l .h) (l .inv .1) (said-not-no _ _ (c .before .place-holds .ensures) (c .if3 .left)))
+loop-again c = let l = c .before .before .before .loop in (omega arith, all-turn _ (l .h) (l .inv .1) (said-not-no _ _ (c .before .place-holds .ensures) (c .if4 .left)))
 
-returns-4 : tie.Need-returns-4 Inv-loop μ-loop
-returns-4 c =
+returns-5 : tie.Need-returns-5 Inv-loop μ-loop
+returns-5 c =
     let l = c .before .loop in
-    let history = c .before .before .before .before .before .before .before .before .before .before .before .args .history .now in
-    let rows = c .before .before .before .before .before .before .before .before .row-count .result in
-    let behind = behind-told history (rows * 4) _ _ (c .before .before .before .before .before .before .are-zero .ensures) (not-false _ (c .before .before .before .before .before .if1 .left)) in
+    let history = c .before .before .before .before .before .before .before .before .before .before .before .before .before .args .history .now in
+    let rows = c .before .before .before .before .before .before .before .before .before .before .row-count .result in
+    let behind = behind-told history (rows * 4) _ _ (c .before .before .before .before .before .before .before .before .are-zero .ensures) (not-false _ (c .before .before .before .before .before .before .before .if1 .left)) in
     rows-hold (chartOf _) history rows behind (sym (all-done _ (l .h) rows rows (omega arith) (omega arith) refl (l .inv .1)))
 
 pub history-holds-spec : {M : Type 1} → statement M
@@ -119,10 +140,13 @@ history-holds-spec =
     slice-aggregate-are-zero
     are-zero-requires-2
     returns-2
+    are-many-requires
+    places-hold-requires
+    returns-3
     loop-holds
     place-holds-requires
-    returns-3
+    returns-4
     add-h
     loop-less
     loop-again
-    returns-4)
+    returns-5)
