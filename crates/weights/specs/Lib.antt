@@ -1,0 +1,5 @@
+pub mod Sizes
+pub mod Tags
+pub mod Paid
+pub mod Names
+pub mod Cells
