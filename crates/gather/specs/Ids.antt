@@ -6,7 +6,7 @@ use Prim.Native.Nat.{ℕ, zero, suc, _+_, _*_, _-_, _≤_, _<_}
 use native.Mathlib.Omega.{arith}
 use native.Mathlib.Numerals.{add-one}
 use lib.Dec.{eqb, leb, ltb}
-use lib.ListN.{length, getD, set, take, drop, length-set}
+use lib.ListN.{length, getD, set, take, drop, length-set, length-append}
 use lib.Seq.{append-snoc, getD-set-same, getD-set-other}
 use borrow.Author.Tests.{not-true, not-false, le-ltb, eqb-true, eqb-false, eq-eqb, ne-eqb}
 use Rattle.marks.specs.declared.Mark.{Mark}
@@ -18,6 +18,7 @@ use Rattle.marks.specs.Grouped.{shapeOf, grouped}
 use Rattle.marks.specs.Joined.{joined}
 use Rattle.reading.specs.Tags.{Part, tagsOf}
 use Rattle.reading.specs.Faults.{idWord, isClosing, isRowTag, states, valueOf, idsOf}
+use Rattle.weights.specs.Paid.{text-ids}
 use Rattle.values.specs.Ids.{idAt, idsFrom, Noted}
 use Rattle.gather.specs.declared.ids.Id.{Id}
 use Rattle.gather.specs.Parts.{partAt, states-snoc, value-snoc, absent}
@@ -176,10 +177,16 @@ module _ (ids : List ℕ) (n at long : ℕ) (room : n * 2 + 1 < length ids) wher
 
 -- ---- the walk
 
+pub ids-length : (text ids : List ℕ) (n k : ℕ) → length (idsFrom text ids n k) ≡ n
+unfolding idsFrom
+ids-length text ids zero k = refl
+ids-length text ids (suc n) k = ap suc (ids-length text ids n (suc k))
+
+-- two numbers for each id: the start tag of a row has seven bytes (crate weights), and none is noted behind the last
 pub record Begun (text levels ids : List ℕ) : Type 0 where
   pub short : length text ≤ 32768
   pub deep : length levels ≡ 32768
-  pub room : length ids ≡ 65536
+  pub room : length ids ≡ 9364
 
 pub record Gathered (text levels ids : List ℕ) (n : ℕ) : Type 0 where
   pub begun : Begun text levels ids
@@ -188,8 +195,7 @@ pub record Gathered (text levels ids : List ℕ) (n : ℕ) : Type 0 where
 
 pub record Gathering (text levels ids : List ℕ) (w : Walk) (id : Id) (n : ℕ) : Type 0 where
   pub standing : Standing text levels w
-  pub few : n ≤ w .index
-  pub room : length ids ≡ 65536
+  pub room : length ids ≡ 9364
   pub inside : (k : ℕ) → k < n → getD ids (k * 2) 0 + getD ids (k * 2 + 1) 0 ≤ length text
   pub parts : List Part
   pub stating : Stating text id parts
@@ -201,7 +207,6 @@ ids-start text levels ids w h e =
     rw e
     (record {
       standing = begin-stands text levels (h .short) (h .deep);
-      few = omega arith;
       room = h .room;
       inside = λ k l. absurd (omega arith);
       parts = [];
@@ -210,11 +215,17 @@ ids-start text levels ids w h e =
     })
 
 module _ (text levels ids : List ℕ) (w : Walk) (id : Id) (n : ℕ) (k : Gathering text levels ids w id n) (levels' : List ℕ) (r : Walk) (next : Next text levels levels' w r) where
+  -- each of them has a tag of its own
+  counted : n ≤ 4681
+  counted =
+      let a = ap length (k .left) in let b = length-append (idsFrom text ids n 0) (idsOf (grouped text (k .parts) (restOf text levels w))) in
+      let c = ids-length text ids n 0 in let d = text-ids text in let s = k .standing .short in omega arith
+
   pub ids-end : (found : Bool) → found ≡ isMark (r .mark) → not found ≡ true → Gathered text levels' ids n
   unfolding grouped idsOf
   ids-end found e q =
       let none = next .none (sym e ∙ not-true found q) in
-      let f = k .few in let i = k .standing .within in let s = k .standing .short in let rr = k .room in
+      let f = counted in let s = k .standing .short in let rr = k .room in
       record {
         begun = record { short = k .standing .short; deep = next .standing .room; room = k .room };
         noted = record { short = s; few = omega arith; room = omega arith; inside = k .inside };
@@ -223,22 +234,18 @@ module _ (text levels ids : List ℕ) (w : Walk) (id : Id) (n : ℕ) (k : Gather
 
   pub ids-room : (found : Bool) → found ≡ isMark (r .mark) → not found ≡ false → PushRoom ids n (id .at) (id .long)
   ids-room found e q =
-      let more = next .further (sym e ∙ not-false found q) in
-      let f = k .few in let i = next .standing .within in let s = k .standing .short in let rr = k .room in let ii = k .stating .inside in
+      let f = counted in let s = k .standing .short in let rr = k .room in let ii = k .stating .inside in
       record { cells = omega arith; few = omega arith; at-fits = omega arith; long-fits = omega arith }
 
   pub ids-less : (found : Bool) → found ≡ isMark (r .mark) → not found ≡ false → length text - r .index < length text - w .index
   ids-less found e q = let more = next .further (sym e ∙ not-false found q) in let i = next .standing .within in omega arith
 
   module _ (found : Bool) (e : found ≡ isMark (r .mark)) (q : not found ≡ false) where
-    below : n < r .index
-    below = let more = next .further (sym e ∙ not-false found q) in let f = k .few in omega arith
-
     left-with : (m : Mark) → r .mark ≡ m → idsOf (tagsOf text) ≡ idsFrom text ids n 0 ++ idsOf (grouped text (k .parts) (marked m (restOf text levels' r)))
     left-with m g = k .left ∙ ap (λ (l : List Mark). idsFrom text ids n 0 ++ idsOf (grouped text (k .parts) l)) (next .rest ∙ ap (λ (x : Mark). marked x (restOf text levels' r)) g)
 
     roomy : n * 2 + 1 < length ids
-    roomy = let l = below in let i = next .standing .within in let s = k .standing .short in let rr = k .room in omega arith
+    roomy = let f = counted in let rr = k .room in omega arith
 
     all-inside : (c : ℕ) → c < n + 1 → getD (grown ids n (id .at) (id .long)) (c * 2) 0 + getD (grown ids n (id .at) (id .long)) (c * 2 + 1) 0 ≤ length text
     all-inside c h = by (eqb c n) refl
@@ -279,12 +286,10 @@ module _ (text levels ids : List ℕ) (w : Walk) (id : Id) (n : ℕ) (k : Gather
             let no-row : row ≡ false = rw-is ∙ ap isRowMark g in
             let same-ids : ids' ≡ ids = p .ids-are ∙ rw no-row refl in
             let same-count : n' ≡ n = p .count-is ∙ rw no-row refl in
-            let fewer = below in
             let first : a ≤ b = subst (λ (x : Mark). valueFrom x ≤ valueTo x) g (next .first) in
             let last : b ≤ length text = subst (λ (x : Mark). valueTo x ≤ length text) g (next .quote) in
             record {
               standing = next .standing;
-              few = omega arith;
               room = ap length same-ids ∙ k .room;
               inside = rw (same-ids, same-count) (k .inside);
               parts = k .parts ++ partAt text d v a b ∷ [];
@@ -297,10 +302,8 @@ module _ (text levels ids : List ℕ) (w : Walk) (id : Id) (n : ℕ) (k : Gather
             let is-row : row ≡ true = rw-is ∙ ap isRowMark g ∙ z in
             let now-ids = p .ids-are ∙ ap (λ (y : Bool). cond y (grown ids n (id .at) (id .long)) ids) is-row in
             let now-count : n' ≡ n + 1 = p .count-is ∙ rw is-row refl in
-            let fewer = below in
             record {
               standing = next .standing;
-              few = omega arith;
               room = ap length now-ids ∙ length-set (set ids (n * 2) (id .at)) (n * 2 + 1) (id .long) ∙ length-set ids (n * 2) (id .at) ∙ k .room;
               inside = rw (now-ids, now-count) (all-inside);
               parts = [];
@@ -311,10 +314,8 @@ module _ (text levels ids : List ℕ) (w : Walk) (id : Id) (n : ℕ) (k : Gather
             let no-row : row ≡ false = rw-is ∙ ap isRowMark g ∙ z in
             let same-ids : ids' ≡ ids = p .ids-are ∙ rw no-row refl in
             let same-count : n' ≡ n = p .count-is ∙ rw no-row refl in
-            let fewer = below in
             record {
               standing = next .standing;
-              few = omega arith;
               room = ap length same-ids ∙ k .room;
               inside = rw (same-ids, same-count) (k .inside);
               parts = [];

@@ -1,13 +1,12 @@
 -- Names by their first use, one behind the other.
-use mathlib.Core.Path.{_≡_, refl, ap}
+use mathlib.Core.Path.{_≡_, refl}
 use mathlib.Core.Bool.{Bool, true, false, cond}
 use mathlib.Core.List.{List, [], _∷_, _++_}
-use Prim.Native.Nat.{ℕ, zero, suc, _≤_}
+use Prim.Native.Nat.{ℕ, _≤_}
 use native.Mathlib.Omega.{arith}
 use lib.ListN.{length, length-append}
 use Rattle.reading.specs.Faults.{isAmong}
 use Rattle.reading.specs.Content.{fresh}
-use Rattle.values.specs.Ids.{idsFrom}
 
 pub fresh-append : (xs s ys : List (List ℕ)) → fresh s (xs ++ ys) ≡ fresh (fresh s xs) ys
 unfolding fresh
@@ -35,8 +34,3 @@ fresh-known s x e = rw e refl
 pub fresh-new : (s : List (List ℕ)) (x : List ℕ) → isAmong x s ≡ false → fresh s (x ∷ []) ≡ s ++ x ∷ []
 unfolding fresh
 fresh-new s x e = rw e refl
-
-pub ids-length : (text ids : List ℕ) (n k : ℕ) → length (idsFrom text ids n k) ≡ n
-unfolding idsFrom
-ids-length text ids zero k = refl
-ids-length text ids (suc n) k = ap suc (ids-length text ids n (suc k))

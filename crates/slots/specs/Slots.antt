@@ -15,8 +15,8 @@ use Rattle.reading.specs.Faults.{Item, itemsAt, itemBytes, namesIn, isAmong, id
 use Rattle.reading.specs.Content.{fresh}
 use Rattle.values.specs.Ids.{idsFrom, Noted}
 use Rattle.values.specs.Items.{spread, spread-inside, first-item}
-use Rattle.gather.specs.Ids.{grown, grown-kept, grown-at, grown-long, grown-ids, PushRoom, Pushed}
-use Rattle.slots.specs.First.{fresh-append, fresh-grows, fresh-known, fresh-new, ids-length}
+use Rattle.gather.specs.Ids.{grown, grown-kept, grown-at, grown-long, grown-ids, PushRoom, Pushed, ids-length}
+use Rattle.slots.specs.First.{fresh-append, fresh-grows, fresh-known, fresh-new}
 
 -- at most 768 slots in 1,536 numbers; 769 stands for too many
 pub record Fits (text slots : List ℕ) (n : ℕ) : Type 0 where

@@ -26,8 +26,9 @@ factsLeft ids text levels spots t = factsFrom ids (spotsIn spots (t .depth)) (t 
 pub record TurnAt (text levels cells spots : List ℕ) (t : Turning) : Type 0 where
   pub standing : Standing text levels (t .walk)
   pub cells-room : length cells ≡ 22
-  pub spots-room : length spots ≡ 65540
-  pub deep : t .depth ≤ t .walk .index + 1
+  pub spots-room : length spots ≡ 16388
+  -- each spot around the innermost has a start tag of its own before it, and a tag has four bytes (crate weights)
+  pub deep : restDepth (t .depth) + length (tagsLeft text levels (t .walk)) ≤ 8192
   pub rows-fit : t .rows ≤ t .walk .index
   pub transitions-fit : t .transitions ≤ t .walk .index
 
@@ -48,9 +49,13 @@ pub record NextTurn (text levels levels' cells spots spots' : List ℕ) (t r : T
 abbrev pub stayed : Turning → Walk → Turning
 stayed t next = record { walk = next; depth = t .depth; rows = t .rows; transitions = t .transitions; spot = t .spot }
 
-rest-within : (d i : ℕ) → d ≤ i + 1 → restDepth d ≤ i
-rest-within zero i h = omega arith
-rest-within (suc d) i h = omega arith
+rest-few : (d : ℕ) → d ≤ restDepth d + 1
+rest-few zero = omega arith
+rest-few (suc d) = omega arith
+
+rest-deeper : (d n : ℕ) → d ≤ n + 1 → restDepth d ≤ n
+rest-deeper zero n h = omega arith
+rest-deeper (suc d) n h = omega arith
 
 module _ (text levels cells₀ spots : List ℕ) (t : Turning) (at : TurnAt text levels cells₀ spots t) (levels' cells : List ℕ) (next : Walk) (tag : NextTag text levels levels' cells (t .walk) next) where
   stays : (r : Turning) → r ≡ stayed t next → isMark (next .mark) ≡ false → NextTurn text levels levels' cells spots spots t r
@@ -84,16 +89,21 @@ module _ (text levels cells₀ spots : List ℕ) (t : Turning) (at : TurnAt text
     beyond : t .walk .index < next .index
     beyond = tag .further (ap isMark g)
 
+    fewer : length (tagsLeft text levels (t .walk)) ≡ suc (length (tagsLeft text levels' next))
+    fewer = ap length (tag .left ∙ ap (λ (k : Mark). tagged k (tag .parts) (tagsLeft text levels' next)) g)
+
     pub tag-room : TagRoom cells spots t
     tag-room =
-        let b = beyond in let i = tag .standing .within in let l = tag .standing .short in let d = at .deep in let x = at .rows-fit in let y = at .transitions-fit in let r = at .spots-room in
+        let b = beyond in let i = tag .standing .within in let l = tag .standing .short in let d = at .deep in let f = fewer in let g = rest-few (t .depth) in let x = at .rows-fit in let y = at .transitions-fit in let r = at .spots-room in
         record { cells-room = tag .stated .room; room = omega arith; most = omega arith; rows-fit = omega arith; transitions-fit = omega arith }
 
     pub turn-tag : (spots' : List ℕ) (r : Turning) → length spots' ≡ length spots → TagTurned cells spots spots' t next s e r → NextTurn text levels levels' cells spots spots' t r
     turn-tag spots' r same-long u =
-        let b = beyond in let w = rest-within (t .depth) (t .walk .index) (at .deep) in let x = at .rows-fit in let y = at .transitions-fit in
+        let b = beyond in let w = at .deep in let o = fewer in let x = at .rows-fit in let y = at .transitions-fit in
         let p = u .deep in let n = u .rows-fit in let m = u .transitions-fit in
         let i : r .walk .index ≡ next .index = ap (λ (k : Walk). k .index) (u .walk-is) in
+        let v = rest-deeper (r .depth) (restDepth (t .depth) + 1) (omega arith) in
+        let same : length (tagsLeft text levels' (r .walk)) ≡ length (tagsLeft text levels' next) = ap (λ (k : Walk). length (tagsLeft text levels' k)) (u .walk-is) in
         record {
           turn-at = λ f.
               record {

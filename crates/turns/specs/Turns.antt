@@ -27,7 +27,7 @@ rest-below (suc d) = omega arith
 
 pub record EnterRoom (spots : List ℕ) (d : ℕ) (t : TurnCells) : Type 0 where
   pub room : d * 2 + 4 ≤ length spots
-  pub most : length spots ≤ 65540
+  pub most : length spots ≤ 16388
   pub inside-what : t .inside .what < 65536
   pub inside-number : t .inside .number < 65536
   pub around-what : t .around .what < 65536
@@ -99,7 +99,7 @@ tagFacts ids s n m t = shapeFacts (t .shape) (turn ids s n m (t .element) (t .pa
 pub record TagRoom (cells spots : List ℕ) (t : Turning) : Type 0 where
   pub cells-room : length cells ≡ 22
   pub room : t .depth * 2 + 4 ≤ length spots
-  pub most : length spots ≤ 65540
+  pub most : length spots ≤ 16388
   pub rows-fit : t .rows ≤ 32768
   pub transitions-fit : t .transitions ≤ 32768
 
@@ -115,7 +115,7 @@ pub record TagTurned (cells spots spots' : List ℕ) (t : Turning) (next : Walk)
       factsFrom ids (spotsIn spots' (r .depth)) (r .rows) (r .transitions) ts
 
 module _ (cells spots : List ℕ) (t : Turning) (h : TagRoom cells spots t) (next : Walk) (s e : ℕ) (spot : SpotCells) (top-is : TopIs spots (t .depth) spot) where
-  pub turn-top : (t .depth * 2 ≤ length spots) × (length spots ≤ 65540)
+  pub turn-top : (t .depth * 2 ≤ length spots) × (length spots ≤ 16388)
   turn-top = let r = h .room in (omega arith, h .most)
 
   pub turn-closing : (d : ℕ) → 2 ≤ s → d ≡ restDepth (t .depth) → TagTurned cells spots spots t next s e (record { walk = next; depth = d; rows = t .rows; transitions = t .transitions; spot = spot })

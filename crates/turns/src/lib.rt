@@ -41,7 +41,7 @@ fn narrow(x: usize) -> u16
 
 // The innermost of the spots, of which there are depth; outside all of them, under no row.
 pub fn top_spot(spots: &[u16], depth: usize) -> SpotCells
-    requires { ⌜ (depth * 2 ≤ length (now spots)) × (length (now spots) ≤ 65540) ⌝ }
+    requires { ⌜ (depth * 2 ≤ length (now spots)) × (length (now spots) ≤ 16388) ⌝ }
     ensures { λ r. ⌜ TopIs (now (spots .entry)) depth r ⌝ }
 {
     if depth == 0 {
