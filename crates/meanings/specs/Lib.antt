@@ -1,0 +1,3 @@
+pub mod Least
+pub mod Balanced
+pub mod Ids
