@@ -42,7 +42,7 @@ take-few zero l = omega arith
 take-few (suc m) [] = omega arith
 take-few (suc m) (x ∷ xs) = let h = take-few m xs in omega arith
 
-under-length : (k : ℕ) (vs : List ℕ) → length (under k vs) ≡ length vs
+pub under-length : (k : ℕ) (vs : List ℕ) → length (under k vs) ≡ length vs
 unfolding under
 under-length k [] = refl
 under-length k (v ∷ vs) = ap suc (under-length k vs)
@@ -52,7 +52,7 @@ unfolding itemsBy
 by-length k s names [] = refl
 by-length k s names (d ∷ ds) = ap suc (by-length k s names ds)
 
-four : (slots : List (List ℕ)) (a : Act) → length (actCells slots a) ≡ 4
+pub four : (slots : List (List ℕ)) (a : Act) → length (actCells slots a) ≡ 4
 four slots (raises n) = refl
 four slots (hosts k) = refl
 four slots (ifIn i) = refl

@@ -48,7 +48,7 @@ pub record Named (text ids slots : List ℕ) (p : Plan) : Type 0 where
 pub record FileRoom (text levels spots ids slots ranks out next : List ℕ) (p : Plan) : Type 0 where
   pub short : length text ≤ 32768
   pub deep : length levels ≡ 32768
-  pub spots-room : length spots ≡ 65540
+  pub spots-room : length spots ≡ 16388
   pub named : Named text ids slots p
   pub bins : binCount (p .rows) (p .transitions) ≤ length next
   pub few : length out < 4294967296
@@ -60,7 +60,7 @@ pub record FileRoom (text levels spots ids slots ranks out next : List ℕ) (p :
 
 pub record FiledAll (text levels spots ranks out next : List ℕ) (p : Plan) : Type 0 where
   pub deep : length levels ≡ 32768
-  pub spots-room : length spots ≡ 65540
+  pub spots-room : length spots ≡ 16388
   pub tallied : p .fill ≡ false → Tallied (p .rows) (p .transitions) next (textItems text ranks (p .rows) (p .transitions))
   pub binned : p .fill ≡ true →
       Binned (binCount (p .rows) (p .transitions)) (layBase (p .rows) (p .transitions)) (countsOf (textItems text ranks (p .rows) (p .transitions))) out next
@@ -71,7 +71,7 @@ pub record FiledAll (text levels spots ranks out next : List ℕ) (p : Plan) : T
 pub record HeadRoom (text levels spots ids slots ranks out : List ℕ) (p : Plan) : Type 0 where
   pub short : length text ≤ 32768
   pub deep : length levels ≡ 32768
-  pub spots-room : length spots ≡ 65540
+  pub spots-room : length spots ≡ 16388
   pub named : Named text ids slots p
   pub ranked : Ranked (p .rows) (p .transitions) (sourcesOf (textFacts text)) ranks
   pub room : layBase (p .rows) (p .transitions) ≤ length out
@@ -90,7 +90,7 @@ pub record TransitionHead (text : List ℕ) (n r m : ℕ) (out : List ℕ) : Typ
 
 pub record HeadsLaid (text levels spots ranks out out' : List ℕ) (p : Plan) : Type 0 where
   pub deep : length levels ≡ 32768
-  pub spots-room : length spots ≡ 65540
+  pub spots-room : length spots ≡ 16388
   pub behind : drop (layBase (p .rows) (p .transitions)) out' ≡ drop (layBase (p .rows) (p .transitions)) out
   pub rows-are : (i : ℕ) → i < p .rows → i < rowFacts (textFacts text) → RowHead text i out'
   pub transitions-are : (m : ℕ) → m < transitionFacts (textFacts text) → getD ranks m 0 < p .transitions → TransitionHead text (p .rows) (getD ranks m 0) m out'

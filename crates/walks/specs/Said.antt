@@ -12,6 +12,7 @@ use Rattle.marks.specs.Grouped.{shapeOf}
 use Rattle.reading.specs.Tags.{Part, tagsOf}
 use Rattle.reading.specs.Faults.{eventWord, condWord, states}
 use Rattle.reading.specs.Content.{Block, Spot, Fact, actionFact, endIf, endFacts, factsFrom, turn}
+use Rattle.weights.specs.Paid.{text-tags}
 use Rattle.tags.specs.Cells.{statedIn}
 use Rattle.tags.specs.Tags.{tags-begin}
 use Rattle.turns.specs.declared.SpotCells.{SpotCells}
@@ -33,10 +34,11 @@ pub record WalkRoom (text levels cells spots : List ℕ) : Type 0 where
   pub short : length text ≤ 32768
   pub deep : length levels ≡ 32768
   pub cells-room : length cells ≡ 22
-  pub spots-room : length spots ≡ 65540
+  pub spots-room : length spots ≡ 16388
 
 pub begin-at : (text levels cells spots : List ℕ) → WalkRoom text levels cells spots → TurnAt text levels cells spots beginningTurn
 begin-at text levels cells spots h =
+    let n = text-tags text in let s = h .short in let l = ap length (tags-begin text levels) in
     record {
       standing = begin-stands text levels (h .short) (h .deep);
       cells-room = h .cells-room;

@@ -2,7 +2,7 @@
 use mathlib.Core.Path.{_≡_, refl, sym, ap, subst, _∙_}
 use mathlib.Core.Bool.{Bool, true, false, not}
 use mathlib.Core.List.{List, [], _∷_, _++_, append-assoc, append-nil}
-use Prim.Native.Nat.{ℕ, _+_, _-_, _≤_, _<_}
+use Prim.Native.Nat.{ℕ, _+_, _*_, _-_, _≤_, _<_}
 use native.Mathlib.Omega.{arith}
 use native.Mathlib.Numerals.{add-one}
 use lib.ListN.{length, take, set, length-set}
@@ -12,7 +12,9 @@ use Rattle.marks.specs.declared.Mark.{Mark}
 use Rattle.marks.specs.declared.Mark.the-variants as marks
 use Rattle.marks.specs.Marks.{isMark}
 use Rattle.reading.specs.Tags.{tagsOf}
-use Rattle.reading.specs.Content.{Fact, factsFrom}
+use Rattle.reading.specs.Content.{Fact, rowFact, listFact, transitionFact, actionFact, factsFrom}
+use Rattle.weights.specs.Paid.{tags-paid}
+use Rattle.weights.specs.Cells.{factsCells, facts-paid}
 use Rattle.tags.specs.Cells.{isValueMark}
 use Rattle.turns.specs.declared.SpotCells.{SpotCells}
 use Rattle.turns.specs.declared.Turning.{Turning}
@@ -113,23 +115,36 @@ module _ (cells sources : List ℕ) (c : Counts) (spot : SpotCells) (m : Mark) w
 
 pub record SourceRoom (text levels cells spots sources : List ℕ) : Type 0 where
   pub walk : WalkRoom text levels cells spots
-  pub room : length sources ≡ 32768
+  pub room : length sources ≡ 2913
 
 -- the facts by any ids: what is noted does not depend on them
 abbrev pub factsOf : List (List ℕ) → List ℕ → List Fact
 factsOf ids text = factsFrom ids [] 0 0 (tagsOf text)
 
+transitions-paid : (fs : List Fact) → transitionFacts fs * 9 ≤ factsCells fs
+unfolding transitionFacts factsCells
+transitions-paid [] = omega arith
+transitions-paid (rowFact k q n l ∷ fs) = let h = transitions-paid fs in omega arith
+transitions-paid (listFact j l ∷ fs) = let h = transitions-paid fs in omega arith
+transitions-paid (transitionFact s d c y g ∷ fs) = let h = transitions-paid fs in omega arith
+transitions-paid (actionFact k a ∷ fs) = let h = transitions-paid fs in omega arith
+
+-- nine cells for each transition, and five bytes pay for four (crate weights)
+text-transitions : (ids : List (List ℕ)) (text : List ℕ) → length text ≤ 32768 → transitionFacts (factsOf ids text) ≤ 2912
+text-transitions ids text short =
+    let a = transitions-paid (factsOf ids text) in let b = facts-paid ids (tagsOf text) [] 0 0 in let c = tags-paid text in omega arith
+
 pub record Sourced (text levels cells spots sources : List ℕ) (r : Counts) : Type 0 where
   pub room : SourceRoom text levels cells spots sources
   pub rows-few : r .rows ≤ 32768
-  pub transitions-few : r .transitions ≤ 32768
+  pub transitions-few : r .transitions ≤ 2912
   pub rows-are : (ids : List (List ℕ)) → r .rows ≡ rowFacts (factsOf ids text)
   pub transitions-are : (ids : List (List ℕ)) → r .transitions ≡ transitionFacts (factsOf ids text)
   pub are : (ids : List (List ℕ)) → take (r .transitions) sources ≡ sourcesOf (factsOf ids text)
 
 pub record Sourcing (text levels cells spots sources : List ℕ) (t : Turning) (c : Counts) : Type 0 where
   pub at : TurnAt text levels cells spots t
-  pub size : length sources ≡ 32768
+  pub size : length sources ≡ 2913
   pub rows-few : c .rows ≤ t .walk .index
   pub transitions-few : c .transitions ≤ t .walk .index
   pub before : List (List ℕ) → List Fact
@@ -157,9 +172,14 @@ sources-start text levels cells spots sources t h e =
 
 module _ (text levels cells₀ spots sources : List ℕ) (t : Turning) (c : Counts) (k : Sourcing text levels cells₀ spots sources t c) (levels' cells spots' : List ℕ) (r : Turning)
     (next : NextTurn text levels levels' cells spots spots' t r) (found : Bool) (e : found ≡ isMark (r .walk .mark)) where
+  counted-few : c .transitions ≤ 2912
+  counted-few =
+      let a = k .transitions-are [] in let b = ap transitionFacts (k .left []) in let d = transition-facts-append (k .before []) (factsLeft [] text levels spots t) in
+      let f = text-transitions [] text (k .at .standing .short) in omega arith
+
   pub sources-end : length levels' ≡ length levels → length spots' ≡ length spots → not found ≡ true → Sourced text levels' cells spots' sources c
   sources-end ll ls q =
-      let i = k .at .standing .within in let s = k .at .standing .short in let a = k .rows-few in let b = k .transitions-few in
+      let i = k .at .standing .within in let s = k .at .standing .short in let a = k .rows-few in
       record {
         room =
             record {
@@ -167,7 +187,7 @@ module _ (text levels cells₀ spots sources : List ℕ) (t : Turning) (c : Coun
               room = k .size;
             };
         rows-few = omega arith;
-        transitions-few = omega arith;
+        transitions-few = counted-few;
         rows-are = λ ids. k .rows-are ids ∙ ap rowFacts (sym (all ids));
         transitions-are = λ ids. k .transitions-are ids ∙ ap transitionFacts (sym (all ids));
         are = λ ids. k .are ids ∙ ap sourcesOf (sym (all ids));
@@ -185,7 +205,7 @@ module _ (text levels cells₀ spots sources : List ℕ) (t : Turning) (c : Coun
 
     pub sources-room : MarkRoom cells sources c (r .spot)
     sources-room =
-        let f = next .further is-tag in let i = next .turn-at is-tag .standing .within in let s = k .at .standing .short in let a = k .rows-few in let b = k .transitions-few in let z = k .size in
+        let f = next .further is-tag in let i = next .turn-at is-tag .standing .within in let s = k .at .standing .short in let a = k .rows-few in let b = k .transitions-few in let z = k .size in let n = counted-few in
         record { cells-room = next .stated .room; counts-fit = record { rows-fit = omega arith; transitions-fit = omega arith }; there = omega arith; number-fits = next .number-fits is-tag }
 
     pub sources-more : (sources' : List ℕ) (c' : Counts) → MarkNoted cells sources sources' c (r .spot) (r .walk .mark) c' → Sourcing text levels' cells spots' sources' r c'
