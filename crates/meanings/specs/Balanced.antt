@@ -264,7 +264,7 @@ abbrev openOf : State → List ℕ
 openOf dead = []
 openOf (live p t st) = openIn t st
 
-dead-not : (A : Type 0) (bs : List ℕ) → accepts (run dead bs) ≡ true → A
+pub dead-not : (A : Type 0) (bs : List ℕ) → accepts (run dead bs) ≡ true → A
 unfolding accepts
 dead-not A bs h = absurd (no (sym (ap accepts (stays-dead bs)) ∙ h))
 
