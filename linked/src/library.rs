@@ -76,12 +76,12 @@ pub struct Scratch {
 impl Scratch {
     pub fn filled(with: u8) -> Scratch {
         Scratch {
-            cells: vec![u64::from(with); 242_950],
+            cells: vec![u64::from(with); 27_756],
             bytes: vec![with; 49_152],
-            ids: vec![u16::from(with); 65_536],
-            spots: vec![u16::from(with); 65_540],
-            sources: vec![u16::from(with); 32_768],
-            ranks: vec![u16::from(with); 32_768],
+            ids: vec![u16::from(with); 9_364],
+            spots: vec![u16::from(with); 16_388],
+            sources: vec![u16::from(with); 2_913],
+            ranks: vec![u16::from(with); 2_913],
         }
     }
 

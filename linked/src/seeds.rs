@@ -6,8 +6,8 @@ use std::sync::atomic::{AtomicU64, Ordering};
 use std::thread;
 
 const THREADS: usize = 2;
-/// A read that is lent no scratch takes 2.4 MB.
-const STACK: usize = 8 << 20;
+/// A read that is lent no scratch takes less than 512 KB.
+const STACK: usize = 2 << 20;
 
 /// What is counted while seeds are tried.
 pub trait Tally: Clone + Send + Sync {

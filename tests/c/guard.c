@@ -11,7 +11,7 @@
 
 #include "test.h"
 
-enum { PAGE = 4096, BELOW = 1 << 18, MOST_STACK = 1 << 16, LARGEST_STACK = 1 << 22, PAINT = 0x5a };
+enum { PAGE = 4096, BELOW = 1 << 18, MOST_STACK = 1 << 16, LARGEST_STACK = 1 << 19, PAINT = 0x5a };
 /* How a process ends. */
 enum { RETURNED = 10, IN_GUARD = 11, ELSEWHERE = 12 };
 

@@ -6,7 +6,7 @@
 
 #include "test.h"
 
-enum { STACK = 1 << 20, LARGEST_STACK = 1 << 23, PAINT = 0x5a };
+enum { STACK = 1 << 20, PAINT = 0x5a };
 
 /* A call to be measured: of a chart, with a name. */
 typedef struct made {
@@ -26,7 +26,7 @@ static const char *const texts[2] = {
 static size_t lengths[2]; /* of them */
 static union {
     max_align_t aligned;
-    uint8_t bytes[LARGEST_STACK];
+    uint8_t bytes[STACK];
 } stack __attribute__((aligned(4096)));
 
 static void *nothing(void *m)
@@ -120,28 +120,22 @@ static void *perform(void *m)
     return m;
 }
 
-/* The bytes of a stack of this size that the call changed, from its top down. */
-static size_t used_of(size_t size, void *(*call)(void *), made *m)
+/* The bytes of the stack that the call changed, from its top down. */
+static size_t used_by(void *(*call)(void *), made *m)
 {
     pthread_t thread;
     pthread_attr_t how;
     size_t low = 0;
-    memset(stack.bytes, PAINT, size);
-    if (pthread_attr_init(&how) != 0 || pthread_attr_setstack(&how, stack.bytes, size) != 0 || pthread_create(&thread, &how, call, m) != 0) {
+    memset(stack.bytes, PAINT, STACK);
+    if (pthread_attr_init(&how) != 0 || pthread_attr_setstack(&how, stack.bytes, STACK) != 0 || pthread_create(&thread, &how, call, m) != 0) {
         printf("no thread\n");
         exit(1);
     }
     pthread_join(thread, NULL);
     pthread_attr_destroy(&how);
-    while (low < size && stack.bytes[low] == PAINT)
+    while (low < STACK && stack.bytes[low] == PAINT)
         low++;
-    return size - low;
-}
-
-/* A read works on its stack. */
-static size_t used_by(void *(*call)(void *), made *m)
-{
-    return used_of(call == read_text ? LARGEST_STACK : STACK, call, m);
+    return STACK - low;
 }
 
 int main(void)
@@ -178,7 +172,7 @@ int main(void)
     }
     for (i = 0; i < COUNT(calls); i++) {
         printf("%s: %lu bytes of stack\n", calls[i].name, (unsigned long)most[i]);
-        CHECK(most[i] < (calls[i].call == read_text ? LARGEST_STACK : STACK) / 2);
+        CHECK(most[i] < STACK / 2);
     }
     return report();
 }

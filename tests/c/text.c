@@ -195,6 +195,40 @@ static void a_full_text(void)
     CHECK(is_painted(&any.numbers, sizeof any.numbers) && is_painted(&any.names, sizeof any.names));
 }
 
+/* Texts of as many tags, rows, transitions or actions as there is room for, one after the other or inside each other: no place that a read works in is too small. */
+static void the_fullest_texts(void)
+{
+    static const struct {
+        const char *before, *unit, *end, *after;
+        uint32_t answer;
+    } all[] = {
+        {"<scxml>", "<state>", "</state>", "</scxml>", AUTTERVIL_BAD_TEXT},
+        {"<scxml>", "<state id='a'>", "</state>", "</scxml>", AUTTERVIL_SIZE},
+        {"<scxml>", "<final/>", "", "</scxml>", AUTTERVIL_BAD_TEXT},
+        {"<scxml>", "<final id='a'/>", "", "</scxml>", AUTTERVIL_SIZE},
+        {"<scxml>", "<transition/>", "", "</scxml>", AUTTERVIL_SIZE},
+        {"<scxml><state id='a'><onentry>", "<else/>", "", "</onentry></state></scxml>", AUTTERVIL_LISTS},
+        {"<scxml><state id='a'><onentry>", "<if cond=\"In('a')\"/>", "", "</onentry></state></scxml>", AUTTERVIL_LISTS},
+        {"<scxml><state id='a'><onentry>", "<if cond=\"In('a')\">", "</if>", "</onentry></state></scxml>", AUTTERVIL_LISTS},
+    };
+    static char text[AUTTERVIL_MOST_TEXT];
+    size_t i, n, many, length;
+    for (i = 0; i < COUNT(all); i++) {
+        auttervil_reading reading, other;
+        length = strlen(all[i].before);
+        many = (sizeof text - length - strlen(all[i].after)) / (strlen(all[i].unit) + strlen(all[i].end));
+        memcpy(text, all[i].before, length);
+        for (n = 0; n < 2 * many + 1; n++) {
+            const char *next = n < many ? all[i].unit : n < 2 * many ? all[i].end : all[i].after;
+            memcpy(text + length, next, strlen(next));
+            length += strlen(next);
+        }
+        reading = AUTTERVIL_READ(text, length, any);
+        other = AUTTERVIL_READ_WITH(&scratch, text, length, any);
+        CHECK(length > AUTTERVIL_MOST_TEXT - 32 && reading.answer == all[i].answer && is_alike(&reading, &other));
+    }
+}
+
 /* ---- places that cannot be lent */
 
 /* Both calls refuse these places alike, and write nothing. */
@@ -259,6 +293,24 @@ static void bad_scratch(void)
     /* Whatever it held before, the answer is the same. */
     fill_random(&scratch, sizeof scratch);
     CHECK(auttervil_read_with(&scratch, TEXT(small), numbers, CELLS, names, BYTES).tables.cells == 28);
+}
+
+/* Work places of other lengths, which no wrapper lends: 199, and nothing is written, in them neither. */
+static void other_lengths(void)
+{
+    size_t most[6] = {COUNT(scratch.cells), COUNT(scratch.bytes), COUNT(scratch.ids), COUNT(scratch.spots), COUNT(scratch.sources), COUNT(scratch.ranks)};
+    size_t i;
+    memset(&lent_places, PAINT, sizeof lent_places);
+    memset(&scratch, PAINT, sizeof scratch);
+    for (i = 0; i < COUNT(most); i++) {
+        auttervil_raw_reading raw;
+        most[i]--;
+        raw = auttervil_raw2_read_with(auttervil_lend_bytes(TEXT(small)), sizeof small - 1, numbers, CELLS, names, BYTES, scratch.cells, most[0], scratch.bytes, most[1], scratch.ids, most[2],
+                                       scratch.spots, most[3], scratch.sources, most[4], scratch.ranks, most[5]);
+        most[i]++;
+        CHECK(raw.answer == 199 && raw.offset == 0 && raw.cells == 0 && raw.bytes == 0);
+        CHECK(is_painted(&scratch, sizeof scratch) && is_painted(&lent_places, sizeof lent_places));
+    }
 }
 
 /* ---- the life cycle */
@@ -565,7 +617,7 @@ static void words(void)
 {
     CHECK(strcmp(auttervil_strstatus(AUTTERVIL_BAD_TEXT), "the text is not of the grammar, lacks an id, or names what does not exist or is too long") == 0);
     CHECK(auttervil_strplace(AUTTERVIL_BAD_TEXT) == NULL && auttervil_strplace(AUTTERVIL_TABLES_OVERLAP) != NULL && auttervil_strplace(294) == NULL);
-    CHECK(AUTTERVIL_MOST_TEXT_CELLS == 26154);
+    CHECK(AUTTERVIL_MOST_TEXT_CELLS == 27756 && sizeof(auttervil_scratch) == 334360);
 }
 
 int main(int count, char **arguments)
@@ -579,8 +631,10 @@ int main(int count, char **arguments)
     faults();
     the_longest_text();
     a_full_text();
+    the_fullest_texts();
     bad_places();
     bad_scratch();
+    other_lengths();
     the_text_is_the_built_chart();
     the_incident_and_a_typo();
     the_documented_example();

@@ -14,7 +14,7 @@ ghost use Rattle.session.specs.Sessions.{postOf, runOf, runEffects};
 ghost use Rattle.lent.specs.Places.{sessionIn, lengthsFit, startIn, startInEffects};
 ghost use Rattle.calls.specs.Performing.{Performs, callsIn};
 ghost use Rattle.reading.specs.Calls.{callOf};
-ghost use Rattle.read_text.specs.Whole.{placesFit, readWith};
+ghost use Rattle.read_text.specs.Whole.{placesFit, readWith, WorkKept};
 ghost use Rattle.auttervil.specs.Exports.{CompilesTo, chartAnswer, StartsTo, PostsTo, RunsTo, StepsTo, readOutcome};
 use definition::Answer;
 
@@ -273,8 +273,9 @@ pub extern "C" fn auttervil_raw2_read(
     }
 }
 
-// The same for a host with a small stack, which lends six work places: 242,950 numbers and 49,152 bytes for the tables, 65,536 numbers for ids, 65,540 for the spots that tags stand in, 32,768 each for the sources and the numbers of transitions. What they hold counts for
-// nothing and is lost; work places of other lengths are answered by 199, and nothing is written.
+// The same for a host with a small stack, which lends six work places: 27,756 numbers and 49,152 bytes for the tables, 9,364 numbers for ids, 16,388 for the spots that
+// tags stand in, 2,913 each for the sources and the numbers of transitions. What they hold counts for nothing and is lost; work places of other lengths are answered by 199,
+// and nothing is written, in them neither.
 #[no_mangle]
 pub extern "C" fn auttervil_raw2_read_with(
     text: &[u8],
@@ -287,7 +288,7 @@ pub extern "C" fn auttervil_raw2_read_with(
     noted: &mut [u16],
     ranks: &mut [u16],
 ) -> ReadResult
-    ensures { λ r. ⌜ readOutcome r (now (place .exit)) (now («name_place» .exit)) ≡ readWith (placesFit (length (now (work .entry))) (length (now («name_work» .entry))) (length (now (ids .entry))) (length (now (spots .entry))) (length (now (noted .entry))) (length (now (ranks .entry)))) (now (text .entry)) (now (place .entry)) (now («name_place» .entry)) ⌝ }
+    ensures { λ r. ⌜ (readOutcome r (now (place .exit)) (now («name_place» .exit)) ≡ readWith (placesFit (length (now (work .entry))) (length (now («name_work» .entry))) (length (now (ids .entry))) (length (now (spots .entry))) (length (now (noted .entry))) (length (now (ranks .entry)))) (now (text .entry)) (now (place .entry)) (now («name_place» .entry))) × WorkKept (placesFit (length (now (work .entry))) (length (now («name_work» .entry))) (length (now (ids .entry))) (length (now (spots .entry))) (length (now (noted .entry))) (length (now (ranks .entry)))) (now (work .entry)) (now («name_work» .entry)) (now (ids .entry)) (now (spots .entry)) (now (noted .entry)) (now (ranks .entry)) (now (work .exit)) (now («name_work» .exit)) (now (ids .exit)) (now (spots .exit)) (now (noted .exit)) (now (ranks .exit)) ⌝ }
 {
     let read = read_text::read_with(
         text,

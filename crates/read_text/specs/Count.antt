@@ -5,7 +5,7 @@ use mathlib.Core.List.{List}
 use Prim.Native.Nat.{ℕ, zero, suc, _+_, _≤_, _<_}
 use native.Mathlib.Omega.{arith}
 use lib.ListN.{length, getD}
-use borrow.Author.Tests.{not-true, not-false}
+use borrow.Author.Tests.{not-true}
 use Rattle.reading.specs.Tags.{tagsOf}
 use Rattle.reading.specs.Faults.{idsOf}
 use Rattle.reading.specs.Content.{Fact, contentFrom, contentOf, slotsOf}
@@ -21,16 +21,17 @@ use Rattle.walks.specs.declared.plan.Plan.{Plan}
 use Rattle.walks.specs.Plan.{textFacts, textItems, countsOf, layBase, Named, FileRoom, FiledAll}
 use Rattle.cells.specs.Starts.{Few}
 use Rattle.cells.specs.Cells.{Held}
-use Rattle.cells.specs.Totals.{TotalsRoom, isWithin, within-totals, within-size, over-size}
-use Rattle.slots.specs.First.{ids-length}
+use Rattle.cells.specs.Totals.{TotalsRoom, isWithin, over-size}
+use Rattle.gather.specs.Ids.{ids-length}
 use Rattle.read_text.specs.declared.fill.Laid.{Laid}
 use Rattle.read_text.specs.declared.fill.Laid.the-variants.{Many, Size}
 use Rattle.read_text.specs.Survey.{Oversize, PlannedBy}
+use Rattle.read_text.specs.Bound.{tables-few}
 
 pub record FillRoom (text levels spots ids names ranks work next : List ℕ) (p : Plan) : Type 0 where
   pub deep : length levels ≡ 32768
-  pub spots-room : length spots ≡ 65540
-  pub work-room : length work ≡ 242950
+  pub spots-room : length spots ≡ 16388
+  pub work-room : length work ≡ 27756
   pub next-room : length next ≡ 2816
   pub planned : PlannedBy text ids names ranks (p .rows) (p .transitions) (p .ids) (p .slots)
 
@@ -39,7 +40,7 @@ pub record BegunBins (text ranks next : List ℕ) (p : Plan) (s : ℕ) : Type 0 
   pub starts-are : (k : ℕ) → k < binCount (p .rows) (p .transitions) →
       getD next k 0 ≡ layBase (p .rows) (p .transitions) + startOf (countsOf (textItems text ranks (p .rows) (p .transitions))) k
   pub total : s ≡ layBase (p .rows) (p .transitions) + startOf (countsOf (textItems text ranks (p .rows) (p .transitions))) (binCount (p .rows) (p .transitions))
-  pub fits : s ≤ 242950
+  pub fits : s ≤ 27756
 
 abbrev pub CountedCase : List ℕ → List ℕ → List ℕ → Plan → Laid → Type 0
 CountedCase text ranks next p Many = Oversize text
@@ -148,24 +149,30 @@ module _ (text levels spots ids names ranks work next : List ℕ) (p : Plan) (r 
               };
         }
 
-    module _ (within : Bool) (e : within ≡ isWithin (countsIn next2) (p .rows) (p .transitions)) (q : not within ≡ false) where
-      size-fits : layBase (p .rows) (p .transitions) + startOf (countsIn next2) (binCount (p .rows) (p .transitions)) ≤ 242950
-      size-fits = within-size (countsIn next2) (p .rows) (p .transitions) (count-totals .few) (within-totals (countsIn next2) (p .rows) (p .transitions) (sym e ∙ not-false within q))
+    -- the counts fit, whatever rule 1 says of them
+    same : (m : ℕ) → m ≤ binCount (p .rows) (p .transitions) → startOf (countsIn next2) m ≡ startOf (countsOf (textItems text ranks (p .rows) (p .transitions))) m
+    same m l = starts-same (countsIn next2) (countsOf (textItems text ranks (p .rows) (p .transitions))) m (λ k h. tally .count k (omega arith))
 
-      pub count-starts : (base : ℕ) → base ≡ layBase (p .rows) (p .transitions) → StartRoom next2 (binCount (p .rows) (p .transitions)) base
-      count-starts base b = let s = size-fits in record { there = tally .room; fits = omega arith }
+    size-fits : layBase (p .rows) (p .transitions) + startOf (countsIn next2) (binCount (p .rows) (p .transitions)) ≤ 27756
+    size-fits =
+        let w = r .planned in
+        let a = same (binCount (p .rows) (p .transitions)) (omega arith) in
+        let b =
+        tables-few text ranks (p .rows) (p .transitions) (plan-short text ids names ranks (p .rows) (p .transitions) (p .ids) (p .slots) w) (w .numbered .rows-few)
+        (rows-are text ids names ranks (p .rows) (p .transitions) (p .ids) (p .slots) w) (w .numbered .ranked .many) in
+        omega arith
 
-      pub count-begun : (base : ℕ) → base ≡ layBase (p .rows) (p .transitions) → (next3 : List ℕ) (end s : ℕ) → Started next2 next3 (binCount (p .rows) (p .transitions)) base end → s ≡ end →
-          CountedAs text ranks next3 p (Size s)
-      count-begun base b next3 end s g i =
-          record {
-            is =
-                record {
-                  starts-are = λ k h. g .starts-are k h ∙ ap₂ (λ (y x : ℕ). y + x) b (same k (omega arith));
-                  total = i ∙ g .total ∙ ap₂ (λ (y x : ℕ). y + x) b (same (binCount (p .rows) (p .transitions)) (omega arith));
-                  fits = let u = size-fits in let v = g .total in omega arith;
-                };
-          }
-        where
-          same : (m : ℕ) → m ≤ binCount (p .rows) (p .transitions) → startOf (countsIn next2) m ≡ startOf (countsOf (textItems text ranks (p .rows) (p .transitions))) m
-          same m l = starts-same (countsIn next2) (countsOf (textItems text ranks (p .rows) (p .transitions))) m (λ k h. tally .count k (omega arith))
+    pub count-starts : (base : ℕ) → base ≡ layBase (p .rows) (p .transitions) → StartRoom next2 (binCount (p .rows) (p .transitions)) base
+    count-starts base b = let s = size-fits in record { there = tally .room; fits = omega arith }
+
+    pub count-begun : (base : ℕ) → base ≡ layBase (p .rows) (p .transitions) → (next3 : List ℕ) (end s : ℕ) → Started next2 next3 (binCount (p .rows) (p .transitions)) base end → s ≡ end →
+        CountedAs text ranks next3 p (Size s)
+    count-begun base b next3 end s g i =
+        record {
+          is =
+              record {
+                starts-are = λ k h. g .starts-are k h ∙ ap₂ (λ (y x : ℕ). y + x) b (same k (omega arith));
+                total = i ∙ g .total ∙ ap₂ (λ (y x : ℕ). y + x) b (same (binCount (p .rows) (p .transitions)) (omega arith));
+                fits = let u = size-fits in let v = g .total in omega arith;
+              };
+        }

@@ -21,7 +21,7 @@ use Rattle.lay.specs.Sizes.{names-size}
 use Rattle.lay.specs.Names.{NamesRoom}
 use Rattle.reader.specs.Judged.{WellRead}
 use Rattle.reader.specs.Outcomes.{call-small, call-refused, call-tables}
-use Rattle.slots.specs.First.{ids-length}
+use Rattle.gather.specs.Ids.{ids-length}
 use Rattle.read_text.specs.declared.hand_out.Read.{Read}
 use Rattle.read_text.specs.Outcome.{refused, outcomeOf}
 

@@ -2,6 +2,7 @@ pub mod Outcome
 pub mod Hand
 pub mod Number
 pub mod Survey
+pub mod Bound
 pub mod Count
 pub mod Fill
 pub mod Tabled

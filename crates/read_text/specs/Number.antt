@@ -23,10 +23,10 @@ use Rattle.read_text.specs.declared.number.Numbered.the-variants.{Many, 
 pub record NumberRoom (text levels spots noted next ranks : List ℕ) : Type 0 where
   pub short : length text ≤ 32768
   pub deep : length levels ≡ 32768
-  pub spots-room : length spots ≡ 65540
-  pub noted-room : length noted ≡ 32768
+  pub spots-room : length spots ≡ 16388
+  pub noted-room : length noted ≡ 2913
   pub next-room : length next ≡ 2816
-  pub ranks-room : length ranks ≡ 32768
+  pub ranks-room : length ranks ≡ 2913
 
 -- rule 1 is broken whatever the names are
 pub record TooMany (text : List ℕ) : Type 0 where
@@ -57,7 +57,7 @@ module _ (text levels cells spots noted : List ℕ) (c : Counts) (s : Sourced te
   pub number-rows : (ranks : List ℕ) → 256 < c .rows → NumberedAs text ranks Many
   number-rows ranks h = let r = rows in record { is = record { is = λ slots. many-rows slots (contentOf (tagsOf text)) (omega arith) } }
 
-  pub number-room : (next ranks : List ℕ) → length next ≡ 2816 → length ranks ≡ 32768 → c .rows ≤ 256 → RankRoom noted (c .transitions) (c .rows) next ranks
+  pub number-room : (next ranks : List ℕ) → length next ≡ 2816 → length ranks ≡ 2913 → c .rows ≤ 256 → RankRoom noted (c .transitions) (c .rows) next ranks
   number-room next ranks a b h =
       let l = s .room .room in let f = s .transitions-few in
       record { sized = omega arith; few = omega arith; there = omega arith; wide = omega arith }

@@ -26,12 +26,12 @@ use Rattle.read_text.specs.Number.{NumberedBy, NumberedAs}
 
 pub record SurveyRoom (text levels ids names spots noted next ranks : List ℕ) : Type 0 where
   pub deep : length levels ≡ 32768
-  pub ids-room : length ids ≡ 65536
+  pub ids-room : length ids ≡ 9364
   pub names-room : length names ≡ 1536
-  pub spots-room : length spots ≡ 65540
-  pub noted-room : length noted ≡ 32768
+  pub spots-room : length spots ≡ 16388
+  pub noted-room : length noted ≡ 2913
   pub next-room : length next ≡ 2816
-  pub ranks-room : length ranks ≡ 32768
+  pub ranks-room : length ranks ≡ 2913
 
 pub record FaultyAt (text : List ℕ) (at : ℕ) : Type 0 where
   pub is : readOf text ≡ faulty at

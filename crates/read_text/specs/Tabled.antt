@@ -18,7 +18,7 @@ use Rattle.read_text.specs.Fill.{TablesIn, LaidAs}
 
 pub record TabledRoom (text levels ids names spots noted next ranks work : List ℕ) : Type 0 where
   pub surveys : SurveyRoom text levels ids names spots noted next ranks
-  pub work-room : length work ≡ 242950
+  pub work-room : length work ≡ 27756
 
 -- the tables stand at the beginning of the work place, and their names are noted
 pub record TabledBy (text names work : List ℕ) (s m : ℕ) : Type 0 where

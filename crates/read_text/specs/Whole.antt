@@ -20,25 +20,46 @@ use Rattle.read_text.specs.Tabled.{TabledAs}
 
 unfoldable pub placesFit : ℕ → ℕ → ℕ → ℕ → ℕ → ℕ → Bool
 placesFit work nameWork ids spots noted ranks =
-    eqb work 242950 && eqb nameWork 49152 && eqb ids 65536 && eqb spots 65540 && eqb noted 32768 && eqb ranks 32768
+    eqb work 27756 && eqb nameWork 49152 && eqb ids 9364 && eqb spots 16388 && eqb noted 2913 && eqb ranks 2913
 
 pub places-are : (work nameWork ids spots noted ranks : ℕ) →
-    (eqb work 242950 && eqb nameWork 49152 && eqb ids 65536 && eqb spots 65540 && eqb noted 32768 && eqb ranks 32768) ≡ placesFit work nameWork ids spots noted ranks
+    (eqb work 27756 && eqb nameWork 49152 && eqb ids 9364 && eqb spots 16388 && eqb noted 2913 && eqb ranks 2913) ≡ placesFit work nameWork ids spots noted ranks
 unfolding placesFit
 places-are work nameWork ids spots noted ranks = refl
 
 pub record ReadRoom (work nameWork ids spots noted ranks : ℕ) : Type 0 where
-  pub work-room : work ≡ 242950
+  pub work-room : work ≡ 27756
   pub name-room : nameWork ≡ 49152
-  pub ids-room : ids ≡ 65536
-  pub spots-room : spots ≡ 65540
-  pub noted-room : noted ≡ 32768
-  pub ranks-room : ranks ≡ 32768
+  pub ids-room : ids ≡ 9364
+  pub spots-room : spots ≡ 16388
+  pub noted-room : noted ≡ 2913
+  pub ranks-room : ranks ≡ 2913
 
 -- work places of other lengths: 199, and nothing is written
 abbrev pub readWith : Bool → List ℕ → List ℕ → List ℕ → Outcome
 readWith true text place namePlace = callOf text place namePlace
 readWith false text place namePlace = refusal 199 0 place namePlace
+
+-- nor in the work places; else what they hold is free
+abbrev pub keptUnless : Bool → List ℕ → List ℕ → List ℕ
+keptUnless true before behind = behind
+keptUnless false before behind = before
+
+pub record WorkKept (fit : Bool) (work nameWork ids spots noted ranks work' nameWork' ids' spots' noted' ranks' : List ℕ) : Type 0 where
+  pub work-kept : work' ≡ keptUnless fit work work'
+  pub name-work-kept : nameWork' ≡ keptUnless fit nameWork nameWork'
+  pub ids-kept : ids' ≡ keptUnless fit ids ids'
+  pub spots-kept : spots' ≡ keptUnless fit spots spots'
+  pub noted-kept : noted' ≡ keptUnless fit noted noted'
+  pub ranks-kept : ranks' ≡ keptUnless fit ranks ranks'
+
+pub kept-all : (fit : Bool) (work nameWork ids spots noted ranks : List ℕ) → WorkKept fit work nameWork ids spots noted ranks work nameWork ids spots noted ranks
+kept-all fit work nameWork ids spots noted ranks =
+    record { work-kept = same fit work; name-work-kept = same fit nameWork; ids-kept = same fit ids; spots-kept = same fit spots; noted-kept = same fit noted; ranks-kept = same fit ranks }
+  where
+    same : (z : Bool) (xs : List ℕ) → xs ≡ keptUnless z xs xs
+    same true xs = refl
+    same false xs = refl
 
 left : (a b : Bool) → (a && b) ≡ true → a ≡ true
 left true b e = refl
@@ -54,17 +75,17 @@ module _ (work nameWork ids spots noted ranks : ℕ) (fit : Bool) (e : fit ≡ p
   unfolding placesFit
   places-room q =
       let six = sym e ∙ not-false fit q in
-      let five = left (eqb work 242950 && eqb nameWork 49152 && eqb ids 65536 && eqb spots 65540 && eqb noted 32768) (eqb ranks 32768) six in
-      let four = left (eqb work 242950 && eqb nameWork 49152 && eqb ids 65536 && eqb spots 65540) (eqb noted 32768) five in
-      let three = left (eqb work 242950 && eqb nameWork 49152 && eqb ids 65536) (eqb spots 65540) four in
-      let two = left (eqb work 242950 && eqb nameWork 49152) (eqb ids 65536) three in
+      let five = left (eqb work 27756 && eqb nameWork 49152 && eqb ids 9364 && eqb spots 16388 && eqb noted 2913) (eqb ranks 2913) six in
+      let four = left (eqb work 27756 && eqb nameWork 49152 && eqb ids 9364 && eqb spots 16388) (eqb noted 2913) five in
+      let three = left (eqb work 27756 && eqb nameWork 49152 && eqb ids 9364) (eqb spots 16388) four in
+      let two = left (eqb work 27756 && eqb nameWork 49152) (eqb ids 9364) three in
       record {
-        work-room = eqb-true work 242950 (left (eqb work 242950) (eqb nameWork 49152) two);
-        name-room = eqb-true nameWork 49152 (right (eqb work 242950) (eqb nameWork 49152) two);
-        ids-room = eqb-true ids 65536 (right (eqb work 242950 && eqb nameWork 49152) (eqb ids 65536) three);
-        spots-room = eqb-true spots 65540 (right (eqb work 242950 && eqb nameWork 49152 && eqb ids 65536) (eqb spots 65540) four);
-        noted-room = eqb-true noted 32768 (right (eqb work 242950 && eqb nameWork 49152 && eqb ids 65536 && eqb spots 65540) (eqb noted 32768) five);
-        ranks-room = eqb-true ranks 32768 (right (eqb work 242950 && eqb nameWork 49152 && eqb ids 65536 && eqb spots 65540 && eqb noted 32768) (eqb ranks 32768) six);
+        work-room = eqb-true work 27756 (left (eqb work 27756) (eqb nameWork 49152) two);
+        name-room = eqb-true nameWork 49152 (right (eqb work 27756) (eqb nameWork 49152) two);
+        ids-room = eqb-true ids 9364 (right (eqb work 27756 && eqb nameWork 49152) (eqb ids 9364) three);
+        spots-room = eqb-true spots 16388 (right (eqb work 27756 && eqb nameWork 49152 && eqb ids 9364) (eqb spots 16388) four);
+        noted-room = eqb-true noted 2913 (right (eqb work 27756 && eqb nameWork 49152 && eqb ids 9364 && eqb spots 16388) (eqb noted 2913) five);
+        ranks-room = eqb-true ranks 2913 (right (eqb work 27756 && eqb nameWork 49152 && eqb ids 9364 && eqb spots 16388 && eqb noted 2913) (eqb ranks 2913) six);
       }
 
   pub places-no : not fit ≡ true → (text place namePlace : List ℕ) (r : Read) → r ≡ refused 199 0 →
@@ -75,6 +96,10 @@ module _ (work nameWork ids spots noted ranks : ℕ) (fit : Bool) (e : fit ≡ p
   pub places-yes : not fit ≡ false → (text place namePlace : List ℕ) (o : Outcome) → o ≡ callOf text place namePlace →
       o ≡ readWith (placesFit work nameWork ids spots noted ranks) text place namePlace
   places-yes q text place namePlace o i = i ∙ ap (λ (z : Bool). readWith z text place namePlace) (sym (sym e ∙ not-false fit q))
+
+  pub places-free : not fit ≡ false → (w n i s o r w' n' i' s' o' r' : List ℕ) → WorkKept (placesFit work nameWork ids spots noted ranks) w n i s o r w' n' i' s' o' r'
+  places-free q w n i s o r w' n' i' s' o' r' =
+      subst (λ (z : Bool). WorkKept z w n i s o r w' n' i' s' o' r') (sym (not-false fit q) ∙ e) (record { work-kept = refl; name-work-kept = refl; ids-kept = refl; spots-kept = refl; noted-kept = refl; ranks-kept = refl })
 
 -- ---- what is answered
 

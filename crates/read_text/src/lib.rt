@@ -3,7 +3,7 @@ ghost use mathlib.Core.Path.{_≡_};
 ghost use lib.ListN.{length};
 ghost use Rattle.reading.specs.Calls.{callOf};
 ghost use Rattle.read_text.specs.Outcome.{outcomeOf};
-ghost use Rattle.read_text.specs.Whole.{placesFit, ReadRoom, readWith};
+ghost use Rattle.read_text.specs.Whole.{placesFit, ReadRoom, readWith, WorkKept};
 use crate::hand_out::Read;
 use crate::hand_out::hand_out;
 use crate::hand_out::refusal;
@@ -16,7 +16,7 @@ pub mod number;
 pub mod survey;
 pub mod tabled;
 
-// What a call with work places of other lengths gets: no number of document 01 or of a later request, and nothing is written.
+// What a call with work places of other lengths gets: no number of document 01 or of a later request, and nothing is written, in the work places neither.
 pub const NO_WORK_PLACE: u32 = 199;
 
 fn are_places(
@@ -29,12 +29,12 @@ fn are_places(
 ) -> bool
     ensures { λ b. ⌜ b ≡ placesFit work «name_work» ids spots noted ranks ⌝ }
 {
-    (work == 242950)
+    (work == 27756)
         & (name_work == 49152)
-        & (ids == 65536)
-        & (spots == 65540)
-        & (noted == 32768)
-        & (ranks == 32768)
+        & (ids == 9364)
+        & (spots == 16388)
+        & (noted == 2913)
+        & (ranks == 2913)
 }
 
 fn read_in(
@@ -81,8 +81,8 @@ fn read_in(
     }
 }
 
-// The text into the two places, with work places lent: 242,950 numbers and 49,152 bytes for the tables, 65,536 numbers for ids, 65,540 for the spots that tags stand in,
-// 32,768 each for the sources and the numbers of transitions.
+// The text into the two places, with work places lent: 27,756 numbers and 49,152 bytes for the tables, 9,364 numbers for ids, 16,388 for the spots that tags stand in,
+// 2,913 each for the sources and the numbers of transitions.
 pub fn read_with(
     text: &[u8],
     place: &mut [u64],
@@ -94,7 +94,7 @@ pub fn read_with(
     noted: &mut [u16],
     ranks: &mut [u16],
 ) -> Read
-    ensures { λ r. ⌜ outcomeOf r (now (place .exit)) (now («name_place» .exit)) ≡ readWith (placesFit (length (now (work .entry))) (length (now («name_work» .entry))) (length (now (ids .entry))) (length (now (spots .entry))) (length (now (noted .entry))) (length (now (ranks .entry)))) (now (text .entry)) (now (place .entry)) (now («name_place» .entry)) ⌝ }
+    ensures { λ r. ⌜ (outcomeOf r (now (place .exit)) (now («name_place» .exit)) ≡ readWith (placesFit (length (now (work .entry))) (length (now («name_work» .entry))) (length (now (ids .entry))) (length (now (spots .entry))) (length (now (noted .entry))) (length (now (ranks .entry)))) (now (text .entry)) (now (place .entry)) (now («name_place» .entry))) × WorkKept (placesFit (length (now (work .entry))) (length (now («name_work» .entry))) (length (now (ids .entry))) (length (now (spots .entry))) (length (now (noted .entry))) (length (now (ranks .entry)))) (now (work .entry)) (now («name_work» .entry)) (now (ids .entry)) (now (spots .entry)) (now (noted .entry)) (now (ranks .entry)) (now (work .exit)) (now («name_work» .exit)) (now (ids .exit)) (now (spots .exit)) (now (noted .exit)) (now (ranks .exit)) ⌝ }
 {
     let fit = are_places(
         work.len(),
@@ -124,12 +124,12 @@ pub fn read_with(
 pub fn read(text: &[u8], place: &mut [u64], name_place: &mut [u8]) -> Read
     ensures { λ r. ⌜ outcomeOf r (now (place .exit)) (now («name_place» .exit)) ≡ callOf (now (text .entry)) (now (place .entry)) (now («name_place» .entry)) ⌝ }
 {
-    let mut work = [0u64; 242950];
+    let mut work = [0u64; 27756];
     let mut name_work = [0u8; 49152];
-    let mut ids = [0u16; 65536];
-    let mut spots = [0u16; 65540];
-    let mut noted = [0u16; 32768];
-    let mut ranks = [0u16; 32768];
+    let mut ids = [0u16; 9364];
+    let mut spots = [0u16; 16388];
+    let mut noted = [0u16; 2913];
+    let mut ranks = [0u16; 2913];
     read_in(
         text,
         place,

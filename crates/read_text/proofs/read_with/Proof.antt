@@ -1,5 +1,5 @@
 use borrow.Author.Needs.{needs}
-use Rattle.read_text.specs.Whole.{places-no, places-room, places-yes}
+use Rattle.read_text.specs.Whole.{kept-all, places-no, places-room, places-yes, places-free}
 use Rattle.read_text.proofs.read_with.Statement.{statement}
 use Rattle.read_text.proofs.read_with.Tie as tie
 
@@ -10,7 +10,7 @@ refusal-requires : tie.Need-refusal-requires
 refusal-requires c κs = search needs
 
 returns : tie.Need-returns
-returns c = places-no _ _ _ _ _ _ _ (c .before .before .are-places .ensures) (c .before .if1 .taken) _ _ _ _ (c .refusal .ensures)
+returns c = (places-no _ _ _ _ _ _ _ (c .before .before .are-places .ensures) (c .before .if1 .taken) _ _ _ _ (c .refusal .ensures), kept-all _ _ _ _ _ _ _)
 
 read-in-requires : tie.Need-read-in-requires
 read-in-requires c κs = places-room _ _ _ _ _ _ _ (c .before .before .before .before .before .before .before .before .before .are-places .ensures) (c .before .before .before .before .before .before .before .before .if1 .left)
@@ -40,7 +40,7 @@ same-length-8 : tie.Need-same-length-8
 same-length-8 c = search needs
 
 returns-2 : tie.Need-returns-2
-returns-2 c = places-yes _ _ _ _ _ _ _ (c .before .before .before .before .before .before .before .before .before .before .before .before .before .before .before .before .before .before .before .before .before .before .before .before .before .before .are-places .ensures) (c .before .before .before .before .before .before .before .before .before .before .before .before .before .before .before .before .before .before .before .before .before .before .before .before .before .if1 .left) _ _ _ _ (c .before .before .before .before .before .before .before .before .before .before .before .before .before .before .before .before .read-in .ensures)
+returns-2 c = (places-yes _ _ _ _ _ _ _ (c .before .before .before .before .before .before .before .before .before .before .before .before .before .before .before .before .before .before .before .before .before .before .before .before .before .before .are-places .ensures) (c .before .before .before .before .before .before .before .before .before .before .before .before .before .before .before .before .before .before .before .before .before .before .before .before .before .if1 .left) _ _ _ _ (c .before .before .before .before .before .before .before .before .before .before .before .before .before .before .before .before .read-in .ensures), places-free _ _ _ _ _ _ _ (c .before .before .before .before .before .before .before .before .before .before .before .before .before .before .before .before .before .before .before .before .before .before .before .before .before .before .are-places .ensures) (c .before .before .before .before .before .before .before .before .before .before .before .before .before .before .before .before .before .before .before .before .before .before .before .before .before .if1 .left) _ _ _ _ _ _ _ _ _ _ _ _)
 
 pub read-with-spec : {M : Type 1} → statement M
 read-with-spec =

@@ -61,7 +61,7 @@ narrow-requires : tie.Need-narrow-requires
 narrow-requires c κs = search needs
 
 starts-requires : tie.Need-starts-requires
-starts-requires c κs = count-starts _ _ _ _ _ _ _ _ _ (c .before .before .before .before .before .before .before .before .before .before .before .before .before .before .before .before .before .before .before .before .before .before .before .before .before .before .before .before .before .before .pre) _ _ _ _ (c .before .before .before .before .before .before .before .before .before .before .before .before .before .file-items .ensures) _ (c .before .before .before .is-within .ensures) (c .before .before .if1 .left) _ (c .before .narrow .ensures)
+starts-requires c κs = count-starts _ _ _ _ _ _ _ _ _ (c .before .before .before .before .before .before .before .before .before .before .before .before .before .before .before .before .before .before .before .before .before .before .before .before .before .before .before .before .before .before .pre) _ _ _ _ (c .before .before .before .before .before .before .before .before .before .before .before .before .before .file-items .ensures) _ (c .before .narrow .ensures)
 
 wide-requires : tie.Need-wide-requires
 wide-requires c κs = search needs
@@ -79,7 +79,7 @@ same-length-8 : tie.Need-same-length-8
 same-length-8 c = search needs
 
 returns-2 : tie.Need-returns-2
-returns-2 c = count-begun _ _ _ _ _ _ _ _ _ (c .before .before .before .before .before .before .before .before .before .before .before .before .before .before .before .before .before .before .before .before .before .before .before .before .before .before .before .before .before .before .before .before .before .before .pre) _ _ _ _ (c .before .before .before .before .before .before .before .before .before .before .before .before .before .before .before .before .before .file-items .ensures) _ (c .before .before .before .before .before .before .before .is-within .ensures) (c .before .before .before .before .before .before .if1 .left) _ (c .before .before .before .before .before .narrow .ensures) _ _ _ (c .before .before .before .starts .ensures) (c .wide .ensures)
+returns-2 c = count-begun _ _ _ _ _ _ _ _ _ (c .before .before .before .before .before .before .before .before .before .before .before .before .before .before .before .before .before .before .before .before .before .before .before .before .before .before .before .before .before .before .before .before .before .before .pre) _ _ _ _ (c .before .before .before .before .before .before .before .before .before .before .before .before .before .before .before .before .before .file-items .ensures) _ (c .before .before .before .before .before .narrow .ensures) _ _ _ (c .before .before .before .starts .ensures) (c .wide .ensures)
 
 pub count-tables-spec : {M : Type 1} → statement M
 count-tables-spec =
