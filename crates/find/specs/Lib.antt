@@ -1,3 +1,3 @@
-pub mod Places
+pub mod Types
 pub mod Digits
 pub mod Items

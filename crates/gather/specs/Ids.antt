@@ -2,13 +2,13 @@
 use mathlib.Core.Path.{_≡_, refl, sym, ap, subst, _∙_}
 use mathlib.Core.Bool.{Bool, true, false, not, _&&_, cond}
 use mathlib.Core.List.{List, [], _∷_, _++_, append-nil}
-use Prim.Native.Nat.{ℕ, zero, suc, _+_, _*_, _-_, _≤_, _<_}
+use Prim.Native.Nat.{ℕ, zero, suc, _+_, _*_, _-_, _^_, _≤_, _<_}
 use native.Mathlib.Omega.{arith}
-use native.Mathlib.Numerals.{add-one}
 use lib.Dec.{eqb, leb, ltb}
-use lib.ListN.{length, getD, set, take, drop, length-set, length-append}
-use lib.Seq.{append-snoc, getD-set-same, getD-set-other}
-use borrow.Author.Tests.{not-true, not-false, le-ltb, eqb-true, eqb-false, eq-eqb, ne-eqb}
+use lib.ListN.{length, take, drop, length-append}
+use lib.Seq.{append-snoc}
+use borrow.Author.Tests.{not-true, not-false, le-ltb, eq-eqb, ne-eqb}
+use Rattle.laws.specs.Bools.{clash}
 use Rattle.marks.specs.declared.Mark.{Mark}
 use Rattle.marks.specs.declared.Mark.the-variants.{Nothing, Valued, Tagged}
 use Rattle.marks.specs.declared.Walk.{Walk}
@@ -18,8 +18,10 @@ use Rattle.marks.specs.Grouped.{shapeOf, grouped}
 use Rattle.marks.specs.Joined.{joined}
 use Rattle.reading.specs.Tags.{Part, tagsOf}
 use Rattle.reading.specs.Faults.{idWord, isClosing, isRowTag, states, valueOf, idsOf}
+use Rattle.reading.specs.Content.{placeOf}
 use Rattle.weights.specs.Paid.{text-ids}
-use Rattle.values.specs.Ids.{idAt, idsFrom, Noted}
+use Rattle.values.specs.Ids.{idsFrom, ids-length, Index, Noted, noted-all}
+use Rattle.values.specs.Notes.{Forgotten, forgotten-index, NoteRoom, NotedMore}
 use Rattle.gather.specs.declared.ids.Id.{Id}
 use Rattle.gather.specs.Parts.{partAt, states-snoc, value-snoc, absent}
 
@@ -116,77 +118,36 @@ stating-more text id ps e w a b h l m = by (id .stated) refl (eqb w idWord) refl
 
 -- ---- one id more
 
-pub record Pushed (ids ids' : List ℕ) (n : ℕ) (row : Bool) (at long r : ℕ) : Type 0 where
-  pub ids-are : ids' ≡ cond row (set (set ids (n * 2) at) (n * 2 + 1) long) ids
-  pub count-is : r ≡ cond row (n + 1) n
-
-pub record PushRoom (ids : List ℕ) (n at long : ℕ) : Type 0 where
-  pub cells : n * 2 + 1 < length ids
+pub record RowRoom (text ids : List ℕ) (n at to : ℕ) : Type 0 where
+  pub index : Index text ids n
   pub few : n < 32768
-  pub at-fits : at < 65536
-  pub long-fits : long < 65536
+  pub room : n * 3 + 1027 ≤ length ids
+  pub first : at ≤ to
+  pub quote : to ≤ length text
 
-pub push-row : (ids : List ℕ) (n : ℕ) (row : Bool) (at long a l : ℕ) → row ≡ true → a ≡ at → l ≡ long → Pushed ids (set (set ids (n * 2) a) (n * 2 + 1) l) n row at long (n + 1)
-push-row ids n row at long a l e f g = record { ids-are = rw (e, f, g) refl; count-is = rw e refl }
+pub record RowNoted (text ids ids' : List ℕ) (n : ℕ) (row : Bool) (at to r : ℕ) : Type 0 where
+  pub more : row ≡ true → NotedMore text ids ids' n at to r
+  pub none : row ≡ false → (ids' ≡ ids) × (r ≡ n)
 
-pub push-none : (ids : List ℕ) (n : ℕ) (row : Bool) (at long : ℕ) → row ≡ false → Pushed ids ids n row at long n
-push-none ids n row at long e = record { ids-are = rw e refl; count-is = rw e refl }
+module _ (text ids : List ℕ) (n at to : ℕ) (w : RowRoom text ids n at to) where
+  pub row-known : Noted text ids n
+  row-known = noted-all text ids n (w .index)
 
--- ids whose numbers are the same are the same
-ids-alike : (text ids ids' : List ℕ) (n k : ℕ) → ((c : ℕ) → c < (k + n) * 2 → getD ids' c 0 ≡ getD ids c 0) → idsFrom text ids' n k ≡ idsFrom text ids n k
-unfolding idsFrom idAt
-ids-alike text ids ids' zero k h = refl
-ids-alike text ids ids' (suc n) k h =
-    rw (h (k * 2) (omega arith), h (k * 2 + 1) (omega arith), ids-alike text ids ids' n (suc k) (λ c l. h c (omega arith))) refl
+  pub row-room : (place : ℕ) → place ≡ placeOf (take (to - at) (drop at text)) (idsFrom text ids n 0) → NoteRoom text ids n at to place
+  row-room place e = record { index = w .index; few = w .few; room = w .room; first = w .first; quote = w .quote; short = w .index .short; place-is = e }
 
-ids-snoc : (text ids : List ℕ) (n k : ℕ) → idsFrom text ids (suc n) k ≡ idsFrom text ids n k ++ idAt text ids (k + n) ∷ []
-unfolding idsFrom
-ids-snoc text ids zero k = ap (λ (j : ℕ). idAt text ids j ∷ []) (plus k)
-  where
-    plus : (j : ℕ) → j ≡ j + 0
-    plus j = omega arith
-ids-snoc text ids (suc n) k =
-    ap (λ (l : List (List ℕ)). idAt text ids k ∷ l) (ids-snoc text ids n (suc k) ∙ ap (λ (j : ℕ). idsFrom text ids n (suc k) ++ idAt text ids j ∷ []) (shift k n))
-  where
-    shift : (a b : ℕ) → suc a + b ≡ a + suc b
-    shift a b = omega arith
+  pub row-noted : (row : Bool) (ids' : List ℕ) (r : ℕ) → row ≡ true → NotedMore text ids ids' n at to r → RowNoted text ids ids' n row at to r
+  row-noted row ids' r e m = record { more = λ _. m; none = λ f. absurd (clash row e f) }
 
-abbrev pub grown : List ℕ → ℕ → ℕ → ℕ → List ℕ
-grown ids n at long = set (set ids (n * 2) at) (n * 2 + 1) long
-
-module _ (ids : List ℕ) (n at long : ℕ) (room : n * 2 + 1 < length ids) where
-  pub grown-kept : (c : ℕ) → c < n * 2 → getD (grown ids n at long) c 0 ≡ getD ids c 0
-  grown-kept c h =
-      getD-set-other (set ids (n * 2) at) (n * 2 + 1) c long 0 (λ e. omega arith) ∙ getD-set-other ids (n * 2) c at 0 (λ e. omega arith)
-
-  pub grown-at : getD (grown ids n at long) (n * 2) 0 ≡ at
-  grown-at = getD-set-other (set ids (n * 2) at) (n * 2 + 1) (n * 2) long 0 (λ e. omega arith) ∙ getD-set-same ids (n * 2) at 0 (omega arith)
-
-  pub grown-long : getD (grown ids n at long) (n * 2 + 1) 0 ≡ long
-  grown-long = getD-set-same (set ids (n * 2) at) (n * 2 + 1) long 0 (let l = length-set ids (n * 2) at in omega arith)
-
-  pub grown-ids : (text : List ℕ) → idsFrom text (grown ids n at long) (n + 1) 0 ≡ idsFrom text ids n 0 ++ take long (drop at text) ∷ []
-  unfolding idAt
-  grown-ids text =
-      ap (λ (k : ℕ). idsFrom text (grown ids n at long) k 0) (add-one n) ∙ ids-snoc text (grown ids n at long) n 0 ∙
-      rw (ids-alike text ids (grown ids n at long) n 0 (λ c h. grown-kept c (omega arith)))
-      (ap (λ (k : ℕ). idsFrom text ids n 0 ++ take (getD (grown ids n at long) (k * 2 + 1) 0) (drop (getD (grown ids n at long) (k * 2) 0) text) ∷ []) (plus n) ∙ rw (grown-at, grown-long) refl)
-    where
-      plus : (j : ℕ) → 0 + j ≡ j
-      plus j = omega arith
+  pub row-none : (row : Bool) → row ≡ false → RowNoted text ids ids n row at to n
+  row-none row e = record { more = λ f. absurd (clash row f e); none = λ _. (refl, refl) }
 
 -- ---- the walk
 
-pub ids-length : (text ids : List ℕ) (n k : ℕ) → length (idsFrom text ids n k) ≡ n
-unfolding idsFrom
-ids-length text ids zero k = refl
-ids-length text ids (suc n) k = ap suc (ids-length text ids n (suc k))
-
--- two numbers for each id: the start tag of a row has seven bytes (crate weights), and none is noted behind the last
 pub record Begun (text levels ids : List ℕ) : Type 0 where
   pub short : length text ≤ 32768
   pub deep : length levels ≡ 32768
-  pub room : length ids ≡ 9364
+  pub room : length ids ≡ 15070
 
 pub record Gathered (text levels ids : List ℕ) (n : ℕ) : Type 0 where
   pub begun : Begun text levels ids
@@ -195,47 +156,56 @@ pub record Gathered (text levels ids : List ℕ) (n : ℕ) : Type 0 where
 
 pub record Gathering (text levels ids : List ℕ) (w : Walk) (id : Id) (n : ℕ) : Type 0 where
   pub standing : Standing text levels w
-  pub room : length ids ≡ 9364
-  pub inside : (k : ℕ) → k < n → getD ids (k * 2) 0 + getD ids (k * 2 + 1) 0 ≤ length text
+  pub room : length ids ≡ 15070
+  pub index : Index text ids n
   pub parts : List Part
   pub stating : Stating text id parts
   pub left : idsOf (tagsOf text) ≡ idsFrom text ids n 0 ++ idsOf (grouped text parts (restOf text levels w))
 
-pub ids-start : (text levels ids : List ℕ) (w : Walk) → Begun text levels ids → w ≡ beginning → Gathering text levels ids w noId 0
+pub begun-keys : (text levels ids : List ℕ) → Begun text levels ids → 1024 ≤ length ids
+begun-keys text levels ids h = let r = h .room in omega arith
+
+pub ids-start : (text levels ids₀ ids : List ℕ) (w : Walk) → Begun text levels ids₀ → Forgotten ids₀ ids → w ≡ beginning → Gathering text levels ids w noId 0
 unfolding idsFrom
-ids-start text levels ids w h e =
+ids-start text levels ids₀ ids w h f e =
     rw e
     (record {
       standing = begin-stands text levels (h .short) (h .deep);
-      room = h .room;
-      inside = λ k l. absurd (omega arith);
+      room = f .size ∙ h .room;
+      index = forgotten-index text ids₀ ids (h .short) (begun-keys text levels ids₀ h) f;
       parts = [];
       stating = stating-none text;
       left = ap idsOf (sym (joined text)) ∙ ap (λ (l : List Mark). idsOf (grouped text [] l)) (sym (begin-rest text levels));
     })
 
-module _ (text levels ids : List ℕ) (w : Walk) (id : Id) (n : ℕ) (k : Gathering text levels ids w id n) (levels' : List ℕ) (r : Walk) (next : Next text levels levels' w r) where
-  -- each of them has a tag of its own
-  counted : n ≤ 4681
-  counted =
-      let a = ap length (k .left) in let b = length-append (idsFrom text ids n 0) (idsOf (grouped text (k .parts) (restOf text levels w))) in
-      let c = ids-length text ids n 0 in let d = text-ids text in let s = k .standing .short in omega arith
+module _ (text levels ids : List ℕ) (w : Walk) (id : Id) (n : ℕ) (k : Gathering text levels ids w id n) where
+  -- the ids so far are some of the text's
+  few : n ≤ 4681
+  few =
+      let l = ap length (k .left) ∙ length-append (idsFrom text ids n 0) (idsOf (grouped text (k .parts) (restOf text levels w))) in
+      let m = ids-length text ids n 0 in
+      let f = text-ids text in
+      let s = k .standing .short in
+      omega (arith, l, m, f, s)
 
+  pub ids-room : RowRoom text ids n (id .at) (id .at + id .long)
+  ids-room =
+      let f = few in let s = k .standing .short in let r = k .room in
+      record { index = k .index; few = omega arith; room = omega arith; first = omega arith; quote = k .stating .inside }
+
+  pub ids-fits : id .at + id .long < 2 ^ 64
+  ids-fits = let i = k .stating .inside in let s = k .standing .short in omega arith
+
+module _ (text levels ids : List ℕ) (w : Walk) (id : Id) (n : ℕ) (k : Gathering text levels ids w id n) (levels' : List ℕ) (r : Walk) (next : Next text levels levels' w r) where
   pub ids-end : (found : Bool) → found ≡ isMark (r .mark) → not found ≡ true → Gathered text levels' ids n
   unfolding grouped idsOf
   ids-end found e q =
       let none = next .none (sym e ∙ not-true found q) in
-      let f = counted in let s = k .standing .short in let rr = k .room in
       record {
         begun = record { short = k .standing .short; deep = next .standing .room; room = k .room };
-        noted = record { short = s; few = omega arith; room = omega arith; inside = k .inside };
+        noted = noted-all text ids n (k .index);
         ids-are = sym (k .left ∙ ap (λ (l : List Mark). idsFrom text ids n 0 ++ idsOf (grouped text (k .parts) l)) none ∙ append-nil (idsFrom text ids n 0));
       }
-
-  pub ids-room : (found : Bool) → found ≡ isMark (r .mark) → not found ≡ false → PushRoom ids n (id .at) (id .long)
-  ids-room found e q =
-      let f = counted in let s = k .standing .short in let rr = k .room in let ii = k .stating .inside in
-      record { cells = omega arith; few = omega arith; at-fits = omega arith; long-fits = omega arith }
 
   pub ids-less : (found : Bool) → found ≡ isMark (r .mark) → not found ≡ false → length text - r .index < length text - w .index
   ids-less found e q = let more = next .further (sym e ∙ not-false found q) in let i = next .standing .within in omega arith
@@ -244,84 +214,69 @@ module _ (text levels ids : List ℕ) (w : Walk) (id : Id) (n : ℕ) (k : Gather
     left-with : (m : Mark) → r .mark ≡ m → idsOf (tagsOf text) ≡ idsFrom text ids n 0 ++ idsOf (grouped text (k .parts) (marked m (restOf text levels' r)))
     left-with m g = k .left ∙ ap (λ (l : List Mark). idsFrom text ids n 0 ++ idsOf (grouped text (k .parts) l)) (next .rest ∙ ap (λ (x : Mark). marked x (restOf text levels' r)) g)
 
-    roomy : n * 2 + 1 < length ids
-    roomy = let f = counted in let rr = k .room in omega arith
-
-    all-inside : (c : ℕ) → c < n + 1 → getD (grown ids n (id .at) (id .long)) (c * 2) 0 + getD (grown ids n (id .at) (id .long)) (c * 2 + 1) 0 ≤ length text
-    all-inside c h = by (eqb c n) refl
-      where
-        by : (z : Bool) → eqb c n ≡ z → getD (grown ids n (id .at) (id .long)) (c * 2) 0 + getD (grown ids n (id .at) (id .long)) (c * 2 + 1) 0 ≤ length text
-        by true z = rw (eqb-true c n z, grown-at ids n (id .at) (id .long) roomy, grown-long ids n (id .at) (id .long) roomy) (k .stating .inside)
-        by false z =
-            let ne : c < n = other (eqb-false c n z) in
-            rw (grown-kept ids n (id .at) (id .long) roomy (c * 2) (omega arith), grown-kept ids n (id .at) (id .long) roomy (c * 2 + 1) (omega arith)) (k .inside c ne)
-          where
-            other : (c ≡ n → ⊥) → c < n
-            other f = omega arith
-
     module _ (a s d : ℕ) where
       noted-none : isRowMark (Tagged a s d) ≡ false →
           idsFrom text ids n 0 ++ idsOf (grouped text (k .parts) (Tagged a s d ∷ restOf text levels' r)) ≡ idsFrom text ids n 0 ++ idsOf (grouped text [] (restOf text levels' r))
       unfolding grouped idsOf
       noted-none z = rw z refl
 
-      noted-more : isRowMark (Tagged a s d) ≡ true →
+      noted-more : (ids' : List ℕ) → idsFrom text ids' (n + 1) 0 ≡ idsFrom text ids n 0 ++ take (id .long) (drop (id .at) text) ∷ [] → isRowMark (Tagged a s d) ≡ true →
           idsFrom text ids n 0 ++ idsOf (grouped text (k .parts) (Tagged a s d ∷ restOf text levels' r)) ≡
-          idsFrom text (grown ids n (id .at) (id .long)) (n + 1) 0 ++ idsOf (grouped text [] (restOf text levels' r))
+          idsFrom text ids' (n + 1) 0 ++ idsOf (grouped text [] (restOf text levels' r))
       unfolding grouped idsOf
-      noted-more z =
+      noted-more ids' g z =
           let rest = idsOf (grouped text [] (restOf text levels' r)) in
           rw z
           (ap (λ (l : List ℕ). idsFrom text ids n 0 ++ l ∷ rest) (sym (k .stating .value-is)) ∙
           sym (append-snoc (idsFrom text ids n 0) (take (id .long) (drop (id .at) text)) rest) ∙
-          ap (λ (l : List (List ℕ)). l ++ rest) (sym (grown-ids ids n (id .at) (id .long) roomy text)))
+          ap (λ (l : List (List ℕ)). l ++ rest) (sym g))
 
-    pub ids-more : (row : Bool) (ids' : List ℕ) (n' : ℕ) (id' : Id) → row ≡ isRowMark (r .mark) → Pushed ids ids' n row (id .at) (id .long) n' → id' ≡ idAfter id (r .mark) →
+    pub ids-more : (row : Bool) (ids' : List ℕ) (n' : ℕ) (id' : Id) → row ≡ isRowMark (r .mark) → RowNoted text ids ids' n row (id .at) (id .at + id .long) n' → id' ≡ idAfter id (r .mark) →
         Gathering text levels' ids' r id' n'
     unfolding grouped
     ids-more row ids' n' id' rw-is p id-is = by (r .mark) refl
       where
         valued : (d v a b : ℕ) → r .mark ≡ Valued d v a b → Gathering text levels' ids' r id' n'
         valued d v a b g =
-            let no-row : row ≡ false = rw-is ∙ ap isRowMark g in
-            let same-ids : ids' ≡ ids = p .ids-are ∙ rw no-row refl in
-            let same-count : n' ≡ n = p .count-is ∙ rw no-row refl in
+            let same-all = p .none (rw-is ∙ ap isRowMark g) in
             let first : a ≤ b = subst (λ (x : Mark). valueFrom x ≤ valueTo x) g (next .first) in
             let last : b ≤ length text = subst (λ (x : Mark). valueTo x ≤ length text) g (next .quote) in
-            record {
+            rw (same-all .0, same-all .1)
+            (record {
               standing = next .standing;
-              room = ap length same-ids ∙ k .room;
-              inside = rw (same-ids, same-count) (k .inside);
+              room = k .room;
+              index = k .index;
               parts = k .parts ++ partAt text d v a b ∷ [];
               stating = rw (id-is, g) (stating-more text id (k .parts) d v a b (k .stating) first last);
-              left = rw (same-ids, same-count) (left-with (Valued d v a b) g);
-            }
+              left = left-with (Valued d v a b) g;
+            })
 
         tagged : (a s d : ℕ) (z : Bool) → r .mark ≡ Tagged a s d → isRowMark (Tagged a s d) ≡ z → Gathering text levels' ids' r id' n'
         tagged a s d true g z =
-            let is-row : row ≡ true = rw-is ∙ ap isRowMark g ∙ z in
-            let now-ids = p .ids-are ∙ ap (λ (y : Bool). cond y (grown ids n (id .at) (id .long)) ids) is-row in
-            let now-count : n' ≡ n + 1 = p .count-is ∙ rw is-row refl in
-            record {
+            let m = p .more (rw-is ∙ ap isRowMark g ∙ z) in
+            let long : id .at + id .long - id .at ≡ id .long = omega arith in
+            rw (m .count-is)
+            (record {
               standing = next .standing;
-              room = ap length now-ids ∙ length-set (set ids (n * 2) (id .at)) (n * 2 + 1) (id .long) ∙ length-set ids (n * 2) (id .at) ∙ k .room;
-              inside = rw (now-ids, now-count) (all-inside);
+              room = m .size ∙ k .room;
+              index = m .index;
               parts = [];
               stating = rw (id-is, g) (stating-none text);
-              left = rw (now-ids, now-count) (left-with (Tagged a s d) g ∙ noted-more a s d z);
-            }
+              left =
+                  left-with (Tagged a s d) g ∙
+                  noted-more a s d ids' (m .ids-are ∙ ap (λ (l : ℕ). idsFrom text ids n 0 ++ take l (drop (id .at) text) ∷ []) long) z;
+            })
         tagged a s d false g z =
-            let no-row : row ≡ false = rw-is ∙ ap isRowMark g ∙ z in
-            let same-ids : ids' ≡ ids = p .ids-are ∙ rw no-row refl in
-            let same-count : n' ≡ n = p .count-is ∙ rw no-row refl in
-            record {
+            let same-all = p .none (rw-is ∙ ap isRowMark g ∙ z) in
+            rw (same-all .0, same-all .1)
+            (record {
               standing = next .standing;
-              room = ap length same-ids ∙ k .room;
-              inside = rw (same-ids, same-count) (k .inside);
+              room = k .room;
+              index = k .index;
               parts = [];
               stating = rw (id-is, g) (stating-none text);
-              left = rw (same-ids, same-count) (left-with (Tagged a s d) g ∙ noted-none a s d z);
-            }
+              left = left-with (Tagged a s d) g ∙ noted-none a s d z;
+            })
 
         by : (m : Mark) → r .mark ≡ m → Gathering text levels' ids' r id' n'
         by Nothing g = absurd (let t : isMark (r .mark) ≡ true = sym e ∙ not-false found q in let z : true ≡ false = sym t ∙ ap isMark g in let z2 : _≡_ {A = ℕ} 0 1 = cc in omega arith)

@@ -5,11 +5,14 @@ ghost use Prim.Native.Nat.{_≤_, _<_};
 ghost use Rattle.marks.specs.Marks.{valueFrom, valueTo};
 ghost use Rattle.marks.specs.Grouped.{shapeOf};
 ghost use Rattle.reading.specs.Faults.{isClosing, isRowTag};
-ghost use Rattle.gather.specs.Ids.{withValue, idAfter, isRowMark, PushRoom, Pushed, Begun, Gathered};
+ghost use Rattle.gather.specs.Ids.{withValue, idAfter, isRowMark, RowRoom, RowNoted, Begun, Gathered};
 use marks::Mark;
 use marks::begin;
 use marks::is_mark;
 use marks::next_mark;
+use values::noted::forget;
+use values::noted::note;
+use values::noted::place_of;
 
 // The id that a tag states: whether it states one, where it begins, how long it is.
 pub struct Id {
@@ -70,22 +73,14 @@ pub fn is_row_mark(m: Mark) -> bool
     }
 }
 
-fn narrow(x: usize) -> u16
-    requires { ⌜ x < 65536 ⌝ }
-    ensures { λ r. ⌜ r ≡ x ⌝ }
-{
-    x as u16
-}
-
-// The id behind the n that are noted, if the tag is a row's.
-pub fn push_id(ids: &mut [u16], n: usize, row: bool, at: usize, long: usize) -> usize
-    requires { ⌜ PushRoom (now ids) n at long ⌝ }
-    ensures { λ r. ⌜ Pushed (now (ids .entry)) (now (ids .exit)) n row at long r ⌝ }
+// The id between the two offsets behind the n that are noted, if the tag is a row's.
+fn note_row(text: &[u8], ids: &mut [u16], n: usize, row: bool, at: usize, to: usize) -> usize
+    requires { ⌜ RowRoom (now text) (now ids) n at to ⌝ }
+    ensures { λ r. ⌜ RowNoted (now (text .entry)) (now (ids .entry)) (now (ids .exit)) n row at to r ⌝ }
 {
     if row {
-        ids[n * 2] = narrow(at);
-        ids[n * 2 + 1] = narrow(long);
-        return n + 1;
+        let place = place_of(text, ids, n, &text[at..to]);
+        return note(text, ids, n, at, to, place);
     }
     n
 }
@@ -95,6 +90,7 @@ pub fn gather_ids(text: &[u8], levels: &mut [u8], ids: &mut [u16]) -> usize
     requires { ⌜ Begun (now text) (now levels) (now ids) ⌝ }
     ensures { λ n. ⌜ Gathered (now (text .entry)) (now (levels .exit)) (now (ids .exit)) n ⌝ }
 {
+    forget(ids);
     let mut w = begin();
     let mut id = Id {
         stated: false,
@@ -112,7 +108,7 @@ pub fn gather_ids(text: &[u8], levels: &mut [u8], ids: &mut [u16]) -> usize
         let row = is_row_mark(m);
         let at = id.at;
         let long = id.long;
-        n = push_id(ids, n, row, at, long);
+        n = note_row(text, ids, n, row, at, at + long);
         id = id_after(id, m);
         w = next;
     }

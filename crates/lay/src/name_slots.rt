@@ -6,8 +6,8 @@ ghost use lib.ListN.{drop};
 ghost use Rattle.reading.specs.Layout.{namesOf};
 ghost use Rattle.values.specs.Ids.{idsFrom};
 ghost use Rattle.lay.specs.Names.{SlotRoom, slotLaid, NamesRoom};
-use find::number_at;
 use names::pad;
+use values::noted::number_at;
 
 // The name and zeros behind it, over the 64 bytes of the place from `at` on.
 fn lay_slot(place: &mut [u8], at: usize, name: &[u8])

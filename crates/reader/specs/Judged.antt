@@ -24,7 +24,7 @@ use Rattle.reader.specs.declared.Judged.the-variants.{Faulty, Well}
 -- the places that the walks work in: a level for each byte, two numbers for each id that a text can have
 pub record Places (levels ids : List ℕ) : Type 0 where
   pub deep : length levels ≡ 32768
-  pub room : length ids ≡ 9364
+  pub room : length ids ≡ 15070
 
 -- the text is of the grammar and has no fault
 pub record WellRead (text levels ids : List ℕ) (n : ℕ) : Type 0 where
@@ -49,7 +49,7 @@ module _ (text : List ℕ) (at : ℕ) (whole : Bool) (found : Found text at whol
       left true b e = refl
       left false b e = e
 
-  pub judge-begun : (levels ids : List ℕ) → not whole ≡ false → length levels ≡ 32768 → length ids ≡ 9364 → Begun text levels ids
+  pub judge-begun : (levels ids : List ℕ) → not whole ≡ false → length levels ≡ 32768 → length ids ≡ 15070 → Begun text levels ids
   judge-begun levels ids q d r = record { short = judge-short q; deep = d; room = r }
 
   module _ (levels ids : List ℕ) (n : ℕ) (fault : Fault) (in-text : not whole ≡ false) (s : Searched text levels ids n fault) where

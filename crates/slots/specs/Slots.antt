@@ -5,25 +5,29 @@ use mathlib.Core.List.{List, [], _∷_, _++_, map, append-nil}
 use Prim.Native.Nat.{ℕ, zero, suc, _+_, _*_, _-_, _^_, _≤_, _<_}
 use native.Mathlib.Omega.{arith}
 use native.Mathlib.Numerals.{add-one}
-use lib.Dec.{eqb}
-use lib.ListN.{length, getD, set, take, drop, length-set, length-append, length-drop, drop-of-length-le}
+use lib.Dec.{eqb, ltb}
+use lib.ListN.{length, getD, take, drop, length-append, length-drop, drop-of-length-le}
 use lib.Seq.{append-snoc, drop-cons, drop-drop, getD-take, getD-drop, take-take, length-take-le}
-use borrow.Author.Tests.{eqb-true, eqb-false}
+use borrow.Author.Tests.{lt-ltb, le-ltb}
 use Rattle.grammar.specs.Grammar.{isSpace}
 use Rattle.marks.specs.Grouped.{bytesFrom}
 use Rattle.reading.specs.Faults.{Item, itemsAt, itemBytes, namesIn, isAmong, idWord, eventWord, sendidWord}
-use Rattle.reading.specs.Content.{fresh}
-use Rattle.values.specs.Ids.{idsFrom, Noted}
+use Rattle.reading.specs.Content.{placeOf, fresh}
+use Rattle.values.specs.Ids.{idsFrom, ids-length, Index, Noted, noted-all}
+use Rattle.values.specs.Places.{id-among}
+use Rattle.values.specs.Notes.{NoteRoom, NotedMore}
 use Rattle.values.specs.Items.{spread, spread-inside, first-item}
-use Rattle.gather.specs.Ids.{grown, grown-kept, grown-at, grown-long, grown-ids, PushRoom, Pushed, ids-length}
 use Rattle.slots.specs.First.{fresh-append, fresh-grows, fresh-known, fresh-new}
 
--- at most 768 slots in 1,536 numbers; 769 stands for too many
+-- at most 768 slots; 769 stands for too many, of which 768 are noted
 pub record Fits (text slots : List ℕ) (n : ℕ) : Type 0 where
-  pub room : length slots ≡ 1536
+  pub room : length slots ≡ 3328
   pub most : n ≤ 769
   pub short : length text ≤ 32768
-  pub inside : (k : ℕ) → k < n → k < 768 → getD slots (k * 2) 0 + getD slots (k * 2 + 1) 0 ≤ length text
+  pub noted : ℕ
+  pub index : Index text slots noted
+  pub all-noted : n ≤ 768 → noted ≡ n
+  pub full : 768 < n → noted ≡ 768
 
 -- they are the names of a list, or the list has more
 pub record Held (text slots : List ℕ) (n : ℕ) (names : List (List ℕ)) : Type 0 where
@@ -78,82 +82,72 @@ module _ (text slots : List ℕ) (n from to : ℕ) (f : Fits text slots n) (i : 
       }
 
   module _ (few : n ≤ 768) where
+    index : Index text slots n
+    index = subst (Index text slots) (f .all-noted few) (f .index)
+
     pub add-noted : Noted text slots n
-    add-noted = let r = f .room in record { short = f .short; few = omega arith; room = omega arith; inside = λ k l. f .inside k l (omega arith) }
+    add-noted = noted-all text slots n index
 
-    module _ (known : Bool) (is : known ≡ isAmong (take (to - from) (drop from text)) (idsFrom text slots n 0)) where
-      among : (names : List (List ℕ)) → Held text slots n names → isAmong (bytesFrom text from to) names ≡ known
-      among names k = ap (isAmong (bytesFrom text from to)) (sym (k .are few)) ∙ sym is
+    module _ (place : ℕ) (is : place ≡ placeOf (take (to - from) (drop from text)) (idsFrom text slots n 0)) where
+      among : (names : List (List ℕ)) → Held text slots n names → isAmong (bytesFrom text from to) names ≡ ltb place n
+      among names k = ap (isAmong (bytesFrom text from to)) (sym (k .are few)) ∙ sym (id-among text slots (bytesFrom text from to) n place is)
 
-      pub add-known : known ≡ true → Added text slots slots n from to n
+      pub add-known : place < n → Added text slots slots n from to n
       add-known q =
           record {
             fits = f;
             past = omega arith;
             kept = λ c l. refl;
-            held = λ names k. subst (λ (l : List (List ℕ)). Held text slots n l) (sym (fresh-known names (bytesFrom text from to) (among names k ∙ q))) k;
+            held = λ names k. subst (λ (l : List (List ℕ)). Held text slots n l) (sym (fresh-known names (bytesFrom text from to) (among names k ∙ lt-ltb place n q))) k;
           }
 
-      longer : (names : List (List ℕ)) → Held text slots n names → known ≡ false → length (fresh names (bytesFrom text from to ∷ [])) ≡ n + 1
+      new : (names : List (List ℕ)) → Held text slots n names → n ≤ place → fresh names (bytesFrom text from to ∷ []) ≡ names ++ bytesFrom text from to ∷ []
+      new names k q = fresh-new names (bytesFrom text from to) (among names k ∙ le-ltb place n q)
+
+      longer : (names : List (List ℕ)) → Held text slots n names → n ≤ place → length (fresh names (bytesFrom text from to ∷ [])) ≡ n + 1
       longer names k q =
-          ap length (fresh-new names (bytesFrom text from to) (among names k ∙ q)) ∙ length-append names (bytesFrom text from to ∷ []) ∙
+          ap length (new names k q) ∙ length-append names (bytesFrom text from to ∷ []) ∙
           ap (λ (m : ℕ). m + 1) (ap length (sym (k .are few)) ∙ ids-length text slots n 0)
 
-      pub add-full : known ≡ false → n ≡ 768 → Added text slots slots n from to (n + 1)
+      pub add-full : n ≤ place → n ≡ 768 → Added text slots slots n from to (n + 1)
       add-full q full =
+          let e = f .all-noted few in
           record {
-            fits = record { room = f .room; most = omega arith; short = f .short; inside = λ k l m. f .inside k (omega arith) m };
+            fits =
+                record { room = f .room; most = omega arith; short = f .short; noted = f .noted; index = f .index; all-noted = λ l. absurd (omega arith); full = λ l. omega (arith, e, full) };
             past = omega arith;
             kept = λ c l. refl;
             held = λ names k. record { are = λ l. absurd (omega arith); many = λ l. let g = longer names k q in omega arith };
           }
 
-      pub add-room : (n ≡ 768 → ⊥) → PushRoom slots n from (to - from)
+      pub add-room : (n ≡ 768 → ⊥) → NoteRoom text slots n from to place
       add-room ne =
-          let r = f .room in let s = f .short in let a = i .first in let b = i .quote in
-          record { cells = omega arith; few = omega arith; at-fits = omega arith; long-fits = omega arith }
+          let r = f .room in
+          record { index = index; few = omega arith; room = omega arith; first = i .first; quote = i .quote; short = f .short; place-is = is }
 
-      pub add-new : (slots' : List ℕ) (r : ℕ) → known ≡ false → (n ≡ 768 → ⊥) → Pushed slots slots' n true from (to - from) r → Added text slots slots' n from to r
+      pub add-new : (slots' : List ℕ) (r : ℕ) → n ≤ place → (n ≡ 768 → ⊥) → NotedMore text slots slots' n from to r → Added text slots slots' n from to r
       add-new slots' r q ne p =
-          let less : n < 768 = omega arith in
-          let roomy : n * 2 + 1 < length slots = let l = f .room in omega arith in
-          let one : r ≡ n + 1 = p .count-is in
-          let is-grown : slots' ≡ grown slots n from (to - from) = p .ids-are in
-          rw (one, is-grown)
-          (record {
+          let one = p .count-is in
+          record {
             fits =
                 record {
-                  room = length-set (set slots (n * 2) from) (n * 2 + 1) (to - from) ∙ length-set slots (n * 2) from ∙ f .room;
+                  room = p .size ∙ f .room;
                   most = omega arith;
                   short = f .short;
-                  inside = λ k l m. all-in roomy k l m (eqb k n) refl;
+                  noted = n + 1;
+                  index = p .index;
+                  all-noted = λ l. sym one;
+                  full = λ l. absurd (omega (arith, l, one, ne, few));
                 };
             past = omega arith;
-            kept = grown-kept slots n from (to - from) roomy;
+            kept = p .kept;
             held = λ names k.
                 record {
-                  are = λ l. grown-ids slots n from (to - from) roomy text ∙ ap (λ (s : List (List ℕ)). s ++ bytesFrom text from to ∷ []) (k .are few) ∙ sym (fresh-new names (bytesFrom text from to) (among names k ∙ q));
-                  many = λ l. absurd (omega arith);
+                  are = λ l.
+                      ap (λ (m : ℕ). idsFrom text slots' m 0) one ∙ p .ids-are ∙ ap (λ (s : List (List ℕ)). s ++ bytesFrom text from to ∷ []) (k .are few) ∙ sym (new names k q);
+                  many = λ l. absurd (omega (arith, l, one, ne, few));
                 };
-          })
-        where
-          all-in : (roomy : n * 2 + 1 < length slots) (k : ℕ) → k < n + 1 → k < 768 → (z : Bool) → eqb k n ≡ z →
-              getD (grown slots n from (to - from)) (k * 2) 0 + getD (grown slots n from (to - from)) (k * 2 + 1) 0 ≤ length text
-          all-in roomy k l m true z =
-              let a = i .first in let b = i .quote in
-              rw (eqb-true k n z, grown-at slots n from (to - from) roomy, grown-long slots n from (to - from) roomy) (omega arith)
-          all-in roomy k l m false z =
-              rw (grown-kept slots n from (to - from) roomy (k * 2) (double (eqb-false k n z)), grown-kept slots n from (to - from) roomy (k * 2 + 1) (next (eqb-false k n z)))
-              (f .inside k (below (eqb-false k n z)) m)
-            where
-              below : (k ≡ n → ⊥) → k < n
-              below g = omega arith
-
-              double : (k ≡ n → ⊥) → k * 2 < n * 2
-              double g = omega arith
-
-              next : (k ≡ n → ⊥) → k * 2 + 1 < n * 2
-              next g = omega arith
+          }
 
 -- ---- the names of a value
 

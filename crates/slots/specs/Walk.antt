@@ -18,7 +18,9 @@ use Rattle.marks.specs.Joined.{joined}
 use Rattle.reading.specs.Tags.{Part, Markup, tagsOf}
 use Rattle.reading.specs.Faults.{namesIn}
 use Rattle.reading.specs.Content.{usesIn, usesOf, fresh, slotsOf}
-use Rattle.values.specs.Ids.{idAt, idsFrom, Noted}
+use Rattle.laws.specs.Orders.{lt-case}
+use Rattle.values.specs.Ids.{idAt, idsFrom, Noted, noted-of}
+use Rattle.values.specs.Notes.{Forgotten, forgotten-index}
 use Rattle.gather.specs.Parts.{partAt}
 use Rattle.slots.specs.declared.Slots.{Slots}
 use Rattle.slots.specs.declared.Slots.the-variants.{Many, Count}
@@ -60,7 +62,7 @@ module _ (text slots : List ℕ) (n : ℕ) (m : Mark) where
 pub record Begun (text levels slots : List ℕ) : Type 0 where
   pub short : length text ≤ 32768
   pub deep : length levels ≡ 32768
-  pub room : length slots ≡ 1536
+  pub room : length slots ≡ 3328
 
 pub record Found (text slots : List ℕ) (n : ℕ) : Type 0 where
   pub few : n ≤ 768
@@ -79,7 +81,6 @@ pub record Gathered (text levels slots : List ℕ) (r : Slots) : Type 0 where
 pub record Gathering (text levels slots : List ℕ) (w : Walk) (n whole : ℕ) : Type 0 where
   pub standing : Standing text levels w
   pub fits : Fits text slots n
-  pub whole-fits : Fits text slots whole
   pub few : whole ≤ 768
   pub parts : List Part
   pub names : List (List ℕ)
@@ -88,14 +89,25 @@ pub record Gathering (text levels slots : List ℕ) (w : Walk) (n whole : ℕ) :
   pub past : whole ≤ n
   pub left : slotsOf (tagsOf text) ≡ fresh names (flat usesOf (grouped text parts (restOf text levels w)))
 
-pub slots-start : (text levels slots : List ℕ) (w : Walk) → Begun text levels slots → w ≡ beginning → Gathering text levels slots w 0 0
+pub begun-keys : (text levels slots : List ℕ) → Begun text levels slots → 1024 ≤ length slots
+begun-keys text levels slots h = let r = h .room in omega arith
+
+pub slots-start : (text levels slots₀ slots : List ℕ) (w : Walk) → Begun text levels slots₀ → Forgotten slots₀ slots → w ≡ beginning → Gathering text levels slots w 0 0
 unfolding idsFrom fresh flat slotsOf
-slots-start text levels slots w h e =
+slots-start text levels slots₀ slots w h f e =
     rw e
     (record {
       standing = begin-stands text levels (h .short) (h .deep);
-      fits = none;
-      whole-fits = none;
+      fits =
+          record {
+            room = f .size ∙ h .room;
+            most = omega arith;
+            short = h .short;
+            noted = 0;
+            index = forgotten-index text slots₀ slots (h .short) (begun-keys text levels slots₀ h) f;
+            all-noted = λ l. refl;
+            full = λ l. absurd (omega arith);
+          };
       few = omega arith;
       parts = [];
       names = [];
@@ -104,9 +116,6 @@ slots-start text levels slots w h e =
       past = omega arith;
       left = ap (λ (l : List Markup). fresh [] (flat usesOf l)) (sym (joined text) ∙ ap (grouped text []) (sym (begin-rest text levels)));
     })
-  where
-    none : Fits text slots 0
-    none = record { room = h .room; most = omega arith; short = h .short; inside = λ k l m. absurd (omega arith) }
 
 flat-snoc : (ps : List Part) (p : Part) → flat usesIn (ps ++ p ∷ []) ≡ flat usesIn ps ++ usesIn p
 unfolding flat
@@ -119,27 +128,22 @@ unfolding idsFrom idAt
 kept-names text slots slots' n zero k h e = refl
 kept-names text slots slots' n (suc whole) k h e = rw (e (k * 2) (omega arith), e (k * 2 + 1) (omega arith), kept-names text slots slots' n whole (suc k) (omega arith) e) refl
 
-kept-fits : (text slots slots' : List ℕ) (n n' whole : ℕ) (xs : List (List ℕ)) → whole ≤ n → Grows text slots slots' n n' xs → Fits text slots whole → Fits text slots' whole
-kept-fits text slots slots' n n' whole xs le g f =
-    record {
-      room = g .fits .room;
-      most = f .most;
-      short = f .short;
-      inside = λ c l m. rw (g .kept (c * 2) (omega arith), g .kept (c * 2 + 1) (omega arith)) (f .inside c l m);
-    }
+-- the names of the tags that have ended are noted
+whole-noted : (text slots : List ℕ) (n whole : ℕ) → Fits text slots n → whole ≤ n → whole ≤ 768 → Noted text slots whole
+whole-noted text slots n whole f l m =
+    noted-of text slots whole (f .noted) (lt-case 768 n (λ g. let e = f .full g in omega (arith, e, m)) (λ g. let e = f .all-noted g in omega (arith, e, l))) (f .index)
 
 module _ (text levels slots : List ℕ) (w : Walk) (n whole : ℕ) (k : Gathering text levels slots w n whole) (levels' : List ℕ) (r : Walk) (next : Next text levels levels' w r) where
   pub slots-end : (found : Bool) → found ≡ isMark (r .mark) → not found ≡ true → Gathered text levels' slots (Count whole)
   unfolding grouped flat fresh
   slots-end found e q =
       let none = next .none (sym e ∙ not-true found q) in
-      let rr = k .whole-fits .room in let f = k .few in
       record {
         begun = record { short = k .standing .short; deep = next .standing .room; room = k .fits .room };
         slots-are =
             record {
               few = k .few;
-              noted = record { short = k .standing .short; few = omega arith; room = omega arith; inside = λ c l. k .whole-fits .inside c l (omega arith) };
+              noted = whole-noted text slots n whole (k .fits) (k .past) (k .few);
               are = k .whole-are ∙ sym (k .left ∙ ap (λ (l : List Mark). fresh (k .names) (flat usesOf (grouped text (k .parts) l))) none);
             };
       }
@@ -202,7 +206,6 @@ module _ (text levels slots : List ℕ) (w : Walk) (n whole : ℕ) (k : Gatherin
               (record {
                 standing = next .standing;
                 fits = G .fits;
-                whole-fits = kept-fits text slots slots' n n' whole (usesIn p) kp G (k .whole-fits);
                 few = k .few;
                 parts = k .parts ++ p ∷ [];
                 names = k .names;
@@ -221,7 +224,6 @@ module _ (text levels slots : List ℕ) (w : Walk) (n whole : ℕ) (k : Gatherin
               (record {
                 standing = next .standing;
                 fits = G .fits;
-                whole-fits = kept-fits text slots slots' n n' n [] (omega arith) G (k .fits);
                 few = room;
                 parts = [];
                 names = fresh (k .names) (flat usesIn (k .parts));

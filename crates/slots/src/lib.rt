@@ -5,14 +5,15 @@ ghost use mathlib.Core.Bool.{cond};
 ghost use Rattle.marks.specs.Marks.{valueFrom, valueTo};
 ghost use Rattle.slots.specs.Slots.{AddRoom, Added, AddedAll, isUse, ValueIn};
 ghost use Rattle.slots.specs.Walk.{endsTag, AddedBy, Begun, Gathered};
-use gather::ids::push_id;
 use marks::Mark;
 use marks::begin;
 use marks::is_mark;
 use marks::next_mark;
 use scan::is_space;
-use values::is_id;
 use values::item_end;
+use values::noted::forget;
+use values::noted::note;
+use values::noted::place_of;
 
 // How many slots the text has, or more than 768.
 pub enum Slots {
@@ -31,14 +32,14 @@ fn add_name(text: &[u8], slots: &mut [u16], n: usize, from: usize, to: usize) ->
     if MOST < n {
         return n;
     }
-    let known = is_id(text, slots, n, &text[from..to]);
-    if known {
+    let place = place_of(text, slots, n, &text[from..to]);
+    if place < n {
         return n;
     }
     if n == MOST {
         return n + 1;
     }
-    push_id(slots, n, true, from, to - from)
+    note(text, slots, n, from, to, place)
 }
 
 // The names of a value.
@@ -117,6 +118,7 @@ pub fn gather_slots(text: &[u8], levels: &mut [u8], slots: &mut [u16]) -> Slots
     requires { ⌜ Begun (now text) (now levels) (now slots) ⌝ }
     ensures { λ r. ⌜ Gathered (now (text .entry)) (now (levels .exit)) (now (slots .exit)) r ⌝ }
 {
+    forget(slots);
     let mut w = begin();
     let mut n: usize = 0;
     let mut whole: usize = 0;

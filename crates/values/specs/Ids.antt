@@ -1,15 +1,14 @@
--- Ids as places in a text: two numbers for each, where it begins and how long it is.
+-- Names as places in a text: two numbers for each, where it begins and how long it is. Behind them the names are chained by their keys (Chains).
 use mathlib.Core.Path.{_≡_, refl, sym, ap, _∙_}
-use mathlib.Core.Bool.{Bool, true, false, _||_}
-use mathlib.Core.List.{List, [], _∷_}
+use mathlib.Core.Bool.{Bool, true, false}
+use mathlib.Core.List.{List, [], _∷_, _++_}
 use Prim.Native.Nat.{ℕ, zero, suc, _+_, _*_, _-_, _^_, _≤_, _<_}
 use native.Mathlib.Omega.{arith}
-use native.Mathlib.Numerals.{add-one}
 use lib.ListN.{length, getD, take, drop, length-drop}
 use lib.Seq.{getD-take, getD-drop, length-take-le}
 use Rattle.definition.specs.Rows.{same}
 use Rattle.laws.specs.Lists.{same-eq}
-use Rattle.reading.specs.Faults.{isAmong}
+use Rattle.values.specs.Chains.{keys, Chained}
 
 unfoldable pub idAt : List ℕ → List ℕ → ℕ → List ℕ
 idAt text ids k = take (getD ids (k * 2 + 1) 0) (drop (getD ids (k * 2) 0) text)
@@ -19,62 +18,68 @@ unfoldable pub idsFrom : List ℕ → List ℕ → ℕ → ℕ → List (List �
 idsFrom text ids zero k = []
 idsFrom text ids (suc n) k = idAt text ids k ∷ idsFrom text ids n (suc k)
 
--- there are n of them, and each stands in the text
+pub ids-length : (text ids : List ℕ) (n k : ℕ) → length (idsFrom text ids n k) ≡ n
+unfolding idsFrom
+ids-length text ids zero k = refl
+ids-length text ids (suc n) k = ap suc (ids-length text ids n (suc k))
+
+-- ids whose numbers are the same are the same
+pub ids-alike : (text ids ids' : List ℕ) (n k : ℕ) → ((c : ℕ) → c < (k + n) * 2 → getD ids' c 0 ≡ getD ids c 0) → idsFrom text ids' n k ≡ idsFrom text ids n k
+unfolding idsFrom idAt
+ids-alike text ids ids' zero k h = refl
+ids-alike text ids ids' (suc n) k h =
+    rw (h (k * 2) (omega arith), h (k * 2 + 1) (omega arith), ids-alike text ids ids' n (suc k) (λ c l. h c (omega arith))) refl
+
+pub ids-snoc : (text ids : List ℕ) (n k : ℕ) → idsFrom text ids (suc n) k ≡ idsFrom text ids n k ++ idAt text ids (k + n) ∷ []
+unfolding idsFrom
+ids-snoc text ids zero k = ap (λ (j : ℕ). idAt text ids j ∷ []) (plus k)
+  where
+    plus : (j : ℕ) → j ≡ j + 0
+    plus j = omega arith
+ids-snoc text ids (suc n) k =
+    ap (λ (l : List (List ℕ)). idAt text ids k ∷ l) (ids-snoc text ids n (suc k) ∙ ap (λ (j : ℕ). idsFrom text ids n (suc k) ++ idAt text ids j ∷ []) (shift k n))
+  where
+    shift : (a b : ℕ) → suc a + b ≡ a + suc b
+    shift a b = omega arith
+
+-- ---- the chains behind them
+
+-- where the numbers of the keys begin; those of the names stand before it
+abbrev pub endOf : List ℕ → ℕ
+endOf ids = length ids - keys
+
+unfoldable pub headAt : List ℕ → ℕ → ℕ
+headAt ids h = getD ids (endOf ids + h) 0
+
+unfoldable pub nextAt : List ℕ → ℕ → ℕ
+nextAt ids zero = 0
+nextAt ids (suc k) = getD ids (endOf ids - suc k) 0
+
+-- n names, all chained
+pub record Index (text ids : List ℕ) (n : ℕ) : Type 0 where
+  pub short : length text ≤ 32768
+  pub few : n ≤ 32768
+  pub room : n * 3 + 1024 ≤ length ids
+  pub inside : (k : ℕ) → k < n → getD ids (k * 2) 0 + getD ids (k * 2 + 1) 0 ≤ length text
+  pub chained : Chained (idAt text ids) (headAt ids) (nextAt ids) n
+
+-- there are n of them, and each stands in the text; the chains may have more
 pub record Noted (text ids : List ℕ) (n : ℕ) : Type 0 where
   pub short : length text ≤ 32768
   pub few : n ≤ 32768
   pub room : n * 2 ≤ length ids
   pub inside : (k : ℕ) → k < n → getD ids (k * 2) 0 + getD ids (k * 2 + 1) 0 ≤ length text
+  pub all : ℕ
+  pub past : n ≤ all
+  pub index : Index text ids all
 
-pub record Looking (text ids name : List ℕ) (n k : ℕ) : Type 0 where
-  pub noted : Noted text ids n
-  pub few : n ≤ 32768
-  pub room : n * 2 ≤ length ids
-  pub below : k ≤ n
-  pub left : isAmong name (idsFrom text ids n 0) ≡ isAmong name (idsFrom text ids (n - k) k)
+pub noted-of : (text ids : List ℕ) (n all : ℕ) → n ≤ all → Index text ids all → Noted text ids n
+noted-of text ids n all l i =
+    let f = i .few in let r = i .room in
+    record { short = i .short; few = omega arith; room = omega arith; inside = λ k h. i .inside k (omega arith); all = all; past = l; index = i }
 
-pub look-start : (text ids name : List ℕ) (n : ℕ) → Noted text ids n → Looking text ids name n 0
-look-start text ids name n h =
-    let all : n ≡ n - 0 = omega arith in
-    record { noted = h; few = h .few; room = h .room; below = omega arith; left = ap (λ (m : ℕ). isAmong name (idsFrom text ids m 0)) all }
-
-module _ (text ids name : List ℕ) (n k : ℕ) (w : Looking text ids name n k) where
-  pub look-cells : k < n → (k * 2 < length ids) × (k * 2 + 1 < length ids)
-  look-cells h = let r = w .room in (omega arith, omega arith)
-
-  -- what the two numbers say stands in the text
-  pub look-fits : (at long : ℕ) → k < n → at ≡ getD ids (k * 2) 0 → long ≡ getD ids (k * 2 + 1) 0 → at + long < 2 ^ 64
-  look-fits at long h a b = let i = w .noted .inside k h in let s = w .noted .short in omega arith
-
-  pub look-inside : (at long : ℕ) → k < n → at ≡ getD ids (k * 2) 0 → long ≡ getD ids (k * 2 + 1) 0 → at + long ≤ length text
-  look-inside at long h a b = let i = w .noted .inside k h in omega arith
-
-  one : k < n → isAmong name (idsFrom text ids n 0) ≡ (same name (idAt text ids k) || isAmong name (idsFrom text ids (n - (k + 1)) (k + 1)))
-  unfolding idsFrom isAmong
-  one h =
-      let more : n - k ≡ suc (n - (k + 1)) = omega arith in
-      w .left ∙ ap (λ (m : ℕ). isAmong name (idsFrom text ids m k)) more ∙
-      ap (λ (j : ℕ). same name (idAt text ids k) || isAmong name (idsFrom text ids (n - (k + 1)) j)) (sym (add-one k))
-
-  module _ (here : Bool) (at long : ℕ) (h : k < n) (a : at ≡ getD ids (k * 2) 0) (b : long ≡ getD ids (k * 2 + 1) 0) (e : here ≡ same name (take (at + long - at) (drop at text))) where
-    is-here : here ≡ same name (idAt text ids k)
-    unfolding idAt
-    is-here =
-        let all : at + long - at ≡ getD ids (k * 2 + 1) 0 = omega arith in
-        e ∙ ap (λ (m : ℕ). same name (take m (drop at text))) all ∙ ap (λ (m : ℕ). same name (take (getD ids (k * 2 + 1) 0) (drop m text))) a
-
-    pub look-found : here ≡ true → true ≡ isAmong name (idsFrom text ids n 0)
-    look-found q = sym (one h ∙ rw (sym is-here ∙ q) refl)
-
-    pub look-more : here ≡ false → Looking text ids name n (k + 1)
-    look-more q = record { noted = w .noted; few = w .few; room = w .room; below = omega arith; left = one h ∙ rw (sym is-here ∙ q) refl }
-
-  pub look-end : n ≤ k → false ≡ isAmong name (idsFrom text ids n 0)
-  unfolding idsFrom isAmong
-  look-end h =
-      let b = w .below in
-      let none : n - k ≡ 0 = omega arith in
-      sym (w .left ∙ ap (λ (m : ℕ). isAmong name (idsFrom text ids m k)) none)
+pub noted-all : (text ids : List ℕ) (n : ℕ) → Index text ids n → Noted text ids n
+noted-all text ids n i = noted-of text ids n n (omega arith) i
 
 -- ---- a name and a part of a text: most differ in length or in the last byte
 

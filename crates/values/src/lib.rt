@@ -8,10 +8,12 @@ ghost use Rattle.definition.specs.Rows.{same};
 ghost use Rattle.reading.specs.Faults.{plain, namespace, versionText, typesOf, isAmong, isDigit, isDecimal};
 ghost use Rattle.values.specs.Items.{spread, foundOf, isBad, itemFaults};
 ghost use Rattle.values.specs.Ids.{Noted, idsFrom};
+use crate::noted::is_id;
 use names::equal;
 use scan::is_space;
 
 pub mod conditions;
+pub mod noted;
 
 // "http://www.w3.org/2005/07/scxml"
 pub fn is_namespace(value: &[u8]) -> bool
@@ -98,55 +100,6 @@ pub fn item_end(value: &[u8], i: usize) -> usize
 pub enum Fault {
     Nothing,
     At(usize),
-}
-
-fn wide(x: u16) -> usize
-    ensures { λ r. ⌜ r ≡ x ⌝ }
-{
-    x as usize
-}
-
-fn number_at(numbers: &[u16], i: usize) -> usize
-    requires { ⌜ i < length (now numbers) ⌝ }
-    ensures { λ r. ⌜ r ≡ getD (now (numbers .entry)) i 0 ⌝ }
-{
-    wide(numbers[i])
-}
-
-// Is the name what stands in the text between two offsets. Most names differ in length or in their last byte, so these are asked first.
-pub fn is_at(text: &[u8], at: usize, to: usize, name: &[u8]) -> bool
-    requires { ⌜ (at ≤ to) × (to ≤ length (now text)) ⌝ }
-    ensures { λ r. ⌜ r ≡ same (now (name .entry)) (take (to - at) (drop at (now (text .entry)))) ⌝ }
-{
-    let long = to - at;
-    if long != name.len() {
-        return false;
-    }
-    if 0 < long {
-        if text[to - 1] != name[long - 1] {
-            return false;
-        }
-    }
-    equal(name, &text[at..to])
-}
-
-// Is the name the id of a row: the first n ids of the text are noted by place and length.
-pub fn is_id(text: &[u8], ids: &[u16], n: usize, name: &[u8]) -> bool
-    requires { ⌜ Noted (now text) (now ids) n ⌝ }
-    ensures { λ r. ⌜ r ≡ isAmong (now (name .entry)) (idsFrom (now (text .entry)) (now (ids .entry)) n 0) ⌝ }
-{
-    let mut k = 0;
-    while k < n {
-        let at = number_at(ids, k * 2);
-        let long = number_at(ids, k * 2 + 1);
-        let to = at + long;
-        let here = is_at(text, at, to, name);
-        if here {
-            return true;
-        }
-        k += 1;
-    }
-    false
 }
 
 // "a name or descriptor over 63 bytes", or, if the name refers to a row, "A reference to an id .. that does not exist".

@@ -4,9 +4,9 @@ ghost use Rattle.walks.specs.Names.{numbered, NameRoom, namesItems, Name
 ghost use Rattle.values.specs.Ids.{idsFrom};
 use crate::filed::file_item;
 use crate::told::wide;
-use find::place_of;
 use scan::is_space;
 use values::item_end;
+use values::noted::place_of;
 
 // The bins and whether they are filled; the key of the items; what is added to a place, 1 for rows, of which the first has no id.
 pub struct Filing {

@@ -7,12 +7,12 @@ ghost use Rattle.tags.specs.Cells.{statedIn};
 ghost use Rattle.values.specs.Ids.{idsFrom};
 ghost use Rattle.walks.specs.Told.{valueAt, PlaceRoom, DecimalRoom, CondRoom, CondAtRoom};
 use find::decimal_of;
-use find::place_of;
 use tags::is_stated;
 use tags::value_from;
 use tags::value_to;
 use values::conditions::Condition;
 use values::conditions::condition_in;
+use values::noted::place_of;
 
 pub fn wide(x: usize) -> u64
     ensures { λ r. ⌜ r ≡ x ⌝ }

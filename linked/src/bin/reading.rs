@@ -23,10 +23,12 @@ const MOST_TIME: Duration = Duration::from_millis(5);
 const MOST_RATIO: f64 = 3.0;
 
 /// Kinds of texts, each with what makes one of at most so many bytes.
-const KINDS: [(&str, fn(usize) -> Vec<u8>); 5] = [
+const KINDS: [(&str, fn(usize) -> Vec<u8>); 7] = [
     ("random spelling", random_spelling),
     ("references to ids that begin alike", references),
+    ("references to ids that differ in the middle", middles),
     ("names that begin alike", names),
+    ("the last of many names again and again", last_name),
     ("actions", actions),
     ("a comment", comment),
 ];
@@ -58,14 +60,22 @@ fn repeated(begin: &str, most: usize, unit: impl Fn(usize) -> String, end: &str,
     (text + end).into_bytes()
 }
 
-/// A part of the text is states, the rest transitions that name two of them.
 fn references(size: usize) -> Vec<u8> {
+    references_to(|k| format!("s{k:03}"), size)
+}
+
+fn middles(size: usize) -> Vec<u8> {
+    references_to(|k| format!("the.row.{k:03}.of.all"), size)
+}
+
+/// A part of the text is states, the rest transitions that name two of them.
+fn references_to(id: impl Fn(usize) -> String, size: usize) -> Vec<u8> {
     let states = (size / 130).clamp(1, 250);
-    let state = |k: usize| format!("<state id='s{k:03}'/>");
+    let state = |k: usize| format!("<state id='{}'/>", id(k));
     let rows: String = (0..states).map(state).collect();
     let unit = |k: usize| {
-        let (one, other) = (k % states, states - 1 - k % states);
-        format!("<transition cond=\"In('s{one:03}')\" target='s{other:03}'/>")
+        let (one, other) = (id(k % states), id(states - 1 - k % states));
+        format!("<transition cond=\"In('{one}')\" target='{other}'/>")
     };
     repeated(
         &format!("<scxml>{rows}<state id='s'>"),
@@ -84,6 +94,19 @@ fn names(size: usize) -> Vec<u8> {
         format!("<transition event='{} {} {} {}'/>", name(k), name(k + 1), name(k + 2), name(k + 3))
     };
     repeated("<scxml><state id='s'>", MAX_TRANSITIONS as usize, unit, "</state></scxml>", size)
+}
+
+/// Half of the text is events, each another, the rest the last of them in one list: more than a transition may have, which is known at the list's end.
+fn last_name(size: usize) -> Vec<u8> {
+    let most = (size / 43).min(760);
+    let name = |k: usize| format!("e{k:03}");
+    let unit = |k: usize| {
+        let k = 4 * k;
+        format!("<transition event='{} {} {} {}'/>", name(k), name(k + 1), name(k + 2), name(k + 3))
+    };
+    let names: String = (0..most / 4).map(unit).collect();
+    let begin = format!("<scxml><state id='s'>{names}<transition event='");
+    repeated(&begin, size, |_| name(most / 4 * 4 - 1) + " ", "'/></state></scxml>", size)
 }
 
 /// States with full blocks.

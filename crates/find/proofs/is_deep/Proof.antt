@@ -1,5 +1,5 @@
 use borrow.Author.Needs.{needs}
-use Rattle.find.specs.Places.{deep-so}
+use Rattle.find.specs.Types.{deep-so}
 use Rattle.find.proofs.is_deep.Statement.{statement}
 use Rattle.find.proofs.is_deep.Tie as tie
 

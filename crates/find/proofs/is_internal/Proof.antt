@@ -1,5 +1,5 @@
 use borrow.Author.Needs.{needs}
-use Rattle.find.specs.Places.{internal-so}
+use Rattle.find.specs.Types.{internal-so}
 use Rattle.find.proofs.is_internal.Statement.{statement}
 use Rattle.find.proofs.is_internal.Tie as tie
 

@@ -6,17 +6,17 @@ use Rattle.slots.proofs.add_name.Tie as tie
 returns : tie.Need-returns
 returns c = search (needs, add-over)
 
-sub-is-id : tie.Need-sub-is-id
-sub-is-id c = search needs
+sub-place-of : tie.Need-sub-place-of
+sub-place-of c = search needs
 
-part-is-id-start : tie.Need-part-is-id-start
-part-is-id-start c = search needs
+part-place-of-start : tie.Need-part-place-of-start
+part-place-of-start c = search needs
 
-part-is-id-end : tie.Need-part-is-id-end
-part-is-id-end c = search needs
+part-place-of-end : tie.Need-part-place-of-end
+part-place-of-end c = search needs
 
-is-id-requires : tie.Need-is-id-requires
-is-id-requires c κs = search (needs, add-noted)
+place-of-requires : tie.Need-place-of-requires
+place-of-requires c κs = search (needs, add-noted)
 
 same-length : tie.Need-same-length
 same-length c = search needs
@@ -33,11 +33,8 @@ same-length-2 c = search needs
 returns-3 : tie.Need-returns-3
 returns-3 c = search (needs, add-full)
 
-sub-push-id : tie.Need-sub-push-id
-sub-push-id c = search needs
-
-push-id-requires : tie.Need-push-id-requires
-push-id-requires c κs = search (needs, add-room)
+note-requires : tie.Need-note-requires
+note-requires c κs = search (needs, add-room)
 
 same-length-3 : tie.Need-same-length-3
 same-length-3 c = search needs
@@ -50,16 +47,15 @@ add-name-spec =
     tie.close
     (tie.spec
     returns
-    sub-is-id
-    part-is-id-start
-    part-is-id-end
-    is-id-requires
+    sub-place-of
+    part-place-of-start
+    part-place-of-end
+    place-of-requires
     same-length
     returns-2
     add-result
     same-length-2
     returns-3
-    sub-push-id
-    push-id-requires
+    note-requires
     same-length-3
     returns-4)

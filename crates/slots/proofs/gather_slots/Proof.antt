@@ -1,7 +1,7 @@
 use borrow.Author.Needs.{needs}
 use Prim.Native.Nat.{_-_}
 use lib.ListN.{length}
-use Rattle.slots.specs.Walk.{Gathering, slots-start, slots-end, slots-both, slots-less, slots-many, slots-more}
+use Rattle.slots.specs.Walk.{Gathering, begun-keys, slots-start, slots-end, slots-both, slots-less, slots-many, slots-more}
 use Rattle.slots.proofs.gather_slots.Statement.{statement}
 use Rattle.slots.proofs.gather_slots.Tie as tie
 
@@ -10,6 +10,9 @@ Inv-loop text levels₀ slots₀ w₀ n₀ whole₀ levels slots w n whole = Gat
 
 abbrev μ-loop : tie.MeasureT-loop
 μ-loop text levels₀ slots₀ w₀ n₀ whole₀ levels slots w n whole = length text - w .index
+
+forget-requires : tie.Need-forget-requires Inv-loop μ-loop
+forget-requires c κs = search (needs, begun-keys)
 
 begin-requires : tie.Need-begin-requires Inv-loop μ-loop
 begin-requires c κs = search needs
@@ -48,7 +51,9 @@ either-requires : tie.Need-either-requires Inv-loop μ-loop
 either-requires c κs = search needs
 
 add-mark-requires : tie.Need-add-mark-requires Inv-loop μ-loop
-add-mark-requires c κs = search (needs, slots-both)
+add-mark-requires c κs =
+    let found = c .before .before .before .before .before .before .before .before in
+    slots-both _ _ _ _ _ _ (found .before .before .loop .inv) _ _ (found .next-mark .ensures)
 
 loop-less : tie.Need-loop-less Inv-loop μ-loop
 loop-less c = search (needs, slots-less)
@@ -62,6 +67,7 @@ gather-slots-spec =
     (tie.spec
     Inv-loop
     μ-loop
+    forget-requires
     begin-requires
     loop-holds
     next-mark-requires

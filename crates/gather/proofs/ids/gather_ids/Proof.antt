@@ -1,6 +1,6 @@
 use borrow.Author.Needs.{needs}
 use Prim.Native.Nat.{_-_}
-use Rattle.gather.specs.Ids.{Gathering, ids-start, ids-end, ids-room, ids-less, ids-more}
+use Rattle.gather.specs.Ids.{Gathering, begun-keys, ids-start, ids-end, ids-room, ids-fits, ids-less, ids-more}
 use lib.ListN.{length}
 use Rattle.gather.proofs.ids.gather_ids.Statement.{statement}
 use Rattle.gather.proofs.ids.gather_ids.Tie as tie
@@ -10,6 +10,9 @@ Inv-loop text levels₀ ids₀ w₀ id₀ n₀ levels ids w id n = Gathering tex
 
 abbrev μ-loop : tie.MeasureT-loop
 μ-loop text levels₀ ids₀ w₀ id₀ n₀ levels ids w id n = length text - w .index
+
+forget-requires : tie.Need-forget-requires Inv-loop μ-loop
+forget-requires c κs = search (needs, begun-keys)
 
 begin-requires : tie.Need-begin-requires Inv-loop μ-loop
 begin-requires c κs = search needs
@@ -35,8 +38,11 @@ returns c = search (needs, ids-end)
 is-row-mark-requires : tie.Need-is-row-mark-requires Inv-loop μ-loop
 is-row-mark-requires c κs = search needs
 
-push-id-requires : tie.Need-push-id-requires Inv-loop μ-loop
-push-id-requires c κs = search (needs, ids-room)
+add-note-row : tie.Need-add-note-row Inv-loop μ-loop
+add-note-row c = search (needs, ids-fits)
+
+note-row-requires : tie.Need-note-row-requires Inv-loop μ-loop
+note-row-requires c κs = ids-room _ _ _ _ _ _ (c .before .before .before .before .before .before .before .before .loop .inv)
 
 id-after-requires : tie.Need-id-after-requires Inv-loop μ-loop
 id-after-requires c κs = search needs
@@ -53,6 +59,7 @@ gather-ids-spec =
     (tie.spec
     Inv-loop
     μ-loop
+    forget-requires
     begin-requires
     loop-holds
     next-mark-requires
@@ -61,7 +68,8 @@ gather-ids-spec =
     same-length-2
     returns
     is-row-mark-requires
-    push-id-requires
+    add-note-row
+    note-row-requires
     id-after-requires
     loop-less
     loop-again)

@@ -1,7 +1,7 @@
 use borrow.Author.Needs.{needs}
 use Rattle.values.specs.Ids.{other-length, other-last}
-use Rattle.values.proofs.is_at.Statement.{statement}
-use Rattle.values.proofs.is_at.Tie as tie
+use Rattle.values.proofs.noted.is_at.Statement.{statement}
+use Rattle.values.proofs.noted.is_at.Tie as tie
 
 sub-long : tie.Need-sub-long
 sub-long c = search needs
