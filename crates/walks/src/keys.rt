@@ -8,7 +8,7 @@ ghost use Rattle.walks.specs.Keys.{Few, KeysAre};
 use crate::plan::Plan;
 use crate::sources::Counts;
 use facts::Said;
-use find::number_at;
+use values::noted::number_at;
 
 // The key of the items, and that of a transition's descriptors.
 pub struct Keys {
