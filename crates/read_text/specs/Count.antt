@@ -9,7 +9,7 @@ use borrow.Author.Tests.{not-true}
 use Rattle.reading.specs.Tags.{tagsOf}
 use Rattle.reading.specs.Faults.{idsOf}
 use Rattle.reading.specs.Content.{Fact, contentFrom, contentOf, slotsOf}
-use Rattle.values.specs.Ids.{Noted, idsFrom}
+use Rattle.values.specs.Ids.{Noted, idsFrom, ids-length}
 use Rattle.bins.specs.Bins.{startOf, countsIn, StartRoom, Started}
 use Rattle.bins.specs.Binned.{Item}
 use Rattle.items.specs.Items.{binCount, Tallied}
@@ -22,7 +22,6 @@ use Rattle.walks.specs.Plan.{textFacts, textItems, countsOf, layBase, Named, Fi
 use Rattle.cells.specs.Starts.{Few}
 use Rattle.cells.specs.Cells.{Held}
 use Rattle.cells.specs.Totals.{TotalsRoom, isWithin, over-size}
-use Rattle.gather.specs.Ids.{ids-length}
 use Rattle.read_text.specs.declared.fill.Laid.{Laid}
 use Rattle.read_text.specs.declared.fill.Laid.the-variants.{Many, Size}
 use Rattle.read_text.specs.Survey.{Oversize, PlannedBy}

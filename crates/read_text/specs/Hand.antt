@@ -16,12 +16,11 @@ use Rattle.reading.specs.Tags.{tagsOf}
 use Rattle.reading.specs.Content.{contentOf, slotsOf}
 use Rattle.reading.specs.Layout.{numbersOf, namesOf}
 use Rattle.reading.specs.Calls.{haveRoom, Outcome, callOf}
-use Rattle.values.specs.Ids.{Noted, idsFrom}
+use Rattle.values.specs.Ids.{Noted, idsFrom, ids-length}
 use Rattle.lay.specs.Sizes.{names-size}
 use Rattle.lay.specs.Names.{NamesRoom}
 use Rattle.reader.specs.Judged.{WellRead}
 use Rattle.reader.specs.Outcomes.{call-small, call-refused, call-tables}
-use Rattle.gather.specs.Ids.{ids-length}
 use Rattle.read_text.specs.declared.hand_out.Read.{Read}
 use Rattle.read_text.specs.Outcome.{refused, outcomeOf}
 
