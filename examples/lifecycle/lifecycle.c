@@ -78,22 +78,28 @@ static void print_active(const auttervil_chart *chart)
     printf(" ]\n");
 }
 
-/* The chart from its text, where there is one, else built; with this id for the state of mounted volumes. */
-static uint32_t try_id(const document *d, const char *id)
+/* The chart from its text, where there is one, else built; with this id for the state of mounted volumes. The builder tells an id that is too long at once. */
+static void try_id(const document *d, const char *id)
 {
     static document renamed;
     auttervil_builder b;
     auttervil_tables tables;
     auttervil_reading reading;
-    if (d == NULL)
-        return compile_chart(&b, id, &tables).answer;
-    rename_mounted(&renamed, d, id);
-    (void)read_chart(&renamed, &reading);
-    return reading.answer;
+    if (d == NULL) {
+        reading.answer = compile_chart(&b, id, &tables).answer;
+        if (b.fault != AUTTERVIL_FAULT_NONE) {
+            printf("%s\n", auttervil_strfault(b.fault));
+            return;
+        }
+    } else {
+        rename_mounted(&renamed, d, id);
+        (void)read_chart(&renamed, &reading);
+    }
+    printf("answer %u, %s\n", (unsigned)reading.answer, auttervil_strstatus(reading.answer));
 }
 
 /* The runtime of the incident kept names in slots of 64 bytes: an id of 60 fitted, its done event did not. Here such a chart is refused when it is
- * read or compiled. There is no session yet, and so no host action that could mount anything. */
+ * read or built. There is no session yet, and so no host action that could mount anything. */
 static void show_incident(const document *d)
 {
     static const char id[] = "mounted-volume-of-the-orders-database-with-its-write-ahead-log";
@@ -102,10 +108,9 @@ static void show_incident(const document *d)
     printf("The incident, with ids cut from \"%s\":\n", id);
     for (i = 0; i < sizeof lengths / sizeof lengths[0]; i++) {
         char cut[64] = {0};
-        uint32_t answer;
         memcpy(cut, id, lengths[i]);
-        answer = try_id(d, cut);
-        printf("    an id of %u bytes: answer %u, %s\n", (unsigned)lengths[i], (unsigned)answer, auttervil_strstatus(answer));
+        printf("    an id of %u bytes: ", (unsigned)lengths[i]);
+        try_id(d, cut);
     }
     printf("    host actions asked for so far: %u\n\n", host_actions);
 }
@@ -229,9 +234,11 @@ static auttervil_compiled get_chart(const document *d, const char *path, autterv
     auttervil_reading reading;
     auttervil_compiled compiled;
     if (d == NULL) {
+        char message[AUTTERVIL_MESSAGE_BYTES];
         compiled = compile_chart(&b, "mounted", tables);
+        (void)auttervil_show_builder(message, sizeof message, &b);
         if (compiled.answer != AUTTERVIL_DONE)
-            fprintf(stderr, "chart: %s; builder: %s: %s\n", auttervil_strstatus(compiled.answer), auttervil_strfault(b.fault), text(b.culprit));
+            fprintf(stderr, "chart: %s; builder: %s\n", auttervil_strstatus(compiled.answer), message);
         return compiled;
     }
     compiled = read_chart(d, &reading);

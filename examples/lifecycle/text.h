@@ -34,15 +34,12 @@ static auttervil_compiled read_chart(const document *d, auttervil_reading *readi
     return AUTTERVIL_COMPILE(&reading->tables, lifecycle);
 }
 
-/* Why a text was refused, and on 12 where. */
+/* Why a text was refused, and where. */
 static void print_refusal(FILE *to, const document *d, const auttervil_reading *reading)
 {
     char message[AUTTERVIL_MESSAGE_BYTES];
-    fprintf(to, "answer %u, %s\n", (unsigned)reading->answer, auttervil_strstatus(reading->answer));
-    if (reading->answer != AUTTERVIL_BAD_TEXT)
-        return;
-    (void)auttervil_show_offset(message, sizeof message, d->bytes, d->length, reading->offset);
-    fprintf(to, "%s\n", message);
+    (void)auttervil_show_refusal(message, sizeof message, d->bytes, d->length, reading->answer, reading->offset);
+    fprintf(to, "answer %u, %s\n", (unsigned)reading->answer, message);
 }
 
 /* The text with one word for another wherever it stands. What does not fit is left out. */

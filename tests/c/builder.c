@@ -243,7 +243,6 @@ static void more_than_each_may_have(void)
 
 static void mistakes(void)
 {
-    static const char longest[] = "a123456789b123456789c123456789d123456789e123456789f123456789123";
     static const char too_long[] = "a123456789b123456789c123456789d123456789e123456789f1234567891234";
     const auttervil_counts most = counts(8, 8, 8, 8, 8, 8);
     begin_with(most);
@@ -291,16 +290,145 @@ static void mistakes(void)
     CHECK(ends_with(AUTTERVIL_FAULT_NONE, NULL));
     auttervil_add_host(&b, 1);
     CHECK(b.fault == AUTTERVIL_FAULT_FINISHED);
-    /* 63 bytes fit a slot; whether they may be an id is for the rules to say. */
-    begin_with(most);
-    auttervil_add_row(&b, AUTTERVIL_KIND_STATE, NULL, longest);
-    CHECK(ends_with(AUTTERVIL_FAULT_NONE, NULL) && compile() == AUTTERVIL_NAMES);
-    begin_with(most);
-    auttervil_add_row(&b, AUTTERVIL_KIND_STATE, NULL, longest + 11);
-    CHECK(ends_with(AUTTERVIL_FAULT_NONE, NULL) && compile() == AUTTERVIL_NAMES);
+}
+
+/* Rule 2: 63 bytes fit a slot, but an id has at most 52; it is told at the call, as are ids that stand twice and what is no name. */
+static void bad_names(void)
+{
+    static const char longest[] = "a123456789b123456789c123456789d123456789e123456789f123456789123";
+    static const char *const no_names[] = {"a b", "a..b", ".a", "a.", "*", "a.*", "a$", "\xC3\xA9"};
+    static const char *const no_descriptors[] = {"a*", "**", ".*", "a..*", "*.a", "a.*.b", "a,b"};
+    const auttervil_counts most = counts(8, 8, 8, 8, 8, 8);
+    size_t i;
     begin_with(most);
     auttervil_add_row(&b, AUTTERVIL_KIND_STATE, NULL, longest + 20);
     CHECK(ends_with(AUTTERVIL_FAULT_NONE, NULL) && compile() == AUTTERVIL_DONE);
+    begin_with(most);
+    auttervil_add_row(&b, AUTTERVIL_KIND_STATE, NULL, longest + 10);
+    CHECK(ends_with(AUTTERVIL_FAULT_LONG_ID, longest + 10) && b.owner == b.culprit);
+    begin_with(most);
+    auttervil_add_row(&b, AUTTERVIL_KIND_STATE, NULL, longest);
+    CHECK(ends_with(AUTTERVIL_FAULT_LONG_ID, longest));
+    small_chart(most);
+    auttervil_add_row(&b, AUTTERVIL_KIND_STATE, "one", "two");
+    auttervil_add_row(&b, AUTTERVIL_KIND_STATE, "one", "two");
+    CHECK(ends_with(AUTTERVIL_FAULT_SAME_ID, "two"));
+    /* A raised name or a descriptor may be an id too. */
+    small_chart(most);
+    auttervil_add_row(&b, AUTTERVIL_KIND_STATE, NULL, "gone");
+    auttervil_add_row(&b, AUTTERVIL_KIND_STATE, NULL, "_go");
+    CHECK(ends_with(AUTTERVIL_FAULT_NONE, NULL) && compile() == AUTTERVIL_DONE);
+    begin_with(most);
+    auttervil_add_row(&b, AUTTERVIL_KIND_STATE, NULL, "9b");
+    CHECK(ends_with(AUTTERVIL_FAULT_NOT_A_NAME, "9b"));
+    for (i = 0; i < COUNT(no_names); i++) {
+        begin_with(most);
+        auttervil_add_row(&b, AUTTERVIL_KIND_STATE, NULL, no_names[i]);
+        CHECK(ends_with(AUTTERVIL_FAULT_NOT_A_NAME, no_names[i]));
+        small_chart(most);
+        auttervil_add_raise(&b, no_names[i]);
+        CHECK(ends_with(AUTTERVIL_FAULT_NOT_A_NAME, no_names[i]) && strcmp(b.owner, "one") == 0 && b.number == 0);
+    }
+    for (i = 0; i < COUNT(no_descriptors); i++) {
+        small_chart(most);
+        auttervil_add_transition(&b, "two", no_descriptors[i], "one");
+        CHECK(ends_with(AUTTERVIL_FAULT_NOT_A_NAME, no_descriptors[i]) && strcmp(b.owner, "two") == 0 && b.number == 1);
+    }
+    small_chart(most);
+    auttervil_add_transition(&b, "two", "* a.* 9.-_", "one");
+    auttervil_add_raise(&b, "9.-_");
+    CHECK(ends_with(AUTTERVIL_FAULT_NONE, NULL) && compile() == AUTTERVIL_DONE);
+}
+
+/* Rule 5: no In names the root or a history, in a condition, an if or an elseif. A condition's fault is of its transition, whichever block is open; what follows is of that block. */
+static void conditions(void)
+{
+    const auttervil_counts most = counts(8, 8, 8, 8, 8, 16);
+    static const char *const never[] = {NULL, "", "h", "d"};
+    size_t i;
+    for (i = 0; i < COUNT(never); i++) {
+        int how;
+        for (how = 0; how < 3; how++) {
+            small_chart(most);
+            auttervil_add_row(&b, AUTTERVIL_KIND_SHALLOW, "two", "h");
+            auttervil_add_row(&b, AUTTERVIL_KIND_DEEP, "two", "d");
+            auttervil_add_transition(&b, "two", "e", "one");
+            if (how > 0)
+                auttervil_add_if(&b, how == 1 ? never[i] : "one");
+            if (how == 2)
+                auttervil_add_elseif(&b, never[i]);
+            else if (how == 0)
+                auttervil_set_condition(&b, never[i]);
+            CHECK(ends_with(AUTTERVIL_FAULT_IN, never[i]) && strcmp(b.owner, "two") == 0 && b.number == 1);
+        }
+    }
+    small_chart(most);
+    auttervil_add_transition(&b, "two", "e", "one");
+    auttervil_add_exit(&b, "one");
+    auttervil_set_condition(&b, "nowhere");
+    CHECK(ends_with(AUTTERVIL_FAULT_NO_ROW, "nowhere") && strcmp(b.owner, "two") == 0 && b.number == 1);
+    small_chart(most);
+    auttervil_add_transition(&b, "two", "e", "one");
+    auttervil_add_exit(&b, "one");
+    auttervil_set_condition(&b, "one");
+    auttervil_add_host(&b, 65536);
+    CHECK(ends_with(AUTTERVIL_FAULT_HOST, NULL) && strcmp(b.owner, "one") == 0 && b.number == AUTTERVIL_NONE);
+}
+
+/* Whether the message of the fault is this one, in every buffer. */
+static int says(const char *wanted)
+{
+    char buffer[AUTTERVIL_MESSAGE_BYTES];
+    const size_t whole = strlen(wanted);
+    size_t size;
+    int right = 1;
+    (void)auttervil_finish(&b, &tables);
+    for (size = 0; size <= sizeof buffer; size++) {
+        const size_t fits = size > whole ? whole : size - (size > 0);
+        memset(buffer, 0x5a, sizeof buffer);
+        right = right && auttervil_show_builder(buffer, size, &b) == whole && memcmp(buffer, wanted, fits) == 0 && (size == 0 || buffer[fits] == 0);
+        right = right && (fits + 1 >= sizeof buffer || buffer[fits + (size > 0)] == 0x5a);
+    }
+    if (!right) {
+        (void)auttervil_show_builder(buffer, sizeof buffer, &b);
+        printf("[%s]\nand not\n[%s]\n", buffer, wanted);
+    }
+    return right;
+}
+
+static void messages(void)
+{
+    static const char sixty[] = "mounted-volume-of-the-orders-database-with-its-write-ahead-lo";
+    const auttervil_counts most = counts(8, 8, 32, 32, 64, 32);
+    small_chart(most);
+    CHECK(says("everything fitted"));
+    small_chart(most);
+    auttervil_add_row(&b, AUTTERVIL_KIND_STATE, NULL, sixty);
+    CHECK(says("an id has more than 52 bytes, too many for the name of its done event: mounted-volume-of-the-orders-database-with-its-write-ahead-lo"));
+    small_chart(most);
+    auttervil_add_row(&b, AUTTERVIL_KIND_STATE, NULL, "two");
+    CHECK(says("another row has this id: two"));
+    small_chart(most);
+    auttervil_add_transition(&b, "two", "a b c d e f", "one");
+    CHECK(says("a transition has more than 4 descriptors: e, in transition 1 of two"));
+    small_chart(most);
+    auttervil_add_transition(&b, "two", "a", "one onn one");
+    CHECK(says("no row has this id: onn, in transition 1 of two"));
+    small_chart(most);
+    auttervil_add_list(&b, NULL, "onn");
+    CHECK(says("a list or block was given twice"));
+    small_chart(most);
+    auttervil_add_exit(&b, "two");
+    auttervil_add_if(&b, NULL);
+    CHECK(says("In names the root or a history, which are never active, of two"));
+    small_chart(most);
+    auttervil_set_condition(&b, "one ");
+    CHECK(says("no row has this id: one, in transition 0 of one"));
+    small_chart(counts(3, 1, 2, 2, 2, 4));
+    CHECK(says("a name did not fit the table of names: gone, in transition 0 of one; needed are 3 rows, 1 transitions, 2 references, 2 descriptors, 2 actions, 5 names"));
+    begin_with(counts(0, 0, 0, 0, 0, 0));
+    CHECK(says("room is asked for more of something than a chart may have, or for no row"));
+    CHECK(auttervil_show_builder(NULL, 0, NULL) == 0 && auttervil_show_builder((char *)&b, sizeof b, &b) > 0 && b.fault == AUTTERVIL_FAULT_LIMITS);
 }
 
 /* The white space of XML separates events and targets. */
@@ -337,13 +465,10 @@ static void spinning(auttervil_counts most)
     CHECK(ends_with(AUTTERVIL_FAULT_NONE, NULL) && compile() == AUTTERVIL_TRANSITIONS);
 }
 
-/* Rules 2 to 5, each broken through the builder, which does not judge them. */
+/* Rules 3 to 5, each broken through the builder, which does not judge them. */
 static void rules(void)
 {
     const auttervil_counts most = counts(8, 8, 8, 8, 16, 16);
-    small_chart(most);
-    auttervil_add_row(&b, AUTTERVIL_KIND_STATE, NULL, "two");
-    CHECK(ends_with(AUTTERVIL_FAULT_NONE, NULL) && compile() == AUTTERVIL_NAMES);
     small_chart(most);
     auttervil_add_row(&b, AUTTERVIL_KIND_PARALLEL, NULL, "empty");
     CHECK(ends_with(AUTTERVIL_FAULT_NONE, NULL) && compile() == AUTTERVIL_TREE);
@@ -562,10 +687,6 @@ static void branches(void)
     small_chart(most);
     auttervil_add_if(&b, "three");
     CHECK(ends_with(AUTTERVIL_FAULT_NO_ROW, "three"));
-    /* In names no root: that is for the rules. */
-    small_chart(most);
-    auttervil_add_if(&b, NULL);
-    CHECK(ends_with(AUTTERVIL_FAULT_NONE, NULL) && compile() == AUTTERVIL_TRANSITIONS);
     /* 32 with the end that the block gets, and 33. */
     small_chart(most);
     auttervil_add_if(&b, "one");
@@ -599,6 +720,9 @@ int main(void)
     one_try_is_enough(3000);
     more_than_each_may_have();
     mistakes();
+    bad_names();
+    conditions();
+    messages();
     white_space();
     rules();
     arrays();

@@ -94,6 +94,16 @@ static int is_as_said(const char *text, size_t length, auttervil_reading reading
         && auttervil_start(&session, &compiled.chart, trace, auttervil_room(&compiled.chart)).answer == AUTTERVIL_DONE;
 }
 
+/* Rules that a document keeps are told of none of its places: all where it is accepted, else those in front of its answer. */
+static int are_kept(const char *text, size_t length, uint32_t answer)
+{
+    uint32_t rule;
+    for (rule = AUTTERVIL_SIZE; answer != AUTTERVIL_BAD_TEXT && rule <= AUTTERVIL_TRANSITIONS && rule != answer; rule++)
+        if (auttervil_seek(text, length, rule).words != NULL)
+            return 0;
+    return 1;
+}
+
 static void try_line(char *line)
 {
     static char text[MOST];
@@ -113,7 +123,7 @@ static void try_line(char *line)
     other = AUTTERVIL_READ_WITH(&scratch, text, length, any);
     reading = AUTTERVIL_READ(text, length, any);
     right = length > 0 && reading.answer == other.answer && reading.offset == other.offset && reading.answer == (uint32_t)atoi(answer);
-    right = right && is_as_said(text, length, reading, found);
+    right = right && is_as_said(text, length, reading, found) && are_kept(text, length, reading.answer);
     /* A declaration is passed, and then the text goes on at least to its root. */
     first = auttervil_prolog_length(text, length);
     right = right && (first > 0) == (length > 5 && memcmp(text, "<?xml", 5) == 0);

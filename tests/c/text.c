@@ -4,12 +4,10 @@
 
 #include "test.h"
 #include "text.h"
+#include "texts.h"
 
-#define TEXT(literal) literal, sizeof(literal) - 1
+enum { CELLS = 512, BYTES = 64 * 64 };
 
-enum { PAINT = 0x5a, CELLS = 512, BYTES = 64 * 64 };
-
-static const char small[] = "<scxml><state id='a'/></scxml>";
 static auttervil_scratch scratch;
 static document lifecycle_text;
 AUTTERVIL_PLACES_FOR_TEXT(any);
@@ -28,26 +26,6 @@ static uint8_t *const names = lent_places.bytes + 8 * CELLS;
 static void *shifted(void *place, size_t n)
 {
     return (void *)((uintptr_t)place + n);
-}
-
-static int is_painted(const void *place, size_t bytes)
-{
-    const uint8_t *at = (const uint8_t *)place;
-    size_t i;
-    for (i = 0; i < bytes; i++)
-        if (at[i] != PAINT)
-            return 0;
-    return 1;
-}
-
-/* So many bytes in memory of their own, so that valgrind and the sanitizers see a byte that is read behind them. */
-static char *copy_of(const char *text, size_t length)
-{
-    char *copy = (char *)malloc(length > 0 ? length : 1);
-    if (copy == NULL)
-        exit(1);
-    memcpy(copy, text, length);
-    return copy;
 }
 
 /* ---- answers */
@@ -157,23 +135,6 @@ static void the_longest_text(void)
     CHECK(is_bad_at(text, AUTTERVIL_MOST_TEXT + 1, AUTTERVIL_MOST_TEXT) && is_bad_at(text, sizeof text, AUTTERVIL_MOST_TEXT));
     text[AUTTERVIL_MOST_TEXT - 1] = 'x';
     CHECK(is_bad_at(text, sizeof text, AUTTERVIL_MOST_TEXT - 1));
-}
-
-/* So many states under the root with so many transitions between them; the first 15 have a full exit block. */
-static size_t full_text(char *text, unsigned states, unsigned transitions)
-{
-    size_t length = (size_t)sprintf(text, "<scxml>");
-    unsigned i, k;
-    for (i = 0; i < states; i++) {
-        length += (size_t)sprintf(text + length, "<state id='s%u'>", i);
-        for (k = i; k < transitions; k += states)
-            length += (size_t)sprintf(text + length, "<transition event='e' target='s%u'/>", k % 9);
-        length += (size_t)sprintf(text + length, i < 15 ? "<onexit>" : "");
-        for (k = 0; i < 15 && k < AUTTERVIL_ACTIONS_EACH; k++)
-            length += (size_t)sprintf(text + length, "<log label='%u'/>", k % 10);
-        length += (size_t)sprintf(text + length, i < 15 ? "</onexit></state>" : "</state>");
-    }
-    return length + (size_t)sprintf(text + length, "</scxml>");
 }
 
 /* A text of nearly 32,768 bytes with as many rows and transitions as a chart may have fits the places for any text; one row or transition more is 1. */
@@ -408,8 +369,8 @@ static void the_text_is_the_built_chart(void)
 static void the_incident_and_a_typo(void)
 {
     static const char id[] = "mounted-volume-of-the-orders-database-with-its-write-ahead-lo";
-    static const char said[] = "answer 12, the text is not of the grammar, lacks an id, or names what does not exist or is too long\n"
-                               "line 24, column 48:\n        <transition event=\"mount.done\" target=\"mountd\"/>\n                                               ^\n";
+    static const char said[] = "answer 12, line 24, column 48: no row has the id mountd\n"
+                               "        <transition event=\"mount.done\" target=\"mountd\"/>\n                                               ^\n";
     static document changed, other;
     char cut[64] = {0};
     char told[512] = {0};
