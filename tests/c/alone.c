@@ -24,7 +24,7 @@ uint64_t play(void)
     const size_t first = auttervil_prolog_length(text, sizeof text - 1);
     auttervil_reading reading = auttervil_read(text + first, sizeof text - 1 - first, numbers, sizeof numbers / sizeof numbers[0], names, sizeof names);
     if (reading.answer == AUTTERVIL_BAD_TEXT)
-        return auttervil_show_offset(message, sizeof message, text, sizeof text - 1, first + reading.offset);
+        return auttervil_show_refusal(message, sizeof message, text, sizeof text - 1, reading.answer, first + reading.offset);
     reading = auttervil_read_with(&scratch, text, sizeof text - 1, numbers, sizeof numbers / sizeof numbers[0], names, sizeof names);
     auttervil_begin(&b, most, numbers, sizeof numbers / sizeof numbers[0], names, sizeof names);
     auttervil_add_row(&b, AUTTERVIL_KIND_STATE, NULL, "off");
@@ -33,7 +33,9 @@ uint64_t play(void)
     auttervil_add_host(&b, 1);
     auttervil_add_transition(&b, "off", "push", "on");
     if (auttervil_finish(&b, &tables) != AUTTERVIL_FAULT_NONE)
-        return b.fault + reading.answer;
+        return auttervil_show_builder(message, sizeof message, &b) + reading.answer;
+    if (auttervil_write(&tables, message, sizeof message).answer != AUTTERVIL_DONE)
+        return auttervil_write(&tables, NULL, 0).length;
     compiled = auttervil_compile(&tables, place, sizeof place / sizeof place[0], name_place, sizeof name_place);
     if (!auttervil_is_compatible() || auttervil_check(&compiled.chart) != AUTTERVIL_DONE || auttervil_room(&compiled.chart) > 32)
         return auttervil_fingerprint(&compiled.chart);

@@ -350,13 +350,13 @@ static void reading(void)
     CHECK(strcmp(auttervil_transition_event(&door.chart, 3, 1), "push.*") == 0);
     CHECK(auttervil_name(&a.chart, 14) == NULL && auttervil_name(NULL, 0) == NULL);
     CHECK(!auttervil_is_active(&a.session, AUTTERVIL_MOST_ROWS) && !auttervil_is_active(NULL, 1) && !auttervil_has_stored(&a.session, UINT64_MAX, 1));
-    for (number = 0; number < 300; number++)
+    for (number = 0; number < 400; number++)
         if (strcmp(auttervil_strstatus(number), "no answer of this library") == 0)
             unknown++;
         else
             CHECK(number < 200 || auttervil_strstatus(number) == auttervil_strplace(number));
-    /* 0 to 12 and three statuses; 37 of lent places. */
-    CHECK(unknown == 300 - 16 - 37);
+    /* 0 to 13 and three statuses; 40 of lent places. */
+    CHECK(unknown == 400 - 17 - 40);
     CHECK(auttervil_strplace(199) == NULL && auttervil_strplace(AUTTERVIL_NO_ROOM) == NULL);
     CHECK(strcmp(auttervil_strstatus(AUTTERVIL_SESSION_MISALIGNED), "the session is misaligned") == 0);
     CHECK(strcmp(auttervil_strstatus(AUTTERVIL_TRACE_OVERLAP), "the trace overlaps another lent place") == 0);

@@ -1,5 +1,5 @@
 /* Documents as they are found, read by the library: every line of second/texts/README.md says what a file reads to, or where it is refused. What reads well is compiled and
- * started; what begins with a declaration is read once more from behind it. */
+ * started, written and read again; what begins with a declaration is read once more from behind it. */
 #include <stdlib.h>
 
 #include "test.h"
@@ -7,6 +7,7 @@
 enum { MOST = 1 << 16 };
 
 AUTTERVIL_PLACES_FOR_TEXT(any);
+AUTTERVIL_PLACES_FOR_TEXT(again);
 static auttervil_scratch scratch;
 static auttervil_session session;
 static uint32_t trace[AUTTERVIL_MOST_ROOM];
@@ -76,6 +77,16 @@ static size_t place_of(const char *text, size_t length, const char *part)
     return found;
 }
 
+/* What a document was taken to mean, as text, reads to tables of the same size and is written as itself. */
+static int is_written(const auttervil_tables *tables)
+{
+    static char one[AUTTERVIL_MOST_TEXT], other[AUTTERVIL_MOST_TEXT];
+    const auttervil_written written = auttervil_write(tables, one, sizeof one);
+    const auttervil_reading reading = AUTTERVIL_READ_WITH(&scratch, one, written.length, again);
+    return written.answer == AUTTERVIL_DONE && reading.answer == AUTTERVIL_DONE && reading.tables.cells == tables->cells
+        && auttervil_write(&reading.tables, other, sizeof other).length == written.length && memcmp(one, other, written.length) == 0;
+}
+
 static int is_as_said(const char *text, size_t length, auttervil_reading reading, char *found)
 {
     char said[64];
@@ -90,7 +101,7 @@ static int is_as_said(const char *text, size_t length, auttervil_reading reading
         return found[0] == 0;
     (void)snprintf(said, sizeof said, "%u rows, %u transitions", (unsigned)reading.tables.numbers[0], (unsigned)reading.tables.numbers[1]);
     compiled = AUTTERVIL_COMPILE(&reading.tables, any);
-    return strcmp(said, found) == 0 && compiled.answer == AUTTERVIL_DONE
+    return strcmp(said, found) == 0 && compiled.answer == AUTTERVIL_DONE && is_written(&reading.tables)
         && auttervil_start(&session, &compiled.chart, trace, auttervil_room(&compiled.chart)).answer == AUTTERVIL_DONE;
 }
 

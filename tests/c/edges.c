@@ -275,6 +275,29 @@ static void reading(enum side side)
     CHECK(right);
 }
 
+/* Tables that may not be written, and a buffer of exactly the text's length, or a byte less; tables cut short too. */
+static void writing(const lent *l, enum side side)
+{
+    static char plain[4096];
+    const size_t length = auttervil_write(&l->tables, plain, sizeof plain).length;
+    auttervil_tables tables = fenced_tables(l, l->tables.cells, l->tables.bytes, side);
+    size_t cut;
+    int right = length > 500;
+    set_writable(text, 1);
+    right = right && auttervil_write(&tables, (char *)at_fence(text, length, side), length).answer == AUTTERVIL_DONE && memcmp(at_fence(text, length, side), plain, length) == 0;
+    right = right && auttervil_write(&tables, (char *)at_fence(text, length - 1, side), length - 1).answer == AUTTERVIL_LONG_TEXT;
+    right = right && auttervil_write(&tables, (char *)at_fence(text, 0, side), 0).length == length;
+    for (cut = 1; cut <= l->tables.cells; cut++) {
+        tables = fenced_tables(l, l->tables.cells - cut, l->tables.bytes, side);
+        right = right && auttervil_write(&tables, (char *)at_fence(text, length, side), length).answer == AUTTERVIL_SIZE;
+    }
+    for (cut = 1; cut <= l->tables.bytes; cut++) {
+        tables = fenced_tables(l, l->tables.cells, l->tables.bytes - cut, side);
+        right = right && auttervil_write(&tables, (char *)at_fence(text, length, side), length).answer == AUTTERVIL_SIZE;
+    }
+    CHECK(right);
+}
+
 int main(void)
 {
     static const char *const of_a[] = {"e4", "e1", "e2", "*", "nothing"};
@@ -309,6 +332,8 @@ int main(void)
         performing(&a, (enum side)side);
         performing(&door, (enum side)side);
         reading((enum side)side);
+        writing(&a, (enum side)side);
+        writing(&door, (enum side)side);
     }
     return report();
 }

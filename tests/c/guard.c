@@ -21,6 +21,7 @@ static auttervil_result results[3];
 static const char scxml[] = "<scxml><state id='a'><onentry><raise event='e'/></onentry><transition event='e' target='a'/></state></scxml>";
 AUTTERVIL_PLACES(from_text, 4, 4, 4, 4, 4, 4);
 static auttervil_scratch scratch;
+static char written[AUTTERVIL_MOST_TEXT];
 static uint8_t *below; /* shared with the processes; then the page, then the stack */
 static ucontext_t here, there;
 
@@ -36,6 +37,11 @@ static void read_text(void)
 static void read_with(void)
 {
     (void)AUTTERVIL_READ_WITH(&scratch, scxml, sizeof scxml - 1, from_text);
+}
+
+static void write_back(void)
+{
+    (void)auttervil_write(&a.tables, written, sizeof written);
 }
 
 static void sizes(void)
@@ -158,7 +164,7 @@ int main(void)
     static const struct {
         const char *name;
         void (*call)(void);
-    } all[] = {{"read", read_text}, {"read_with", read_with}, {"sizes", sizes}, {"compile", compile}, {"check", check_chart}, {"room", room}, {"fingerprint", fingerprint}, {"start", start},
+    } all[] = {{"read", read_text}, {"read_with", read_with}, {"write", write_back}, {"sizes", sizes}, {"compile", compile}, {"check", check_chart}, {"room", room}, {"fingerprint", fingerprint}, {"start", start},
                {"post", post}, {"run", run}, {"step", step}, {"perform", perform}};
     /* A page more than the calls may take, for what the process takes at the top of its stack and for the linker. A read works on its stack. */
     const size_t enough = MOST_STACK + PAGE;

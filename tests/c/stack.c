@@ -24,6 +24,7 @@ static const char *const texts[2] = {
     "</history></state><state id='c'><initial><transition target='d'/></initial><final id='d'/></state></parallel><final id='f'/></scxml>",
     "<scxml><state id='a'><transition event='e' target='a b'/></state></scxml>"};
 static size_t lengths[2]; /* of them */
+static char written[AUTTERVIL_MOST_TEXT];
 static union {
     max_align_t aligned;
     uint8_t bytes[STACK];
@@ -76,6 +77,12 @@ static void *read_with(void *m)
 {
     const int which = ((made *)m)->l == &charts[1];
     (void)AUTTERVIL_READ_WITH(&scratch, texts[which], lengths[which], from_text);
+    return m;
+}
+
+static void *write_back(void *m)
+{
+    (void)auttervil_write(&((made *)m)->l->tables, written, sizeof written);
     return m;
 }
 
@@ -143,7 +150,7 @@ int main(void)
     static const struct {
         const char *name;
         void *(*call)(void *);
-    } calls[] = {{"auttervil_read", read_text}, {"auttervil_read_with", read_with}, {"auttervil_sizes", sizes}, {"auttervil_compile", compile}, {"auttervil_check", check_chart}, {"auttervil_room", room},
+    } calls[] = {{"auttervil_read", read_text}, {"auttervil_read_with", read_with}, {"auttervil_write", write_back}, {"auttervil_sizes", sizes}, {"auttervil_compile", compile}, {"auttervil_check", check_chart}, {"auttervil_room", room},
                  {"auttervil_fingerprint", fingerprint}, {"auttervil_start", start}, {"auttervil_step", step}, {"auttervil_perform", perform},
                  {"auttervil_post", post}, {"auttervil_run", run},
     };
