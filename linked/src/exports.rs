@@ -40,8 +40,16 @@ pub struct Read {
     pub bytes: usize,
 }
 
+/// What writing a chart gives: the length of its text.
+#[repr(C)]
+#[derive(Clone, Copy, PartialEq, Eq, Debug)]
+pub struct Written {
+    pub answer: c_uint,
+    pub length: usize,
+}
+
 const _: () = assert!(size_of::<Started>() == 16 && size_of::<Ran>() == 16 && size_of::<Stepped>() == 24);
-const _: () = assert!(size_of::<Read>() == 32);
+const _: () = assert!(size_of::<Read>() == 32 && size_of::<Written>() == 16);
 
 extern "C" {
     pub fn auttervil_raw2_version() -> c_uint;
@@ -73,6 +81,14 @@ extern "C" {
         ranks: *mut u16,
         ranks_count: usize,
     ) -> Read;
+    pub fn auttervil_raw2_write(
+        numbers: *const u64,
+        numbers_count: usize,
+        names: *const u8,
+        names_count: usize,
+        buffer: *mut u8,
+        buffer_count: usize,
+    ) -> Written;
     pub fn auttervil_raw2_numbers_size(numbers: *const u64, numbers_count: usize) -> usize;
     pub fn auttervil_raw2_names_size(numbers: *const u64, numbers_count: usize) -> usize;
     pub fn auttervil_raw2_compile(

@@ -10,3 +10,4 @@ pub mod seeds;
 pub mod sessions;
 pub mod story;
 pub mod texts;
+pub mod written;

@@ -111,6 +111,20 @@ impl Scratch {
     }
 }
 
+/// Writes a chart; the text stands at the beginning of the buffer.
+pub fn write(numbers: &[u64], names: &[u8], buffer: &mut [u8]) -> Written {
+    unsafe {
+        auttervil_raw2_write(
+            numbers.as_ptr(),
+            numbers.len(),
+            names.as_ptr(),
+            names.len(),
+            buffer.as_mut_ptr(),
+            buffer.len(),
+        )
+    }
+}
+
 pub fn numbers_size(numbers: &[u64]) -> usize {
     unsafe { auttervil_raw2_numbers_size(numbers.as_ptr(), numbers.len()) }
 }

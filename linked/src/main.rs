@@ -8,6 +8,7 @@ use linked::posts;
 use linked::seeds::{try_all, Tally};
 use linked::story;
 use linked::texts;
+use linked::written;
 use std::ops::Range;
 use std::process::ExitCode;
 
@@ -53,7 +54,8 @@ fn main() -> ExitCode {
     compare_charts(seeds.clone(), &mut outcome);
     compare_posts(seeds.clone(), &mut outcome);
     compare_calls(seeds.clone(), &mut outcome);
-    compare_texts(seeds, &mut outcome);
+    compare_texts(seeds.clone(), &mut outcome);
+    compare_written(seeds, &mut outcome);
     outcome.add(1, story::play().err().into_iter().collect(), Vec::new());
     outcome.add(1, is_of_this_number().err().into_iter().collect(), Vec::new());
     let Outcome { passed, mut failures } = outcome;
@@ -173,6 +175,25 @@ fn compare_texts(seeds: Range<u64>, outcome: &mut Outcome) {
     }
     outcome.add(count, failures, Vec::new());
     outcome.add(texts::places(), more, Vec::new());
+    outcome.demand(seeds.end - seeds.start >= ENOUGH, demands);
+}
+
+/// Charts written back, a tenth of the seeds: every answer that writing can have, and charts of each kind.
+fn compare_written(seeds: Range<u64>, outcome: &mut Outcome) {
+    let kinds = written::Kinds::all();
+    let try_seed = |seed: u64, counts: &mut written::Counts| written::try_seed(seed, &kinds, counts);
+    let count = (seeds.end - seeds.start).div_ceil(10);
+    let (counts, failures) = try_all(seeds.start..seeds.start + count, written::Counts::default(), try_seed);
+    let mut demands = Vec::new();
+    for answer in [0, 1, 2, 3, 4, 5, 13] {
+        println!("{:>10}  charts written with answer {answer}", counts.answers[answer]);
+        demands.push((format!("a chart written with answer {answer}"), counts.answers[answer] >= OFTEN));
+    }
+    for (what, count) in ["an if", "a listed history", "more than 32,768 bytes"].iter().zip(counts.kinds) {
+        println!("{count:>10}  charts written that have {what}");
+        demands.push((format!("a written chart that has {what}"), count >= OFTEN));
+    }
+    outcome.add(count, failures, Vec::new());
     outcome.demand(seeds.end - seeds.start >= ENOUGH, demands);
 }
 

@@ -42,7 +42,8 @@ pub fn try_all<T: Tally>(
     let mut all = none.clone();
     let mut failures = Vec::new();
     thread::scope(|scope| {
-        let start = |_| thread::Builder::new().stack_size(STACK).spawn_scoped(scope, work).expect("a worker starts");
+        let start =
+            |_| thread::Builder::new().stack_size(STACK).spawn_scoped(scope, work).expect("a worker starts");
         let workers: Vec<_> = (0..THREADS).map(start).collect();
         for worker in workers {
             let (tally, failed) = worker.join().expect("a worker ends");

@@ -8,17 +8,24 @@ use crate::numbers::{NameNumber, RowNumber, ROOT};
 use crate::rules::judge;
 use crate::tables::{Action, Chart, Kind, Transition, TransitionType};
 
-/// "If the text does not fit the lent buffer, or passes the reader's 32,768 bytes".
-pub const TOO_LONG: u64 = 13;
+/// Why nothing was written.
+#[derive(Clone, Copy, PartialEq, Eq, Debug)]
+pub enum Unwritten {
+    /// 1 to 5: the first rule that the chart breaks.
+    Rule(u64),
+    /// 13: "If the text does not fit the lent buffer, or passes the reader's 32,768 bytes". The buffer that
+    /// it would need; 0 where it passes them.
+    TooLong(usize),
+}
 
-/// Writes the chart of the tables into the buffer and answers the text's length, or 1 to 5 or 13; then
-/// the buffer is as it was. Behind the text it keeps its bytes.
-pub fn write(numbers: &[u64], names: &[u8], buffer: &mut [u8]) -> Result<usize, u64> {
-    let place = needed_place(numbers).ok_or(1u64)?;
-    let (chart, _) = judge(numbers, names, place)?;
+/// Writes the chart of the tables into the buffer and answers the text's length; or the buffer is as it
+/// was. Behind the text it keeps its bytes.
+pub fn write(numbers: &[u64], names: &[u8], buffer: &mut [u8]) -> Result<usize, Unwritten> {
+    let place = needed_place(numbers).ok_or(Unwritten::Rule(1))?;
+    let (chart, _) = judge(numbers, names, place).map_err(Unwritten::Rule)?;
     let text = text_of(&chart);
     if text.len() > buffer.len().min(MAX_TEXT) {
-        return Err(TOO_LONG);
+        return Err(Unwritten::TooLong(if text.len() > MAX_TEXT { 0 } else { text.len() }));
     }
     buffer[..text.len()].copy_from_slice(text.as_bytes());
     Ok(text.len())

@@ -15,7 +15,7 @@ use crate::text::plant::planted;
 use crate::text::read::{read, Refusal};
 use crate::text::recogniser::{Recogniser, MAX_TEXT};
 use crate::text::spell::spell;
-use crate::text::write::{text_of, write, TOO_LONG};
+use crate::text::write::{text_of, write, Unwritten};
 
 const CHARTS_OF_CHECK: u64 = 125;
 
@@ -111,9 +111,9 @@ fn written_reads_back(random: &mut Random) -> Found {
     let found = write(&tables.numbers, &tables.names, &mut buffer);
     if long.len() > MAX_TEXT {
         let untouched = buffer.iter().all(|&byte| byte == b'?');
-        return ensure(found == Err(TOO_LONG) && untouched, "13 for more than can be read");
+        return ensure(found == Err(Unwritten::TooLong(0)) && untouched, "13 for more than can be read");
     }
-    let length = found.map_err(|answer| format!("writing {} gets {answer}", show::chart(&chart)))?;
+    let length = found.map_err(|answer| format!("writing {} gets {answer:?}", show::chart(&chart)))?;
     ensure(buffer[..length] == *long.as_bytes(), "the text is written")?;
     ensure(buffer[length..].iter().all(|&byte| byte == b'?'), "and nothing behind it")?;
     let again = read(long.as_bytes()).map_err(|refusal| format!("{refusal:?}: {long}"))?;

@@ -5,7 +5,7 @@ use crate::invariants::{ensure, Found};
 use crate::numbers::{NameNumber, RowNumber, TransitionNumber};
 use crate::readings::chart_a;
 use crate::text::read::{meaning, read};
-use crate::text::write::{text_of, write, TOO_LONG};
+use crate::text::write::{text_of, write, Unwritten};
 
 pub fn checks() -> Vec<Check> {
     vec![
@@ -113,7 +113,8 @@ fn fixed_spelling() -> Found {
 
 fn lent_buffer() -> Found {
     let tables = meaning(CHART_A.as_bytes()).map_err(|place| format!("12 at {place}"))?;
-    for (room, answer) in [(0, Err(TOO_LONG)), (550, Err(TOO_LONG)), (551, Ok(551)), (600, Ok(551))] {
+    let too_long = Err(Unwritten::TooLong(551));
+    for (room, answer) in [(0, too_long), (550, too_long), (551, Ok(551)), (600, Ok(551))] {
         let mut buffer = vec![b'?'; room];
         let found = write(&tables.numbers, &tables.names, &mut buffer);
         ensure(found == answer, &format!("{room} bytes: {found:?}"))?;
@@ -126,6 +127,6 @@ fn lent_buffer() -> Found {
     }
     let broken = meaning(b"<scxml><state id=\"9\"/></scxml>").map_err(|place| format!("12 at {place}"))?;
     let found = write(&broken.numbers, &broken.names, &mut []);
-    ensure(found == Err(2), "2 before 13")?;
-    ensure(write(&[], &[], &mut []) == Err(1), "1 before 13")
+    ensure(found == Err(Unwritten::Rule(2)), "2 before 13")?;
+    ensure(write(&[], &[], &mut []) == Err(Unwritten::Rule(1)), "1 before 13")
 }
