@@ -5,6 +5,7 @@
  *
  *     lifecycle lifecycle.scxml < day.txt              the chart from its text; the trace in words
  *     lifecycle < day.txt                              the same chart, built by calls
+ *     lifecycle --text [lifecycle.scxml]               nothing but the chart as text, in one line: what it was taken to mean
  *     lifecycle --tables [lifecycle.scxml] < day.txt   nothing but the chart and the active rows at the end, for second's picture
  */
 #include <stdio.h>
@@ -179,6 +180,17 @@ static void print_tables(const auttervil_tables *tables, const auttervil_chart *
     printf("\n");
 }
 
+static int print_text(const auttervil_tables *tables)
+{
+    static char text_of[AUTTERVIL_MOST_TEXT];
+    const auttervil_written written = auttervil_write(tables, text_of, sizeof text_of);
+    if (written.answer != AUTTERVIL_DONE)
+        fprintf(stderr, "chart: %s\n", auttervil_strstatus(written.answer));
+    else
+        printf("%.*s\n", (int)written.length, text_of);
+    return written.answer == AUTTERVIL_DONE;
+}
+
 /* A container of its own: the session begins anew. */
 static int start_container(const auttervil_chart *chart, int quiet)
 {
@@ -253,7 +265,8 @@ static auttervil_compiled get_chart(const document *d, const char *path, autterv
 int main(int count, char **arguments)
 {
     static document from_file;
-    const int quiet = count > 1 && strcmp(arguments[1], "--tables") == 0;
+    const int as_text = count > 1 && strcmp(arguments[1], "--text") == 0;
+    const int quiet = as_text || (count > 1 && strcmp(arguments[1], "--tables") == 0);
     const char *path = count > 1 + quiet ? arguments[1 + quiet] : NULL;
     const document *d = path == NULL ? NULL : &from_file;
     auttervil_tables tables;
@@ -269,6 +282,8 @@ int main(int count, char **arguments)
     compiled = get_chart(d, path, &tables);
     if (compiled.answer != AUTTERVIL_DONE)
         return 1;
+    if (as_text)
+        return print_text(&tables) ? 0 : 1;
     if (auttervil_room(&compiled.chart) > ROOM) {
         fprintf(stderr, "chart: a round may write %lu entries, more than the trace has\n", (unsigned long)auttervil_room(&compiled.chart));
         return 1;

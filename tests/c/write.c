@@ -102,7 +102,22 @@ static void spellings(void)
     CHECK(writes_read(TEXT("<scxml initial='a'><state id='a'/></scxml>"), ROOT " initial=\"a\"><state id=\"a\"/></scxml>"));
 }
 
-/* A file's text, and what docs/grammar.md shows. */
+/* docs/grammar.md shows chart A both ways, cut into lines. */
+static void shown(void)
+{
+    static char page[1 << 16];
+    FILE *file = fopen("docs/grammar.md", "rb");
+    size_t length = file == NULL ? 0 : fread(page, 1, sizeof page - 1, file);
+    size_t i, to = 0;
+    for (i = 0; i < length; i++)
+        if (page[i] != '\n')
+            page[to++] = page[i];
+    page[to] = 0;
+    CHECK(length > 0 && length < sizeof page - 1 && fclose(file) == 0);
+    CHECK(strstr(page, CHART_A("", "")) != NULL && strstr(page, CHART_A(" initial=\"S11\"", " initial=\"S21\"")) != NULL);
+}
+
+/* Texts of files, written and read again. */
 static void documents(void)
 {
     static char text[1 << 16];
@@ -284,6 +299,7 @@ int main(void)
     make_door(&door);
     known_charts();
     spellings();
+    shown();
     documents();
     refusals();
     the_longest_text();
