@@ -202,15 +202,41 @@ module _ (active meant : List ℕ) (xs : List Action) (h : active ≡ meant) whe
   meant-wrote old new t r w = rw h at w
 
 -- a block that was read from the tables, for the actions xs
+block-fits : (numbers : List ℕ) (xs : List Action) (b : List ℕ) → BlockOf numbers xs b → InTables numbers → ActionsFit b
+block-fits numbers xs b h i = record {
+  fits = λ k l. number-small numbers _ i (all-at (numberFits numbers) (actionsOf b) (Raise 0) (ap (all (numberFits numbers)) (h .is) ∙ h .fits) k l);
+  few = let q = ap {B = ℕ} length (h .is) in let s = h .short in omega arith;
+}
+
 module _ (active numbers : List ℕ) (xs : List Action) (b : List ℕ) (h : BlockOf numbers xs b) where
   pub block-asked : (t : Tally) → InTables numbers → Room t (performed active xs) → ActionsFit b × Room t (performed active (actionsOf b))
   block-asked t i m = (
-    record {
-      fits = λ k l. number-small numbers _ i (all-at (numberFits numbers) (actionsOf b) (Raise 0) (ap (all (numberFits numbers)) (h .is) ∙ h .fits) k l);
-      few = let q = ap {B = ℕ} length (h .is) in let s = h .short in omega arith;
-    },
+    block-fits numbers xs b h i,
     subst (λ (ys : List Action). Room t (performed active ys)) (sym (h .is)) m,
   )
 
   pub block-wrote : (old new : Places) (t r : Tally) → Wrote old new t r (performed active (actionsOf b)) → Wrote old new t r (performed active xs)
   block-wrote old new t r w = subst (λ (ys : List Action). Wrote old new t r (performed active ys)) (h .is) w
+
+  -- the actions ahead of its first if
+  pub ahead-asked : (t : Tally) → InTables numbers → Room t (performed active xs) → ActionsFit b × Room t (plainEffects (actionsOf b))
+  ahead-asked t i m = let q = block-asked t i m in (q .0, plain-room active (actionsOf b) t (q .1))
+
+  module _ (old new : Places) (t r : Tally) (k : ℕ) (w : Wrote old new t r (plainEffects (actionsOf b))) (e : k ≡ plainCount (actionsOf b)) where
+    pub ahead-all : k ≡ length (actionsOf b) → Wrote old new t r (performed active xs)
+    ahead-all q = block-wrote old new t r (all-plain active (actionsOf b) old new t r k w e q)
+
+    -- the others, where the block is read again
+    module _ (rows : List ℕ) (g : rows ≡ active) (a : List ℕ) (j : BlockOf numbers xs a) where
+      read-alike : actionsOf b ≡ actionsOf a
+      read-alike = h .is ∙ sym (j .is)
+
+      pub behind-asked : InTables numbers → Room t (performed active xs) → ActionsFit a × Room r (performedFrom rows Live (drop k (actionsOf a)))
+      behind-asked i m = (
+        block-fits numbers xs a j i,
+        subst (λ (ys : List Action). Room r (performedFrom rows Live (drop k ys))) read-alike (rest-room active (actionsOf b) old new t r k w e rows g (block-asked t i m .1)),
+      )
+
+      pub behind-wrote : (newer : Places) (s : Tally) → Wrote new newer r s (performedFrom rows Live (drop k (actionsOf a))) → Wrote old newer t s (performed active xs)
+      behind-wrote newer s v =
+          block-wrote old newer t s (rest-wrote active (actionsOf b) old new t r k w e rows g newer s (subst (λ (ys : List Action). Wrote new newer r s (performedFrom rows Live (drop k ys))) (sym read-alike) v))

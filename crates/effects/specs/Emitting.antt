@@ -1,7 +1,7 @@
 -- Passes that write the effects of each element: over the rows of a set, upward and downward, and over the items of a list.
 use mathlib.Core.Path.{_≡_, ap, sym, subst}
 use mathlib.Core.List.{List, [], _∷_, _++_}
-use Prim.Native.Nat.{ℕ, suc, _+_, _≤_, _<_}
+use Prim.Native.Nat.{ℕ, suc, _+_, _<_}
 use native.Mathlib.Omega.{arith}
 use native.Mathlib.Numerals.{add-one}
 use lib.ListN.{length, getD, drop}
@@ -10,7 +10,7 @@ use Rattle.definition.specs.Rows.{flat, backwards}
 use Rattle.follower.specs.Blocks.{Effect}
 use Rattle.rowset.specs.declared.RowSet.{RowSet}
 use Rattle.rowset.specs.Member.{rowsOf}
-use Rattle.rowset.specs.Rows.{rows-low}
+use Rattle.chart.specs.Within.{Within}
 use Rattle.rowset.specs.Search.{restFrom, restBelow, rest-all, rest-whole}
 use Rattle.effects.specs.declared.Tally.{Tally}
 use Rattle.effects.specs.Trace.{Places, Wrote, Writing, Room, writing-begin, writing-turn, writing-end, writing-length, writing-joins, room-left, room-first}
@@ -51,9 +51,8 @@ module _ (f : ℕ → List Effect) (old : Places) (t : Tally) (s : RowSet) where
   emitting-up m = emitting-begin f old t (rowsOf s) (restFrom (rowsOf s) 0) m (sym (rest-all (rowsOf s)))
 
   -- downward, below k
-  pub emitting-down : (k : ℕ) → 256 ≤ k → Room t (flat f (backwards (rowsOf s))) → Emitting f old old t t (backwards (rowsOf s)) (restBelow (rowsOf s) k)
-  emitting-down k l m =
-      emitting-begin f old t (backwards (rowsOf s)) (restBelow (rowsOf s) k) m (sym (rest-whole (rowsOf s) k (λ x n. let h : x < 256 = rows-low s x n in omega arith)))
+  pub emitting-down : (n k : ℕ) → Within n (rowsOf s) → k ≡ n → Room t (flat f (backwards (rowsOf s))) → Emitting f old old t t (backwards (rowsOf s)) (restBelow (rowsOf s) k)
+  emitting-down n k w e m = emitting-begin f old t (backwards (rowsOf s)) (restBelow (rowsOf s) k) m (sym (rest-whole (rowsOf s) k (λ x q. rw e (w .at x q))))
 
 -- over the items of a list of n, from the i-th on
 module _ (f : ℕ → List Effect) (old new : Places) (t r : Tally) (xs : List ℕ) (i x : ℕ) where

@@ -2,7 +2,7 @@
 // of the first if are performed without it, and a block that has none needs no more.
 ghost use mathlib.Core.Path.{_≡_};
 ghost use lib.ListN.{drop};
-ghost use Rattle.follower.specs.Blocks.{perform, performIf, performedFrom, performed};
+ghost use Rattle.follower.specs.Blocks.{perform, performIf, performedFrom};
 ghost use Rattle.tables.specs.Parts.{actionsOf};
 ghost use Rattle.rowset.specs.Member.{rowsOf};
 ghost use Rattle.effects.specs.Trace.{places, Wrote, Room};
@@ -108,24 +108,4 @@ pub fn perform_rest(
         k += 1;
     }
     sum
-}
-
-// Performed while these rows are active, where they are at hand.
-pub fn perform_block(
-    block: &[u64],
-    active: RowSet,
-    trace: &mut [u32],
-    joins: &mut [u32],
-    tally: Tally,
-) -> Tally
-    requires { ⌜ ActionsFit (now block) × Room tally (performed (rowsOf active) (actionsOf (now block))) ⌝ }
-    ensures { λ r. ⌜ Wrote (places (now (trace .entry)) (now (joins .entry))) (places (now (trace .exit)) (now (joins .exit))) tally r (performed (rowsOf active) (actionsOf (now (block .entry)))) ⌝ }
-{
-    let plain = perform_plain(block, trace, joins, tally);
-    let sum = plain.tally;
-    let k = plain.actions;
-    if k == actions_in(block) {
-        return sum;
-    }
-    perform_rest(block, k, active, trace, joins, sum)
 }

@@ -3,7 +3,7 @@
 ghost use lib.ListN.{drop};
 ghost use Rattle.definition.specs.declared.Reach.the-variants.{Live};
 ghost use Rattle.definition.specs.Rows.{flat};
-ghost use Rattle.definition.specs.Tables.{rowCount, chartOf};
+ghost use Rattle.definition.specs.Tables.{rowCount, entryAt, chartOf};
 ghost use Rattle.follower.specs.Blocks.{performedFrom, performed};
 ghost use Rattle.follower.specs.Microstep.{initialBlock, activeAt, defaultEffects, entering};
 ghost use Rattle.tables.specs.Ranges.{RowIn};
@@ -71,9 +71,9 @@ fn perform_entering(
     rest_entering(block, k, stay, set, r, trace, joins, sum)
 }
 
-// The entry block of row r. It is performed for every row that is entered, so it has a function of its own, which a compiler can put in line.
+// The entry block of row r. It is performed for every row that is entered, so it has a function of its own, which a compiler can put in line; it is read again where it has an if.
 fn perform_entry(
-    block: &[u64],
+    chart: &[u64],
     stay: RowSet,
     set: RowSet,
     r: Row,
@@ -81,16 +81,18 @@ fn perform_entry(
     joins: &mut [u32],
     tally: Tally,
 ) -> Tally
-    requires { ⌜ ActionsFit (now block) × Room tally (performed (activeAt (rowsOf stay) (rowsOf set) (r .0)) (actionsOf (now block))) ⌝ }
-    ensures { λ s. ⌜ Wrote (places (now (trace .entry)) (now (joins .entry))) (places (now (trace .exit)) (now (joins .exit))) tally s (performed (activeAt (rowsOf stay) (rowsOf set) (r .0)) (actionsOf (now (block .entry)))) ⌝ }
+    requires { ⌜ RowIn (now chart) (r .0) × Room tally (performed (activeAt (rowsOf stay) (rowsOf set) (r .0)) (entryAt (now chart) (r .0))) ⌝ }
+    ensures { λ s. ⌜ Wrote (places (now (trace .entry)) (now (joins .entry))) (places (now (trace .exit)) (now (joins .exit))) tally s (performed (activeAt (rowsOf stay) (rowsOf set) (r .0)) (entryAt (now (chart .entry)) (r .0))) ⌝ }
 {
+    let block = entry_block_of(chart, r);
     let plain = perform_plain(block, trace, joins, tally);
     let sum = plain.tally;
     let k = plain.actions;
     if k == actions_in(block) {
         return sum;
     }
-    rest_entering(block, k, stay, set, r, trace, joins, sum)
+    let again = entry_block_of(chart, r);
+    rest_entering(again, k, stay, set, r, trace, joins, sum)
 }
 
 fn initial_block(
@@ -181,8 +183,7 @@ fn enter_row(
     ensures { λ s. ⌜ Wrote (places (now (trace .entry)) (now (joins .entry))) (places (now (trace .exit)) (now (joins .exit))) tally s (rowEntered (chartOf (now (chart .entry))) (activeAt (rowsOf stay) (rowsOf set) (r .0)) (rowsOf defaults) (rowsOf fallen) (r .0)) ⌝ }
 {
     let s1 = emit(trace, tally, ENTERED, r.0 as u32);
-    let block = entry_block_of(chart, r);
-    let s2 = perform_entry(block, stay, set, r, trace, joins, s1);
+    let s2 = perform_entry(chart, stay, set, r, trace, joins, s1);
     let s3 = initial_block(chart, stay, set, defaults, r, trace, joins, s2);
     default_blocks(chart, stay, set, r, fallen, trace, joins, s3)
 }

@@ -1,13 +1,11 @@
 // Exits: "descendants first, reverse document order".
 ghost use mathlib.Core.Path.{_≡_};
-ghost use Rattle.definition.specs.Tables.{rowCount, chartOf};
+ghost use Rattle.definition.specs.Tables.{rowCount, exitAt, chartOf};
 ghost use Rattle.follower.specs.Blocks.{performed};
 ghost use Rattle.follower.specs.Microstep.{exitEffects, exiting, activeLeaving};
 ghost use Rattle.tables.specs.Ranges.{InTables, RowIn};
-ghost use Rattle.tables.specs.Parts.{actionsOf};
 ghost use Rattle.rowset.specs.Member.{rowsOf};
 ghost use Rattle.effects.specs.Trace.{places, Wrote, Room};
-ghost use Rattle.effects.specs.Blocks.{ActionsFit};
 ghost use Rattle.chart.specs.Within.{Within};
 use crate::Tally;
 use crate::blocks::perform_plain;
@@ -20,6 +18,7 @@ use rowset::Found;
 use rowset::RowSet;
 use tables::actions_in;
 use tables::exit_block_of;
+use tables::row_count;
 
 // The rows that are active when row r is exited: those of the configuration, but for the rows of out behind it.
 fn active_out(conf: RowSet, out: RowSet, r: Row) -> RowSet
@@ -29,9 +28,9 @@ fn active_out(conf: RowSet, out: RowSet, r: Row) -> RowSet
     conf.minus(out.minus(RowSet::below(n)))
 }
 
-// The exit block of row r.
+// The exit block of row r. Where it has an if it is read again, so that nothing is kept for that in a block that has none.
 fn perform_exiting(
-    block: &[u64],
+    chart: &[u64],
     conf: RowSet,
     out: RowSet,
     r: Row,
@@ -39,9 +38,10 @@ fn perform_exiting(
     joins: &mut [u32],
     tally: Tally,
 ) -> Tally
-    requires { ⌜ ActionsFit (now block) × Room tally (performed (activeLeaving (rowsOf conf) (rowsOf out) (r .0)) (actionsOf (now block))) ⌝ }
-    ensures { λ s. ⌜ Wrote (places (now (trace .entry)) (now (joins .entry))) (places (now (trace .exit)) (now (joins .exit))) tally s (performed (activeLeaving (rowsOf conf) (rowsOf out) (r .0)) (actionsOf (now (block .entry)))) ⌝ }
+    requires { ⌜ RowIn (now chart) (r .0) × Room tally (performed (activeLeaving (rowsOf conf) (rowsOf out) (r .0)) (exitAt (now chart) (r .0))) ⌝ }
+    ensures { λ s. ⌜ Wrote (places (now (trace .entry)) (now (joins .entry))) (places (now (trace .exit)) (now (joins .exit))) tally s (performed (activeLeaving (rowsOf conf) (rowsOf out) (r .0)) (exitAt (now (chart .entry)) (r .0))) ⌝ }
 {
+    let block = exit_block_of(chart, r);
     let plain = perform_plain(block, trace, joins, tally);
     let sum = plain.tally;
     let k = plain.actions;
@@ -49,7 +49,8 @@ fn perform_exiting(
         return sum;
     }
     let active = active_out(conf, out, r);
-    perform_rest(block, k, active, trace, joins, sum)
+    let again = exit_block_of(chart, r);
+    perform_rest(again, k, active, trace, joins, sum)
 }
 
 fn exit_row(
@@ -65,11 +66,10 @@ fn exit_row(
     ensures { λ s. ⌜ Wrote (places (now (trace .entry)) (now (joins .entry))) (places (now (trace .exit)) (now (joins .exit))) tally s (exitEffects (chartOf (now (chart .entry))) (rowsOf conf) (rowsOf out) (r .0)) ⌝ }
 {
     let sum = emit(trace, tally, EXITED, r.0 as u32);
-    let block = exit_block_of(chart, r);
-    perform_exiting(block, conf, out, r, trace, joins, sum)
+    perform_exiting(chart, conf, out, r, trace, joins, sum)
 }
 
-// The rows out of a configuration.
+// The rows out of a configuration, from the last of the chart's on: no word of a set is asked for that has none of them.
 pub fn exit_effects(
     chart: &[u64],
     conf: RowSet,
@@ -82,7 +82,7 @@ pub fn exit_effects(
     ensures { λ s. ⌜ Wrote (places (now (trace .entry)) (now (joins .entry))) (places (now (trace .exit)) (now (joins .exit))) tally s (exiting (chartOf (now (chart .entry))) (rowsOf conf) (rowsOf out)) ⌝ }
 {
     let mut sum = tally;
-    let mut k: u16 = 256;
+    let mut k: u16 = row_count(chart) as u16;
     loop {
         match out.prev_below(k) {
             Found::At(r) => {

@@ -19,7 +19,7 @@ abbrev μ-loop : tie.MeasureT-loop
 
 loop-holds : tie.Need-loop-holds Inv-loop μ-loop
 unfolding exiting
-loop-holds c = emitting-down _ _ _ _ 256 (omega arith) (c .before .before .before .pre .2)
+loop-holds c = emitting-down _ _ _ _ _ _ (c .before .before .before .before .pre .1) (c .row-count .ensures) (c .before .before .before .before .pre .2)
 
 prev-below-requires : tie.Need-prev-below-requires Inv-loop μ-loop
 prev-below-requires c κs = search needs
@@ -28,7 +28,7 @@ enum-known-r : tie.Need-enum-known-r Inv-loop μ-loop
 enum-known-r c = search needs
 
 exit-row-requires : tie.Need-exit-row-requires Inv-loop μ-loop
-exit-row-requires c κs = let o = found-prev _ _ _ (c .before .before .before .before .before .prev-below .ensures) _ (c .before .before .before .r .given .1) in (record { tables = c .before .before .before .before .before .before .before .before .before .before .pre .0; below = c .before .before .before .before .before .before .before .before .before .before .pre .1 .at _ (o .here) }, emitting-room _ _ _ _ _ _ _ _ _ (rest-before _ _ _ (c .before .before .before .before .before .prev-below .ensures) _ (c .before .before .before .r .given .1)) (c .before .before .before .before .before .before .loop .inv))
+exit-row-requires c κs = let o = found-prev _ _ _ (c .before .before .before .before .before .prev-below .ensures) _ (c .before .before .before .r .given .1) in (record { tables = c .before .before .before .before .before .before .before .before .before .before .before .pre .0; below = c .before .before .before .before .before .before .before .before .before .before .before .pre .1 .at _ (o .here) }, emitting-room _ _ _ _ _ _ _ _ _ (rest-before _ _ _ (c .before .before .before .before .before .prev-below .ensures) _ (c .before .before .before .r .given .1)) (c .before .before .before .before .before .before .loop .inv))
 
 cast-k : tie.Need-cast-k Inv-loop μ-loop
 cast-k c = search needs
@@ -52,17 +52,25 @@ returns : tie.Need-returns Inv-loop μ-loop
 unfolding exiting
 returns c = emitting-end _ _ _ _ _ _ _ (rest-bottom _ _ _ (c .before .before .prev-below .ensures) (c .enum-told .given .1)) (c .before .before .before .loop .inv)
 
+row-count-requires : tie.Need-row-count-requires Inv-loop μ-loop
+row-count-requires c κs = search needs
+
+cast-k-2 : tie.Need-cast-k-2 Inv-loop μ-loop
+cast-k-2 c = search needs
+
 pub exit-effects-spec : {M : Type 1} → statement M
 exit-effects-spec =
     tie.close
     (tie.spec
     Inv-loop
     μ-loop
+    row-count-requires
+    cast-k
     loop-holds
     prev-below-requires
     enum-known-r
     exit-row-requires
-    cast-k
+    cast-k-2
     loop-less
     loop-again
     enum-told

@@ -2,7 +2,6 @@ use mathlib.Core.List.{[]}
 use mathlib.Core.Path.{refl}
 use native.Mathlib.Omega.{arith}
 use borrow.Author.Needs.{needs}
-use Rattle.effects.specs.Blocks.{block-asked, block-wrote}
 use Rattle.effects.specs.Choosers.{taken-room, chosen-room, taken-block-room, taken-wrote}
 use Rattle.effects.specs.Trace.{queues, places}
 use Rattle.effects.proofs.transitions.take_transition.Statement.{statement}
@@ -29,11 +28,8 @@ cast-emit-2 c = omega (arith, c .before .before .before .before .before .before 
 emit-requires-2 : tie.Need-emit-requires-2
 emit-requires-2 c κs = (record { some = omega arith; most = omega arith; index = omega (arith, c .before .before .before .before .before .before .before .before .before .before .shared-slice-known2 .given (c .before .before .before .before .before .before .before .before .before .before .before .before .args .t .0)) }, unfold queues in refl, chosen-room _ _ _ _ _ _ (c .before .before .before .before .before .before .before .before .before .before .before .before .pre .2) _ _ (c .before .before .before .before .before .emit .ensures .wrote []))
 
-transition-block-of-requires : tie.Need-transition-block-of-requires
-transition-block-of-requires c κs = search needs
-
-perform-block-requires : tie.Need-perform-block-requires
-perform-block-requires c κs = block-asked _ _ _ _ (c .before .before .transition-block-of .ensures) _ (c .before .before .before .before .before .before .before .before .before .before .before .before .before .before .before .before .before .before .pre .0 .tables) (taken-block-room _ _ _ _ _ _ (c .before .before .before .before .before .before .before .before .before .before .before .before .before .before .before .before .before .before .pre .2) _ _ (c .before .before .before .before .before .before .before .before .before .before .before .emit .ensures .wrote []) _ _ (c .before .before .before .before .before .emit2 .ensures .wrote []))
+perform-taken-requires : tie.Need-perform-taken-requires
+perform-taken-requires c κs = (c .before .before .before .before .before .before .before .before .before .before .before .before .before .before .before .before .before .pre .0, taken-block-room _ _ _ _ _ _ (c .before .before .before .before .before .before .before .before .before .before .before .before .before .before .before .before .before .pre .2) _ _ (c .before .before .before .before .before .before .before .before .before .before .emit .ensures .wrote []) _ _ (c .before .before .before .before .emit2 .ensures .wrote []))
 
 same-length : tie.Need-same-length
 same-length c = search needs
@@ -42,7 +38,7 @@ same-length-2 : tie.Need-same-length-2
 same-length-2 c = search needs
 
 returns : tie.Need-returns
-returns c = taken-wrote _ _ _ _ _ _ (c .before .before .before .before .before .before .before .before .before .before .before .before .before .before .before .before .before .before .before .before .before .before .before .pre .2) _ _ (c .before .before .before .before .before .before .before .before .before .before .before .before .before .before .before .before .emit .ensures .wrote _) _ _ (c .before .before .before .before .before .before .before .before .before .before .emit2 .ensures .wrote _) _ _ (block-wrote _ _ _ _ (c .before .before .before .before .before .before .before .transition-block-of .ensures) _ _ _ _ (c .before .before .before .before .perform-block .ensures))
+returns c = taken-wrote _ _ _ _ _ _ (c .before .before .before .before .before .before .before .before .before .before .before .before .before .before .before .before .before .before .before .before .before .before .pre .2) _ _ (c .before .before .before .before .before .before .before .before .before .before .before .before .before .before .before .emit .ensures .wrote _) _ _ (c .before .before .before .before .before .before .before .before .before .emit2 .ensures .wrote _) _ _ (c .before .before .before .before .perform-taken .ensures)
 
 pub take-transition-spec : {M : Type 1} → statement M
 take-transition-spec =
@@ -55,8 +51,7 @@ take-transition-spec =
     shared-slice-read-emit
     cast-emit-2
     emit-requires-2
-    transition-block-of-requires
-    perform-block-requires
+    perform-taken-requires
     same-length
     same-length-2
     returns)
