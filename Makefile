@@ -6,7 +6,7 @@
 # make chart-a   plays chart A by the second program and prints its trace in words
 # make bench   how long the library takes, beside the second program, an ordinary engine and where it is installed Qt 6 SCXML (docs/bench.md)
 # make bench-host   an event as a host sends it, alone, and which wanted ratios are missed (OPTIONS=--strict: fails then); bench-qt installs Qt 6 SCXML first
-#                   (Debian), bench-instructions counts instructions, bench-worst measures the dearest calls by rows, bench-matching prints the table of matching alone, bench-reading that of reading texts
+#                   (Debian), bench-instructions counts instructions (bench-rounds-instructions those of a round alone), bench-worst measures the dearest calls by rows, bench-matching prints the table of matching alone, bench-reading that of reading texts
 # make examples   writes the computed examples anew (crates/examples)
 # make cases   writes what the programs over the crates read and print anew
 # make expected   writes what the life cycle prints anew
@@ -23,7 +23,7 @@ VERSION = $(shell sed -n 's/^\#define AUTTERVIL_VERSION "\(.*\)"/\1/p' include/a
 LIFECYCLE = examples/lifecycle
 
 .DEFAULT_GOAL := lib
-.PHONY: test demo lib bench bench-matching bench-reading bench-host bench-worst bench-qt bench-instructions agree examples cases second linked clean lifecycle picture chart-a test-c expected absolute install uninstall
+.PHONY: test demo lib bench bench-matching bench-reading bench-host bench-worst bench-qt bench-instructions bench-rounds-instructions agree examples cases second linked clean lifecycle picture chart-a test-c expected absolute install uninstall
 
 test:
 	@bash tests/run
@@ -129,8 +129,16 @@ bench-qt:
 	@rm -f $(HOST)/host
 	@$(MAKE) --no-print-directory bench-host
 
-bench-instructions: $(HOST)/host $(HOST)/worst
-	@bench/host/instructions $(HOST)/host $(HOST)/worst
+# Rounds alone, for counting: it can be linked with the library and the header of another version.
+$(HOST)/rounds: $(LIB) include/auttervil.h bench/host/rounds.cpp bench/host/charts.hpp
+	@mkdir -p $(HOST)
+	@$(CXX) -std=c++17 -O2 -Wall -Wextra -Iinclude bench/host/rounds.cpp -o $@ $(LIB)
+
+bench-rounds-instructions: $(HOST)/rounds
+	@bench/host/instructions --rounds $(HOST)/rounds
+
+bench-instructions: $(HOST)/host $(HOST)/worst $(HOST)/rounds
+	@bench/host/instructions $(HOST)/host $(HOST)/worst $(HOST)/rounds
 
 agree: lib
 	@AUTTERVIL_LIBRARY=$(CURDIR)/build $(CARGO) $(BENCH) --bin agree

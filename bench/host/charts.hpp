@@ -12,9 +12,12 @@
     std::exit(1);
 }
 
+// The initial list, and so many host actions in its entry and its exit block: charts that Qt is given have none of them.
 struct Row {
     uint64_t kind;
     std::string parent, id;
+    std::string initial = {};
+    size_t entry = 0, exit = 0;
 };
 
 // The descriptors stand in one text; without a target there is none, and an event that is raised is all that the block does.
@@ -111,13 +114,18 @@ class Compiled
 public:
     explicit Compiled(const Description &d)
     {
-        const size_t rows = d.row_count(), transitions = d.transitions.size(), descriptors = AUTTERVIL_DESCRIPTORS_EACH * transitions;
-        std::vector<uint64_t> cells(AUTTERVIL_NUMBERS_CELLS(rows, transitions, transitions, descriptors, transitions));
+        const size_t rows = d.row_count(), transitions = d.transitions.size(), descriptors = AUTTERVIL_DESCRIPTORS_EACH * transitions, references = transitions + rows;
+        size_t actions = transitions;
+        for (const Row &row : d.rows)
+            actions += row.entry + row.exit;
+        std::vector<uint64_t> cells(AUTTERVIL_NUMBERS_CELLS(rows, transitions, references, descriptors, actions));
         std::vector<uint8_t> bytes(AUTTERVIL_NAMES_BYTES(AUTTERVIL_MOST_NAMES));
         auttervil_builder b;
-        auttervil_begin(&b, {rows, transitions, transitions, descriptors, transitions, AUTTERVIL_MOST_NAMES}, cells.data(), cells.size(), bytes.data(), bytes.size());
+        auttervil_begin(&b, {rows, transitions, references, descriptors, actions, AUTTERVIL_MOST_NAMES}, cells.data(), cells.size(), bytes.data(), bytes.size());
         for (const Row &row : d.rows)
             auttervil_add_row(&b, row.kind, row.parent.c_str(), row.id.c_str());
+        for (const Row &row : d.rows)
+            add_parts(&b, row);
         for (const Transition &t : d.transitions) {
             auttervil_add_transition(&b, t.source.c_str(), t.event.c_str(), t.target.c_str());
             if (!t.raised.empty())
@@ -138,4 +146,19 @@ public:
     std::vector<uint64_t> numbers;
     std::vector<uint8_t> names;
     auttervil_chart chart;
+
+private:
+    static void add_parts(auttervil_builder *b, const Row &row)
+    {
+        if (row.entry > 0)
+            auttervil_add_entry(b, row.id.c_str());
+        for (size_t i = 0; i < row.entry; i++)
+            auttervil_add_host(b, i);
+        if (row.exit > 0)
+            auttervil_add_exit(b, row.id.c_str());
+        for (size_t i = 0; i < row.exit; i++)
+            auttervil_add_host(b, i);
+        if (!row.initial.empty())
+            auttervil_add_list(b, row.id.c_str(), row.initial.c_str());
+    }
 };
