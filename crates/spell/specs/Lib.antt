@@ -1,0 +1,6 @@
+pub mod Laid
+pub mod Digits
+pub mod Ready
+pub mod Lists
+pub mod Actions
+pub mod Blocks
