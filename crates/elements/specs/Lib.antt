@@ -1,0 +1,4 @@
+pub mod Filled
+pub mod Transitions
+pub mod Lists
+pub mod Starts
