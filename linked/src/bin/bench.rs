@@ -3,13 +3,17 @@
 //! docs/bench.md.
 
 use linked::library::{self, Compiled, Parts};
+use second::builder::Builder;
 use second::compiled::{compile, CompiledChart, Places};
 use second::encode::Layout;
 use second::generate::{self, Flavour};
-use second::limits::QUEUE_NAMES;
+use second::limits::{HEADER_CELLS, QUEUE_NAMES, ROW_CELLS};
 use second::near_misses::Lent;
+use second::numbers::RowNumber;
 use second::random::Random;
+use second::row_set::RowSet;
 use second::session::{Session, ACCEPTED, BAD_NAME, BAD_SESSION};
+use second::tables::Kind;
 use std::hint::black_box;
 use std::time::{Duration, Instant};
 
@@ -22,6 +26,10 @@ const CHARTS: usize = 50;
 const TURNS: usize = 200;
 /// A turn does each call so often: so little that other work on the machine seldom falls into it.
 const TIMES: usize = 4;
+
+/// Where a row's list stands among its cells, and room for the trace of any start.
+const LIST_CELL: usize = 7;
+const MAX_TRACE: usize = 65_536;
 
 /// The name that is posted, and what is no name.
 const NAME: &[u8] = b"event.of.some.length";
@@ -56,11 +64,11 @@ fn session(random: &mut Random, compiled: &CompiledChart) -> Session {
     }
 }
 
-fn bench(lent: Lent, random: &mut Random) -> Bench {
+fn bench(lent: Lent, session: impl FnOnce(&CompiledChart) -> Session) -> Bench {
     let places = compile(&lent.spelt.numbers, &lent.spelt.names, lent.place);
-    let places = places.expect("a generated chart is accepted");
+    let places = places.expect("the chart is accepted");
     let compiled = CompiledChart::open(&places.numbers, &places.names).expect("a compiled chart opens");
-    let session = session(random, &compiled);
+    let session = session(&compiled);
     let bench = Bench { lent, places, compiled, session: Both::of(session) };
     assert_eq!([u64::from(given(&bench, NAME)), own(&bench)], [ACCEPTED; 2], "the answers of a post");
     assert_eq!(u64::from(given(&bench, NO_NAME)), BAD_NAME, "the answer where the name is no name");
@@ -76,13 +84,79 @@ fn charts(rows: usize) -> Vec<Bench> {
         let flavour = Flavour::with_rows(&mut random, rows);
         let chart = generate::chart(&mut random, flavour);
         if chart.rows.len() == rows {
-            found.push(bench(Lent::of(&chart, Layout::Plain), &mut random));
+            found.push(bench(Lent::of(&chart, Layout::Plain), |compiled| session(&mut random, compiled)));
         }
         if found.len() == CHARTS {
             break;
         }
     }
     found
+}
+
+/// A session that was just started.
+fn started(compiled: &CompiledChart) -> Session {
+    Session::ended().start(Some(compiled), MAX_TRACE).session
+}
+
+/// States one in the other around a parallel of as many leaves as there are states: each state and the
+/// root have all leaves in their initial lists, which are one part of the table of references.
+fn shared_lists(rows: usize) -> Bench {
+    let mut builder = Builder::new();
+    let mut around = String::new();
+    let outer = rows / 2 - 2;
+    for i in 0..outer {
+        let id = format!("s{i}");
+        builder.state(&around, &id);
+        around = id;
+    }
+    builder.parallel(&around, "p");
+    let leaves: Vec<String> = (outer + 2..rows).map(|i| format!("a{i}")).collect();
+    for leaf in &leaves {
+        builder.state("p", leaf);
+    }
+    builder.list("", &leaves.join(" "), &[]);
+    let mut lent = Lent::of(&builder.chart, Layout::Plain);
+    let list = HEADER_CELLS + LIST_CELL..HEADER_CELLS + LIST_CELL + 2;
+    for row in 1..=outer {
+        lent.spelt.numbers.copy_within(list.clone(), list.start + ROW_CELLS * row);
+    }
+    bench(lent, started)
+}
+
+/// Parallels one in the other, each with a deep history that stores all leaves below.
+fn stored_sets(rows: usize) -> Bench {
+    let mut builder = Builder::new();
+    let mut around = String::new();
+    for i in 0..(rows - 1) / 4 {
+        let [parallel, history, a, b] = ["p", "h", "a", "b"].map(|letter| format!("{letter}{i}"));
+        builder
+            .parallel(&around, &parallel)
+            .deep(&parallel, &history)
+            .state(&parallel, &a)
+            .state(&parallel, &b);
+        builder.list(&history, &a, &[]);
+        around = parallel;
+    }
+    for i in builder.chart.rows.len()..rows {
+        builder.state(&around, &format!("c{i}"));
+    }
+    let chart = builder.chart;
+    let is_leaf = |row: &RowNumber| chart.kind(*row) == Kind::State;
+    let leaves: Vec<RowNumber> = chart.row_numbers().filter(is_leaf).collect();
+    bench(Lent::of(&chart, Layout::Plain), |compiled| {
+        let mut session = started(compiled);
+        for row in chart.row_numbers().filter(|&row| chart.kind(row) == Kind::DeepHistory) {
+            let below: Vec<RowNumber> = leaves.iter().copied().filter(|leaf| leaf.0 > row.0).collect();
+            session.stored[row.0] = RowSet::of(&below);
+        }
+        session
+    })
+}
+
+/// The chart's numbers and names held against a copy of them: the least that reading them can take.
+fn compare(chart: &Bench, copy: &Places) {
+    let places = black_box(&chart.places);
+    black_box(places.numbers == copy.numbers && places.names == copy.names);
 }
 
 fn time(chart: &mut Bench, call: impl Fn(&mut Bench)) -> Duration {
@@ -234,6 +308,29 @@ fn print_sessions(table: &[Row]) {
     }
 }
 
+/// The microseconds of a call of the library, the second program's left aside.
+fn shortest(chart: &mut Bench, call: impl Fn(&mut Bench) + Copy) -> f64 {
+    let shortest = (0..TURNS).map(|_| time(chart, call)).min().unwrap_or_default();
+    shortest.as_nanos() as f64 / (1000 * TIMES) as f64
+}
+
+/// The dearest charts and sessions that we know of, beside `memcmp` of the chart.
+fn print_dearest(made: fn(usize) -> Bench) {
+    println!("| rows | bytes of the chart | memcmp of it | check 8 | ns a byte | test for 9 | ns a byte |");
+    println!("|---|---|---|---|---|---|---|");
+    for rows in SIZES {
+        let mut chart = made(rows);
+        let copy = Places { numbers: chart.places.numbers.clone(), names: chart.places.names.clone() };
+        let bytes = (8 * copy.numbers.len() + copy.names.len()) as f64;
+        let least = shortest(&mut chart, |chart| compare(chart, &copy));
+        let calls = [library_checks, library_refuses_the_name, library_refuses_the_session];
+        let [check, behind, before] = calls.map(|call| shortest(&mut chart, call));
+        let test = behind - before;
+        let each = |time: f64| format!("{time:.2} µs | {:.2}", 1000.0 * time / bytes);
+        println!("| {rows} | {bytes} | {least:.2} µs | {} | {} |", each(check), each(test));
+    }
+}
+
 fn main() {
     let table = SIZES.map(measured);
     print_charts(&table);
@@ -241,4 +338,8 @@ fn main() {
     print_growth(&table);
     println!();
     print_sessions(&table);
+    println!();
+    print_dearest(shared_lists);
+    println!();
+    print_dearest(stored_sets);
 }
