@@ -168,9 +168,9 @@ static void the_fullest_texts(void)
         {"<scxml>", "<final/>", "", "</scxml>", AUTTERVIL_BAD_TEXT},
         {"<scxml>", "<final id='a'/>", "", "</scxml>", AUTTERVIL_SIZE},
         {"<scxml>", "<transition/>", "", "</scxml>", AUTTERVIL_SIZE},
-        {"<scxml><state id='a'><onentry>", "<else/>", "", "</onentry></state></scxml>", AUTTERVIL_LISTS},
-        {"<scxml><state id='a'><onentry>", "<if cond=\"In('a')\"/>", "", "</onentry></state></scxml>", AUTTERVIL_LISTS},
-        {"<scxml><state id='a'><onentry>", "<if cond=\"In('a')\">", "</if>", "</onentry></state></scxml>", AUTTERVIL_LISTS},
+        {"<scxml><state id='a'><onentry>", "<else/>", "", "</onentry></state></scxml>", AUTTERVIL_SIZE},
+        {"<scxml><state id='a'><onentry>", "<if cond=\"In('a')\"/>", "", "</onentry></state></scxml>", AUTTERVIL_SIZE},
+        {"<scxml><state id='a'><onentry>", "<if cond=\"In('a')\">", "</if>", "</onentry></state></scxml>", AUTTERVIL_SIZE},
     };
     static char text[AUTTERVIL_MOST_TEXT];
     size_t i, n, many, length;
