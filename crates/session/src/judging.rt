@@ -17,7 +17,7 @@ use state::RUNNING;
 use tables::columns::SET_WIDTH;
 
 // So many places are judged one by one; with more of them it takes less to judge all together.
-const FEW_PLACES: u64 = 6;
+const FEW_PLACES: u64 = 32;
 
 // "is closing exactly if a final under root is active; is ended exactly if nothing is active, its queues then empty"; legal unless ended.
 pub fn mode_holds(chart: &[u64], conf: RowSet, internal: u64, external: u64, mode: u64) -> bool
