@@ -109,8 +109,8 @@ static void bad_tags(void)
     IS_BAD(IN("<onentry><log ></log></onentry>"), "label is missing");
     IS_BAD(IN("<onentry><if></if></onentry>"), "cond is missing");
     IS_BAD(IN("<onentry><elseif/></onentry>"), "cond is missing");
-    IS_BAD(IN("<onentry><send delay='1'/></onentry>"), "event is missing");
-    IS_BAD(IN("<onentry><cancel/></onentry>"), "sendid is missing");
+    IS_BAD(IN("<onentry><send event='e'/></onentry>"), "<send> may not stand in this <onentry>");
+    IS_BAD(IN("<onexit><cancel sendid='e'/></onexit>"), "<cancel> may not stand in this <onexit>");
     IS_BAD(IN("<initial><transition/></initial>"), "target is missing: an initial transition has one");
     IS_BAD(IN("<initial/>"), "an <initial> holds a transition");
     /* Attributes that may not stand there. */
@@ -143,7 +143,6 @@ static void bad_values(void)
     IS_BAD(IN("<transition cond=''/>"), "cond is In('id'), without blanks");
     IS_BAD(IN("<onentry><if cond=\"In( 'a' )\"/></onentry>"), "cond is In('id'), without blanks");
     IS_BAD(IN("<onentry><log label='70000'/></onentry>"), "label is a number of at most 65,535");
-    IS_BAD(IN("<onentry><send event='e' delay='1s'/></onentry>"), "delay is a number of at most 4,294,967,295");
     IS_BAD(IN("<transition type='x' event='e'/>"), "type of a transition is external or internal");
     IS_BAD(IN("<state id='b'/><history id='h' type='x'/>"), "type of a history is shallow or deep");
     IS_BAD(TEXT("<scxml version='1.1'/>"), "version is 1.0");
@@ -180,7 +179,6 @@ static void broken_rules(void)
     CHECK(is_refused(actions, strlen(actions), AUTTERVIL_SIZE, "more than 32 actions in a block; an if counts twice, for its end"));
     CHECK(is_refused(IN("<transition event='a b c d e'/>"), AUTTERVIL_SIZE, "more than 4 descriptors of a transition"));
     CHECK(is_refused(IN("<transition event='e' target='a a a a a a a a a'/>"), AUTTERVIL_SIZE, "more than 8 targets of a transition"));
-    CHECK(is_refused(IN("<onexit><send event='e'/></onexit>"), AUTTERVIL_SIZE, "send and cancel are of the grammar, but no chart may have them yet"));
     /* An initial list may have nine; the transition behind it may not. */
     (void)snprintf(text, sizeof text, "<scxml><state id='s'><initial><transition target='a a a a a a a a a'/></initial><state id='a'>%s</state></state></scxml>", nine);
     CHECK(is_refused(text, strlen(text), AUTTERVIL_SIZE, "more than 8 targets of a transition") && auttervil_seek(text, strlen(text), AUTTERVIL_SIZE).at > 90);
