@@ -34,11 +34,11 @@ unspelt w = record { spell = λ h. absurd (omega arith) }
 unfoldable fits : ℕ → ℕ → Bool
 fits w k = eqb (cond (leb 8 k) (byteOf (tailOf w) (k - 8)) (byteOf (getD lows w 0) k)) (wordByte w k)
 
-unfoldable allBelow : (ℕ → Bool) → ℕ → Bool
+unfoldable pub allBelow : (ℕ → Bool) → ℕ → Bool
 allBelow p zero = true
 allBelow p (suc n) = p n && allBelow p n
 
-each : (p : ℕ → Bool) (n : ℕ) → allBelow p n ≡ true → (i : ℕ) → i < n → p i ≡ true
+pub each : (p : ℕ → Bool) (n : ℕ) → allBelow p n ≡ true → (i : ℕ) → i < n → p i ≡ true
 unfolding allBelow
 each p zero h i l = absurd (omega arith)
 each p (suc n) h i l = by (eqb i n) refl (λ m. each p n (second (p n) (allBelow p n) h) i m)

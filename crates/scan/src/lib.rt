@@ -5,6 +5,7 @@ ghost use Rattle.grammar.specs.Tables.{words, menus, attrs, kinds, needed, open
 ghost use Rattle.grammar.specs.Grammar.{isSpace, isChar, isToken, wordByte, agree, follows, pick, attribute, has, added, pickAttribute, isComplete, mayEnd, owner, after, opens, kindOf};
 
 pub mod letters;
+mod packed;
 mod tables;
 
 // ---- bytes
@@ -49,6 +50,10 @@ pub fn menu_cell(i: usize) -> u8
     ensures { λ r. ⌜ r ≡ getD menus i 48 ⌝ }
 {
     if i < 264 {
+        let p = packed::packed(i / 8);
+        if 0 < p {
+            return letters::byte_of(p, (i % 8) as u64);
+        }
         return tables::MENUS[i];
     }
     48
@@ -58,6 +63,10 @@ pub fn attr_cell(i: usize) -> u8
     ensures { λ r. ⌜ r ≡ getD attrs i 48 ⌝ }
 {
     if i < 96 {
+        let p = packed::packed(33 + i / 8);
+        if 0 < p {
+            return letters::byte_of(p, (i % 8) as u64);
+        }
         return tables::ATTRS[i];
     }
     48
@@ -66,8 +75,14 @@ pub fn attr_cell(i: usize) -> u8
 pub fn kind_cell(i: usize) -> u8
     ensures { λ r. ⌜ r ≡ getD kinds i 0 ⌝ }
 {
+    if i < 32 {
+        return packed::pair_of(39406501051304224, i as u64);
+    }
+    if i < 64 {
+        return packed::pair_of(1224979098778992896, (i - 32) as u64);
+    }
     if i < 96 {
-        return tables::KINDS[i];
+        return packed::pair_of(1, (i - 64) as u64);
     }
     0
 }
@@ -76,6 +91,10 @@ pub fn need_cell(i: usize) -> u8
     ensures { λ r. ⌜ r ≡ getD needed i 4 ⌝ }
 {
     if i < 24 {
+        let p = packed::packed(60 + i / 8);
+        if 0 < p {
+            return letters::byte_of(p, (i % 8) as u64);
+        }
         return tables::NEEDED[i];
     }
     4
@@ -85,6 +104,10 @@ pub fn open_cell(i: usize) -> u8
     ensures { λ r. ⌜ r ≡ getD opened i 14 ⌝ }
 {
     if i < 24 {
+        let p = packed::packed(57 + i / 8);
+        if 0 < p {
+            return letters::byte_of(p, (i % 8) as u64);
+        }
         return tables::OPENED[i];
     }
     14
@@ -94,6 +117,10 @@ pub fn owner_cell(i: usize) -> u8
     ensures { λ r. ⌜ r ≡ getD owners i 48 ⌝ }
 {
     if i < 32 {
+        let p = packed::packed(53 + i / 8);
+        if 0 < p {
+            return letters::byte_of(p, (i % 8) as u64);
+        }
         return tables::OWNERS[i];
     }
     48
@@ -103,7 +130,7 @@ pub fn end_cell(i: usize) -> u8
     ensures { λ r. ⌜ r ≡ getD ends i 0 ⌝ }
 {
     if i < 32 {
-        return tables::ENDS[i];
+        return packed::bit_of(4294967036, i as u64);
     }
     0
 }
@@ -112,7 +139,7 @@ pub fn bit_cell(i: usize) -> u8
     ensures { λ r. ⌜ r ≡ getD bits i 1 ⌝ }
 {
     if i < 64 {
-        return tables::BITS[i];
+        return packed::bit_of(18364758544493064720, i as u64);
     }
     1
 }
@@ -121,6 +148,10 @@ pub fn add_cell(i: usize) -> u8
     ensures { λ r. ⌜ r ≡ getD adds i 15 ⌝ }
 {
     if i < 64 {
+        let p = packed::packed(45 + i / 8);
+        if 0 < p {
+            return letters::byte_of(p, (i % 8) as u64);
+        }
         return tables::ADDS[i];
     }
     15
