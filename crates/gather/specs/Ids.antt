@@ -13,7 +13,10 @@ use Rattle.marks.specs.declared.Mark.{Mark}
 use Rattle.marks.specs.declared.Mark.the-variants.{Nothing, Valued, Tagged}
 use Rattle.marks.specs.declared.Walk.{Walk}
 use Rattle.marks.specs.Marks.{marked, isMark, valueFrom, valueTo}
-use Rattle.marks.specs.Walks.{restOf, Standing, Next, beginning, begin-stands, begin-rest}
+use Rattle.markup.specs.declared.Scanned.{Scanned}
+use Rattle.markup.specs.Passes.{Found}
+use Rattle.marks.specs.Told.{Told}
+use Rattle.marks.specs.Walks.{restOf, Standing, Next, beginning, begin-stands, begin-rest, begin-told}
 use Rattle.marks.specs.Grouped.{shapeOf, grouped}
 use Rattle.marks.specs.Joined.{joined}
 use Rattle.reading.specs.Tags.{Part, tagsOf}
@@ -23,6 +26,8 @@ use Rattle.weights.specs.Paid.{text-ids}
 use Rattle.values.specs.Ids.{idsFrom, ids-length, Index, Noted, noted-all}
 use Rattle.values.specs.Notes.{Forgotten, forgotten-index, NoteRoom, NotedMore}
 use Rattle.gather.specs.declared.ids.Id.{Id}
+use Rattle.gather.specs.declared.ids.Ids.{Ids}
+use Rattle.gather.specs.Ended.{Stopped, endedAt, ended-found}
 use Rattle.gather.specs.Parts.{partAt, states-snoc, value-snoc, absent}
 
 -- ---- the id of the tag that goes on
@@ -154,8 +159,14 @@ pub record Gathered (text levels ids : List ℕ) (n : ℕ) : Type 0 where
   pub noted : Noted text ids n
   pub ids-are : idsFrom text ids n 0 ≡ idsOf (tagsOf text)
 
+-- the ids of a text of the grammar, and whether it is one
+pub record GatheredAs (text levels ids : List ℕ) (r : Ids) : Type 0 where
+  pub gathered : Gathered text levels ids (r .count)
+  pub found : Found text (r .at) (r .whole)
+
 pub record Gathering (text levels ids : List ℕ) (w : Walk) (id : Id) (n : ℕ) : Type 0 where
   pub standing : Standing text levels w
+  pub told : Told text levels (w .cursor) (w .index)
   pub room : length ids ≡ 15070
   pub index : Index text ids n
   pub parts : List Part
@@ -171,6 +182,7 @@ ids-start text levels ids₀ ids w h f e =
     rw e
     (record {
       standing = begin-stands text levels (h .short) (h .deep);
+      told = begin-told text levels;
       room = f .size ∙ h .room;
       index = forgotten-index text ids₀ ids (h .short) (begun-keys text levels ids₀ h) f;
       parts = [];
@@ -197,7 +209,10 @@ module _ (text levels ids : List ℕ) (w : Walk) (id : Id) (n : ℕ) (k : Gather
   ids-fits = let i = k .stating .inside in let s = k .standing .short in omega arith
 
 module _ (text levels ids : List ℕ) (w : Walk) (id : Id) (n : ℕ) (k : Gathering text levels ids w id n) (levels' : List ℕ) (r : Walk) (next : Next text levels levels' w r) where
-  pub ids-end : (found : Bool) → found ≡ isMark (r .mark) → not found ≡ true → Gathered text levels' ids n
+  pub ids-stopped : Stopped r
+  ids-stopped = record { behind = (next .told (k .told)) .behind }
+
+  ids-end : (found : Bool) → found ≡ isMark (r .mark) → not found ≡ true → Gathered text levels' ids n
   unfolding grouped idsOf
   ids-end found e q =
       let none = next .none (sym e ∙ not-true found q) in
@@ -206,6 +221,10 @@ module _ (text levels ids : List ℕ) (w : Walk) (id : Id) (n : ℕ) (k : Gather
         noted = noted-all text ids n (k .index);
         ids-are = sym (k .left ∙ ap (λ (l : List Mark). idsFrom text ids n 0 ++ idsOf (grouped text (k .parts) l)) none ∙ append-nil (idsFrom text ids n 0));
       }
+
+  pub ids-over : (found : Bool) → found ≡ isMark (r .mark) → not found ≡ true → (z : Scanned) → z ≡ endedAt (length text) r → GatheredAs text levels' ids (record { count = n; at = z .at; whole = z .whole })
+  ids-over found e q z f =
+      record { gathered = ids-end found e q; found = ended-found text levels' r (next .told (k .told)) (next .over (sym e ∙ not-true found q)) (k .standing .short) z f }
 
   pub ids-less : (found : Bool) → found ≡ isMark (r .mark) → not found ≡ false → length text - r .index < length text - w .index
   ids-less found e q = let more = next .further (sym e ∙ not-false found q) in let i = next .standing .within in omega arith
@@ -244,6 +263,7 @@ module _ (text levels ids : List ℕ) (w : Walk) (id : Id) (n : ℕ) (k : Gather
             rw (same-all .0, same-all .1)
             (record {
               standing = next .standing;
+              told = next .told (k .told);
               room = k .room;
               index = k .index;
               parts = k .parts ++ partAt text d v a b ∷ [];
@@ -258,6 +278,7 @@ module _ (text levels ids : List ℕ) (w : Walk) (id : Id) (n : ℕ) (k : Gather
             rw (m .count-is)
             (record {
               standing = next .standing;
+              told = next .told (k .told);
               room = m .size ∙ k .room;
               index = m .index;
               parts = [];
@@ -271,6 +292,7 @@ module _ (text levels ids : List ℕ) (w : Walk) (id : Id) (n : ℕ) (k : Gather
             rw (same-all .0, same-all .1)
             (record {
               standing = next .standing;
+              told = next .told (k .told);
               room = k .room;
               index = k .index;
               parts = [];

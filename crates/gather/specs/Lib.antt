@@ -1,3 +1,4 @@
 pub mod Parts
+pub mod Ended
 pub mod Ids
 pub mod Faults

@@ -5,11 +5,15 @@ ghost use Prim.Native.Nat.{_≤_, _<_};
 ghost use Rattle.marks.specs.Marks.{valueFrom, valueTo};
 ghost use Rattle.marks.specs.Grouped.{shapeOf};
 ghost use Rattle.reading.specs.Faults.{isClosing, isRowTag};
-ghost use Rattle.gather.specs.Ids.{withValue, idAfter, isRowMark, RowRoom, RowNoted, Begun, Gathered};
+ghost use Rattle.gather.specs.Ended.{Stopped, endedAt};
+ghost use Rattle.gather.specs.Ids.{withValue, idAfter, isRowMark, RowRoom, RowNoted, Begun, GatheredAs};
 use marks::Mark;
+use marks::Walk;
 use marks::begin;
 use marks::is_mark;
 use marks::next_mark;
+use markup::Scanned;
+use markup::finish;
 use values::noted::forget;
 use values::noted::note;
 use values::noted::place_of;
@@ -85,10 +89,34 @@ fn note_row(text: &[u8], ids: &mut [u16], n: usize, row: bool, at: usize, to: us
     n
 }
 
-// How many rows the text has beside the root; the place and the length of each one's id, 0 and 0 where it states none.
-pub fn gather_ids(text: &[u8], levels: &mut [u8], ids: &mut [u16]) -> usize
+// What the walk knows of the grammar once it has found no mark, in a text of n bytes.
+fn ended(n: usize, w: Walk) -> Scanned
+    requires { ⌜ Stopped w ⌝ }
+    ensures { λ r. ⌜ r ≡ endedAt n w ⌝ }
+{
+    let c = w.cursor;
+    let live = c.live;
+    let i = w.index;
+    if !live {
+        let at = i - 1;
+        return Scanned { at, whole: false };
+    }
+    let place = c.place;
+    let top = c.top;
+    finish(n, place, top, i)
+}
+
+// How many rows the text has beside the root, the offset of its first fault if it is not of the grammar, and whether it is of the grammar.
+pub struct Ids {
+    pub count: usize,
+    pub at: usize,
+    pub whole: bool,
+}
+
+// The place and the length of each row's id, 0 and 0 where it states none. The first walk over a text: what it gathers counts if the text is of the grammar.
+pub fn gather_ids(text: &[u8], levels: &mut [u8], ids: &mut [u16]) -> Ids
     requires { ⌜ Begun (now text) (now levels) (now ids) ⌝ }
-    ensures { λ n. ⌜ Gathered (now (text .entry)) (now (levels .exit)) (now (ids .exit)) n ⌝ }
+    ensures { λ r. ⌜ GatheredAs (now (text .entry)) (now (levels .exit)) (now (ids .exit)) r ⌝ }
 {
     forget(ids);
     let mut w = begin();
@@ -103,7 +131,12 @@ pub fn gather_ids(text: &[u8], levels: &mut [u8], ids: &mut [u16]) -> usize
         let m = next.mark;
         let found = is_mark(m);
         if !found {
-            return n;
+            let s = ended(text.len(), next);
+            return Ids {
+                count: n,
+                at: s.at,
+                whole: s.whole,
+            };
         }
         let row = is_row_mark(m);
         let at = id.at;

@@ -1,4 +1,5 @@
 pub mod Marks
+pub mod Told
 pub mod Walks
 pub mod Arms
 pub mod Grouped

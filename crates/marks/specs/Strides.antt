@@ -15,7 +15,8 @@ use Rattle.markup.specs.declared.Cursor.{Cursor}
 use Rattle.markup.specs.declared.leaps.Leap.{Leap}
 use Rattle.markup.specs.Growth.{wordAt}
 use Rattle.markup.specs.Stack.{levels, stateAt, stateOf}
-use Rattle.markup.specs.Leads.{Led, Leads, stay, on, leads-order, leads-word}
+use Rattle.markup.specs.Leads.{Led, Leads, stay, on, leads-order, leads-word, leads-reached}
+use Rattle.markup.specs.Passes.{Reached}
 use Rattle.markup.specs.Runs.{Ends, Leapt}
 use Rattle.reading.specs.declared.Zone.{Zone}
 use Rattle.reading.specs.declared.Zone.the-variants as zones
@@ -24,6 +25,7 @@ use Rattle.marks.specs.declared.Mark.{Mark}
 use Rattle.marks.specs.declared.Mark.the-variants.{Nothing}
 use Rattle.marks.specs.declared.Walk.{Walk}
 use Rattle.marks.specs.Marks.{markOf, marked, isMark, beganAt, marksFrom}
+use Rattle.marks.specs.Told.{Told, told-alive}
 use Rattle.marks.specs.Walks.{Noted, Standing, Next, Walking, walk-found, walk-more, walk-dead, walk-end, walk-ready}
 
 -- a zone in which no tag begins or ends
@@ -117,10 +119,15 @@ pub record Strode (text : List ℕ) (w : Walk) (i : ℕ) (r : Walk) : Type 0 whe
   pub no-mark : r .mark ≡ Nothing
   pub marks : (st : List ℕ) → marksFrom (live (w .cursor .place) (w .cursor .top) st) (w .at) (w .element) (w .from) i (drop i text) ≡
       marksFrom (live (r .cursor .place) (r .cursor .top) st) (r .at) (r .element) (r .from) (r .index) (drop (r .index) text)
+  pub reaches : (st : List ℕ) → Reached text i (live (w .cursor .place) (w .cursor .top) st) → Reached text (r .index) (live (r .cursor .place) (r .cursor .top) st)
+
+-- the walk in another place, alive and without a mark
+abbrev pub movedTo : Walk → Place → ℕ → ℕ → ℕ → ℕ → Walk
+movedTo w p t e from i = record { cursor = record { place = p; top = t; depth = w .cursor .depth; live = true }; at = w .at; element = e; from = from; index = i; mark = Nothing }
 
 module _ (text : List ℕ) (w : Walk) (i : ℕ) (ready : Ready text w i) where
-  pub stride-none : Strode text w i (record { cursor = record { place = w .cursor .place; top = w .cursor .top; depth = w .cursor .depth; live = true }; at = w .at; element = w .element; from = w .from; index = i; mark = Nothing })
-  stride-none = record { alive = refl; depth-is = refl; order = omega arith; within = ready .within; word = omega arith; begun = λ h. h; no-mark = refl; marks = λ st. refl }
+  pub stride-none : (r : Walk) → r ≡ movedTo w (w .cursor .place) (w .cursor .top) (w .element) (w .from) i → Strode text w i r
+  stride-none r q = rw q (record { alive = refl; depth-is = refl; order = omega arith; within = ready .within; word = omega arith; begun = λ h. h; no-mark = refl; marks = λ st. refl; reaches = λ st k. k })
 
   pub stride-ends : Ends text (length text) i
   stride-ends = record { before = ready .within; within = omega arith; short = ready .short }
@@ -128,9 +135,10 @@ module _ (text : List ℕ) (w : Walk) (i : ℕ) (ready : Ready text w i) where
   pub stride-leap : (z : Zone) → z ≡ zone (w .cursor .place) → (calm : Bool) → calm ≡ isCalm z → not calm ≡ false →
       (l : Leap) → Leapt text (length text) (zone (w .cursor .place)) (w .cursor .place) (w .cursor .top) i l → i < l .index →
       (el : ℕ) → el ≡ elementIn z (w .element) → (inside : Bool) → inside ≡ isValue z → (first : ℕ) → first ≡ cond inside (w .from) (l .index) →
-      Strode text w i (record { cursor = record { place = l .place; top = l .top; depth = w .cursor .depth; live = true }; at = w .at; element = el; from = first; index = l .index; mark = Nothing })
-  stride-leap z ez calm ec nc l lp h el ee inside ei first ef =
-      record {
+      (r : Walk) → r ≡ movedTo w (l .place) (l .top) el first (l .index) → Strode text w i r
+  stride-leap z ez calm ec nc l lp h el ee inside ei first ef r er =
+      rw er
+      (record {
         alive = refl;
         depth-is = refl;
         order = leads-order (lp .leads);
@@ -138,11 +146,12 @@ module _ (text : List ℕ) (w : Walk) (i : ℕ) (ready : Ready text w i) where
         word = leads-word (lp .leads);
         begun = λ b. rw ef (behind inside b);
         no-mark = refl;
+        reaches = λ st k. leads-reached st (lp .leads) (let a = lp .ends .before in let b = lp .ends .short in omega arith) k;
         marks = λ st.
             leads-marks (lp .leads) st (w .at) (w .element) (w .from) (ap isCalm (sym ez) ∙ sym ec ∙ not-false calm nc) ∙
             ap (λ (n : ℕ). marksFrom (live (l .place) (l .top) st) (w .at) n (fromBehind (lp .leads) (w .from)) (l .index) (drop (l .index) text)) (element-moved (lp .leads) (w .element) h ∙ ap (λ (y : Zone). elementIn y (w .element)) (sym ez) ∙ sym ee) ∙
             ap (λ (n : ℕ). marksFrom (live (l .place) (l .top) st) (w .at) el n (l .index) (drop (l .index) text)) (from-moved (lp .leads) (w .from) h ∙ ap (λ (y : Zone). cond (isValue y) (w .from) (l .index)) (sym ez) ∙ ap (λ (c : Bool). cond c (w .from) (l .index)) (sym ei) ∙ sym ef);
-      }
+      })
     where
       behind : (c : Bool) → w .from ≤ i → cond c (w .from) (l .index) ≤ l .index
       behind true b = omega arith
@@ -185,7 +194,16 @@ module _ (text xs₀ : List ℕ) (w₀ : Walk) (xs : List ℕ) (w : Walk) (i : �
               s .marks (levels xs (w .cursor .depth)) ∙
               ap (λ (n : ℕ). marksFrom (live (r .cursor .place) (r .cursor .top) (levels xs n)) (r .at) (r .element) (r .from) (r .index) (drop (r .index) text)) (sym (s .depth-is)) ∙
               ap (λ (a : Bool). marksFrom (stateAt a (r .cursor .place) (r .cursor .top) (levels xs (r .cursor .depth))) (r .at) (r .element) (r .from) (r .index) (drop (r .index) text)) (sym (s .alive));
+          told = λ t.
+              told-alive text xs (r .cursor) (r .index) (s .alive)
+              (subst (λ (a : Bool). Reached text (r .index) (stateAt a (r .cursor .place) (r .cursor .top) (levels xs (r .cursor .depth)))) (sym (s .alive))
+              (subst (λ (n : ℕ). Reached text (r .index) (live (r .cursor .place) (r .cursor .top) (levels xs n))) (sym (s .depth-is))
+              (s .reaches (levels xs (w .cursor .depth))
+              (subst (λ (a : Bool). Reached text i (stateAt a (w .cursor .place) (w .cursor .top) (levels xs (w .cursor .depth)))) lives ((k .told t) .reached lives)))));
         }
+      where
+        lives : w .cursor .live ≡ true
+        lives = not-false (w .cursor .live) alive
 
     pub leap-end : length text ≤ r .index → (z : Walk) → z ≡ stoppedAt r (r .index) → Next text xs₀ xs w₀ z
     leap-end h z e = rw e (walk-end text xs₀ w₀ xs r (r .index) walk-strode h)

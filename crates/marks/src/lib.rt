@@ -1,15 +1,19 @@
 // The marks of a text: where a value of an attribute stands, and where a tag ends. One call answers the next mark, and no list of tags is stored: a
 // pass that needs them again walks the text again. Joined in specs/ has the theorem that the marks are the tags of the definition.
 ghost use mathlib.Core.Path.{_≡_};
-ghost use mathlib.Core.Bool.{Bool, cond, not, _&&_};
-ghost use Prim.Native.Nat.{ℕ, _<_, _≤_, _+_};
-ghost use lib.ListN.{length, drop};
-ghost use Rattle.grammar.specs.Grammar.{stepOf};
+ghost use mathlib.Core.Bool.{cond};
+ghost use Prim.Native.Nat.{_<_};
+ghost use lib.ListN.{length};
 ghost use Rattle.markup.specs.Growth.{wordAt};
-ghost use Rattle.reading.specs.Zones.{zone, landing, isBegun, isValue, elementIn};
 ghost use Rattle.marks.specs.Marks.{slashMark, endMark, valueMark, markOf, isMark};
-ghost use Rattle.marks.specs.Strides.{isCalm, Ready, Strode, stoppedAt};
-ghost use Rattle.marks.specs.Walks.{beginning, Noted, Standing, Next};
+ghost use Rattle.marks.specs.Strides.{Ready, movedTo, Strode, stoppedAt};
+ghost use Rattle.marks.specs.Walks.{beginning, fallenAt, Noted, Standing, Next};
+use crate::zones::element_in;
+use crate::zones::is_begun;
+use crate::zones::is_calm;
+use crate::zones::is_value;
+use crate::zones::landing_of;
+use crate::zones::zone_of;
 use grammar::Place;
 use grammar::Step;
 use markup::Cursor;
@@ -20,6 +24,8 @@ use reading::Zone;
 use scan::attribute_of;
 use scan::is_char;
 use scan::owner_of;
+
+pub mod zones;
 
 // Nothing; a value: its element, the word of its attribute, the offsets of its first byte and of its quote; a tag's end: the offset of its "<",
 // 0 for <x>, 1 for <x/>, 2 for </x>, and its element.
@@ -56,91 +62,6 @@ pub fn begin() -> Walk
         index: 0,
         mark: Mark::Nothing,
     }
-}
-
-// What of a place the tags go by.
-fn zone_of(p: Place) -> Zone
-    ensures { λ r. ⌜ r ≡ zone p ⌝ }
-{
-    match p {
-        Place::Content => Zone::Outside,
-        Place::Less => Zone::Begun,
-        Place::Bang => Zone::Outside,
-        Place::Dash => Zone::Outside,
-        Place::Comment => Zone::Outside,
-        Place::CommentDash => Zone::Outside,
-        Place::CommentEnd => Zone::Outside,
-        Place::Name(w, k) => Zone::InTag(w),
-        Place::Tag(e, x) => Zone::InTag(e),
-        Place::Space(e, x) => Zone::InTag(e),
-        Place::Attribute(e, x, j, k) => Zone::InTag(e),
-        Place::Equals(e, x, j) => Zone::InTag(e),
-        Place::Quote(e, x, j) => Zone::InTag(e),
-        Place::Value(e, x, j, q, v) => Zone::InValue(e, j),
-        Place::Ampersand(e, x, j, q) => Zone::InValue(e, j),
-        Place::Entity(e, x, j, q, w, k) => Zone::InValue(e, j),
-        Place::Slash => Zone::Slash,
-        Place::End(k) => Zone::Outside,
-        Place::Close => Zone::Outside,
-    }
-}
-
-// Where a step leads.
-fn landing_of(s: Step) -> Zone
-    ensures { λ r. ⌜ r ≡ landing s ⌝ }
-{
-    match s {
-        Step::Fault => Zone::Outside,
-        Step::Go(p, u) => zone_of(p),
-        Step::Open(u, v) => Zone::Outside,
-        Step::Shut => Zone::Outside,
-    }
-}
-
-fn is_begun(z: Zone) -> bool
-    ensures { λ r. ⌜ r ≡ isBegun z ⌝ }
-{
-    match z {
-        Zone::Outside => false,
-        Zone::Begun => true,
-        Zone::InTag(e) => false,
-        Zone::InValue(e, j) => false,
-        Zone::Slash => false,
-    }
-}
-
-fn is_value(z: Zone) -> bool
-    ensures { λ r. ⌜ r ≡ isValue z ⌝ }
-{
-    match z {
-        Zone::Outside => false,
-        Zone::Begun => false,
-        Zone::InTag(e) => false,
-        Zone::InValue(e, j) => true,
-        Zone::Slash => false,
-    }
-}
-
-// The element that the place is in, or the one known before.
-fn element_in(z: Zone, d: u8) -> u8
-    ensures { λ r. ⌜ r ≡ elementIn z d ⌝ }
-{
-    match z {
-        Zone::Outside => d,
-        Zone::Begun => d,
-        Zone::InTag(e) => e,
-        Zone::InValue(e, j) => e,
-        Zone::Slash => d,
-    }
-}
-
-fn either(first: bool, a: usize, b: usize) -> usize
-    ensures { λ r. ⌜ r ≡ cond first a b ⌝ }
-{
-    if first {
-        return a;
-    }
-    b
 }
 
 // The mark of a step that ends no value: the tag that it ends, if it ends one.
@@ -192,6 +113,35 @@ fn value_mark(y: Zone, d: u8, j: u8, from: usize, i: usize) -> Mark
     Mark::Valued(d, attribute_of(d, j), from, i)
 }
 
+// One of two numbers.
+pub fn either(first: bool, a: usize, b: usize) -> usize
+    ensures { λ r. ⌜ r ≡ cond first a b ⌝ }
+{
+    if first {
+        return a;
+    }
+    b
+}
+
+// The walk behind a byte that no text has.
+fn fallen(at: usize, element: u8, from: usize, index: usize) -> Walk
+    ensures { λ r. ⌜ r ≡ fallenAt at element from index ⌝ }
+{
+    Walk {
+        cursor: Cursor {
+            place: Place::Content,
+            top: 0,
+            depth: 0,
+            live: false,
+        },
+        at,
+        element,
+        from,
+        index,
+        mark: Mark::Nothing,
+    }
+}
+
 // One byte: the step, its mark, and where the walk then stands.
 fn note_byte(
     stack: &mut [u8],
@@ -207,21 +157,10 @@ fn note_byte(
     requires { ⌜ (depth < length (now stack)) × (wordAt place < 65535) × (i < 32768) ⌝ }
     ensures { λ r. ⌜ Noted (now (stack .entry)) (now (stack .exit)) place top depth at element from i b r ⌝ }
 {
+    let next = i + 1;
     let plain = is_char(b);
     if !plain {
-        return Walk {
-            cursor: Cursor {
-                place: Place::Content,
-                top: 0,
-                depth: 0,
-                live: false,
-            },
-            at,
-            element,
-            from,
-            index: i + 1,
-            mark: Mark::Nothing,
-        };
+        return fallen(at, element, from, next);
     }
     let s = advance(place, top, b);
     let z = zone_of(place);
@@ -231,14 +170,14 @@ fn note_byte(
     let start = either(begun, i, at);
     let mark = mark_of(s, z, top, start, e, from, i);
     let inside = is_value(z);
-    let first = either(inside, from, i + 1);
+    let first = either(inside, from, next);
     let cursor = moved_to(stack, depth, s);
     Walk {
         cursor,
         at: start,
         element: e,
         from: first,
-        index: i + 1,
+        index: next,
         mark,
     }
 }
@@ -253,16 +192,24 @@ pub fn is_mark(m: Mark) -> bool
     }
 }
 
-// May a walk leap in the zone: no tag begins or ends in it.
-fn is_calm(z: Zone) -> bool
-    ensures { λ r. ⌜ r ≡ isCalm z ⌝ }
+// The walk in another place of its zone.
+fn moved(w: Walk, place: Place, top: u8, element: u8, from: usize, index: usize) -> Walk
+    ensures { λ r. ⌜ r ≡ movedTo w place top element from index ⌝ }
 {
-    match z {
-        Zone::Outside => true,
-        Zone::Begun => false,
-        Zone::InTag(e) => true,
-        Zone::InValue(e, j) => true,
-        Zone::Slash => false,
+    let c = w.cursor;
+    let cursor = Cursor {
+        place,
+        top,
+        depth: c.depth,
+        live: true,
+    };
+    Walk {
+        cursor,
+        at: w.at,
+        element,
+        from,
+        index,
+        mark: Mark::Nothing,
     }
 }
 
@@ -274,49 +221,21 @@ fn stride(text: &[u8], w: Walk, i: usize) -> Walk
     let c = w.cursor;
     let place = c.place;
     let top = c.top;
-    let depth = c.depth;
-    let cursor = Cursor {
-        place,
-        top,
-        depth,
-        live: true,
-    };
-    let still = Walk {
-        cursor,
-        at: w.at,
-        element: w.element,
-        from: w.from,
-        index: i,
-        mark: Mark::Nothing,
-    };
     let z = zone_of(place);
     let calm = is_calm(z);
     if !calm {
-        return still;
+        return moved(w, place, top, w.element, w.from, i);
     }
     let l = leap_from(text, text.len(), place, top, i);
     let j = l.index;
     if j <= i {
-        return still;
+        return moved(w, place, top, w.element, w.from, i);
     }
     let e = element_in(z, w.element);
     let inside = is_value(z);
     let first = either(inside, w.from, j);
     let p = l.place;
-    let leaped = Cursor {
-        place: p,
-        top: l.top,
-        depth,
-        live: true,
-    };
-    Walk {
-        cursor: leaped,
-        at: w.at,
-        element: e,
-        from: first,
-        index: j,
-        mark: Mark::Nothing,
-    }
+    moved(w, p, l.top, e, first, j)
 }
 
 // The walk that stands at i and has found no mark.

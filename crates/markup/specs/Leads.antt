@@ -4,8 +4,8 @@ use mathlib.Core.Bool.{Bool, true, false, not, cond, _&&_}
 use mathlib.Core.List.{List}
 use Prim.Native.Nat.{ℕ, zero, suc, _+_, _-_, _≤_, _<_}
 use native.Mathlib.Omega.{arith}
-use lib.Dec.{eqb}
-use borrow.Author.Tests.{eqb-true, eqb-false}
+use lib.Dec.{eqb, ltb}
+use borrow.Author.Tests.{eqb-true, eqb-false, ltb-true, ltb-false}
 use lib.ListN.{length, getD}
 use Rattle.grammar.specs.declared.Place.{Place}
 use Rattle.grammar.specs.declared.Place.the-variants.{Content, Comment, Name, Tag, Space, Attribute, Equals, Quote, Value, End}
@@ -74,6 +74,13 @@ module _ (f : ℕ → Bool) (text : List ℕ) where
       by : (n : ℕ) → i ≤ n → n < j + 1 → (b : Bool) → eqb n j ≡ b → f (getD text n 0) ≡ true
       by n l h true q = ap (λ (m : ℕ). f (getD text m 0)) (eqb-true n j q) ∙ e
       by n l h false q = r .each n l (let d = eqb-false n j q in omega arith)
+
+  pub run-then : (i j k : ℕ) → Run f text i j → Run f text j k → Run f text i k
+  run-then i j k a b = record { order = let o = a .order in let u = b .order in omega arith; each = λ n l h. by n l h (ltb n j) refl }
+    where
+      by : (n : ℕ) → i ≤ n → n < k → (b' : Bool) → ltb n j ≡ b' → f (getD text n 0) ≡ true
+      by n l h true q = a .each n l (ltb-true n j q)
+      by n l h false q = b .each n (ltb-false n j q) h
 
   module _ (z : Zone) (p : Place) (t : ℕ) (same : zone p ≡ z) (plain : (b : ℕ) → f b ≡ true → isChar b ≡ true) (keeps : (b : ℕ) → f b ≡ true → stepOf p t b ≡ Go p t) where
     from-so : (i d : ℕ) → i + d ≤ length text → ((n : ℕ) → i ≤ n → n < i + d → f (getD text n 0) ≡ true) → Leads text z p t i p t (i + d)

@@ -17,7 +17,7 @@ use Rattle.reading.specs.declared.Zone.the-variants.{Outside, InTag, InValue}
 use Rattle.reading.specs.Zones.{zone}
 use Rattle.markup.specs.declared.leaps.Leap.{Leap}
 use Rattle.markup.specs.Growth.{wordAt}
-use Rattle.markup.specs.Leads.{Led, Leads, stay, on, leads-trans, leads-order, Run, run-start, run-more, run-leads}
+use Rattle.markup.specs.Leads.{Led, Leads, stay, on, leads-trans, leads-order, Run, run-start, run-more, run-then, run-leads}
 
 -- the part of the text that is read, and an offset in it
 pub record Ends (text : List ℕ) (end i : ℕ) : Type 0 where
@@ -28,6 +28,11 @@ pub record Ends (text : List ℕ) (end i : ℕ) : Type 0 where
 pub record Ran (f : ℕ → Bool) (text : List ℕ) (end i j : ℕ) : Type 0 where
   pub run : Run f text i j
   pub ends : Ends text end j
+
+-- is the answer yes, there are n bytes of the kind from i on
+pub record Block (f : ℕ → Bool) (text : List ℕ) (end i n : ℕ) (all : Bool) : Type 0 where
+  pub inside : all ≡ true → i + n ≤ end
+  pub run : all ≡ true → Run f text i (i + n)
 
 unfoldable pub inComment : ℕ → Bool
 inComment b = isChar b && not (eqb b 45)
@@ -71,6 +76,46 @@ module _ (f : ℕ → Bool) (text : List ℕ) (end i : ℕ) where
 
   pub ran-more : (j : ℕ) → Ran f text end i j → j < end → (is : Bool) → is ≡ f (getD text j 0) → not is ≡ false → Ran f text end i (j + 1)
   ran-more j r h is e q = record { run = run-more f text i j (r .run) (sym e ∙ not-false is q); ends = ends-more text end j (r .ends) h }
+
+  pub ran-then : (j k : ℕ) → Ran f text end i j → Ran f text end j k → Ran f text end i k
+  ran-then j k a b = record { run = run-then f text i j k (a .run) (b .run); ends = b .ends }
+
+  pub ran-block : (j : ℕ) → Ran f text end i j → (all : Bool) → Block f text end j 32 all → not all ≡ false → Ran f text end i (j + 32)
+  ran-block j r all b q =
+      let a = not-false all q in
+      record { run = run-then f text i j (j + 32) (r .run) (b .run a); ends = record { before = b .inside a; within = r .ends .within; short = r .ends .short } }
+
+  pub block-short : (j : ℕ) → Ran f text end i j → (all : Bool) → Block f text end j 32 all → not all ≡ false → j + 32 ≤ 32768
+  block-short j r all b q = let n = b .inside (not-false all q) in let s = r .ends .short in omega arith
+
+module _ (f : ℕ → Bool) (text : List ℕ) (end i n : ℕ) where
+  pub block-none : Block f text end i n false
+  block-none = record { inside = λ e. absurd (let z : _≡_ {A = ℕ} 0 1 = cc in omega arith); run = λ e. absurd (let z : _≡_ {A = ℕ} 0 1 = cc in omega arith) }
+
+  -- the first k of the bytes are read
+  pub record Blocking (k : ℕ) (all : Bool) : Type 0 where
+    pub few : k ≤ n
+    pub room : i + n ≤ end
+    pub run : all ≡ true → Run f text i (i + k)
+
+  pub block-start : Ends text end i → n ≤ end - i → Blocking 0 true
+  block-start e h = record { few = omega arith; room = let b = e .before in omega arith; run = λ e. subst (Run f text i) (plus i) (run-start f text i) }
+    where
+      plus : (i : ℕ) → i ≡ i + 0
+      plus i = omega arith
+
+  pub block-more : (k : ℕ) (all is : Bool) → Blocking k all → k < n → is ≡ f (getD text (i + k) 0) → Blocking (k + 1) (all && is)
+  block-more k true is b l e = record { few = omega arith; room = b .room; run = λ q. subst (Run f text i) (plus i k) (run-more f text i (i + k) (b .run refl) (sym e ∙ q)) }
+    where
+      plus : (i k : ℕ) → i + k + 1 ≡ i + (k + 1)
+      plus i k = omega arith
+  block-more k false is b l e = record { few = omega arith; room = b .room; run = λ q. absurd (let z : _≡_ {A = ℕ} 0 1 = cc in omega arith) }
+
+  pub block-all : (k : ℕ) (all : Bool) → Blocking k all → n ≤ k → Block f text end i n all
+  block-all k all b l = record { inside = λ e. b .room; run = λ e. subst (λ (m : ℕ). Run f text i (i + m)) (same (b .few)) (b .run e) }
+    where
+      same : k ≤ n → k ≡ n
+      same h = omega arith
 
 -- what holds of the four bytes holds of white space
 module _ (P : ℕ → Type 0) (blank : P 32) (line : P 10) (tab : P 9) (carriage : P 13) where

@@ -1,22 +1,21 @@
-// The bytes that lead from place to place inside one zone of a text, read by loops of their own: white space, a comment, a word, a tag up to the next
-// value, a value. The walks take a single step only where a tag or a value begins or ends.
+// The bytes that lead from place to place inside one zone of a text, read by loops of their own (runs): white space, a comment, a word, a tag up to the
+// next value, a value. The walks take a single step only where a tag or a value begins or ends.
 ghost use mathlib.Core.Path.{_≡_};
-ghost use Prim.Native.Nat.{_≤_, _<_};
-ghost use lib.ListN.{length};
+ghost use Prim.Native.Nat.{_≤_};
 ghost use Rattle.grammar.specs.declared.Place.the-variants.{Content, Comment, Name, Tag, Space, Attribute, Value, End};
-ghost use Rattle.grammar.specs.Grammar.{isSpace};
 ghost use Rattle.reading.specs.declared.Zone.the-variants.{Outside, InTag, InValue};
 ghost use Rattle.reading.specs.Zones.{zone};
 ghost use Rattle.markup.specs.Growth.{wordAt};
-ghost use Rattle.markup.specs.Leads.{Leads};
-ghost use Rattle.markup.specs.Runs.{Ends, Ran, inComment, isLetter, beginsName, Worded, valueNext, Went, Leapt};
-use crate::values::value_step;
+ghost use Rattle.markup.specs.Runs.{Ends, beginsName, Leapt};
+use crate::runs::comment_end;
+use crate::runs::spaces_end;
+use crate::runs::value_end;
+use crate::runs::word_end;
 use grammar::Place;
 use scan::attribute_of;
 use scan::is_char;
 use scan::is_space;
 use scan::is_token;
-use scan::kind_of;
 use scan::level_after;
 use scan::owner_of;
 use scan::pick_attribute;
@@ -27,115 +26,6 @@ pub struct Leap {
     pub place: Place,
     pub top: u8,
     pub index: usize,
-}
-
-// How many bytes of a word have been read before the index.
-pub struct WordEnd {
-    pub read: u16,
-    pub index: usize,
-}
-
-// The state of a value before the index.
-pub struct ValueEnd {
-    pub state: u8,
-    pub index: usize,
-}
-
-fn spaces_end(text: &[u8], end: usize, i: usize) -> usize
-    requires { ⌜ Ends (now text) end i ⌝ }
-    ensures { λ j. ⌜ Ran isSpace (now (text .entry)) end i j ⌝ }
-{
-    let mut j = i;
-    while j < end {
-        let space = is_space(text[j]);
-        if !space {
-            return j;
-        }
-        j += 1;
-    }
-    j
-}
-
-// A byte of a comment but the dash.
-fn in_comment(b: u8) -> bool
-    ensures { λ r. ⌜ r ≡ inComment b ⌝ }
-{
-    is_char(b) & !(b == 45)
-}
-
-fn comment_end(text: &[u8], end: usize, i: usize) -> usize
-    requires { ⌜ Ends (now text) end i ⌝ }
-    ensures { λ j. ⌜ Ran inComment (now (text .entry)) end i j ⌝ }
-{
-    let mut j = i;
-    while j < end {
-        let inside = in_comment(text[j]);
-        if !inside {
-            return j;
-        }
-        j += 1;
-    }
-    j
-}
-
-// Is the byte the one of the word at k.
-fn is_letter(w: u8, k: u16, b: u8) -> bool
-    ensures { λ r. ⌜ r ≡ isLetter w k b ⌝ }
-{
-    let same = word_byte(w, k) == b;
-    same & is_char(b)
-}
-
-// The word w goes on as far as the text does, from its byte k on.
-fn word_end(text: &[u8], end: usize, w: u8, k: u16, i: usize) -> WordEnd
-    requires { ⌜ Ends (now text) end i × (k ≤ i) ⌝ }
-    ensures { λ r. ⌜ Worded (now (text .entry)) end w k i (r .read) (r .index) ⌝ }
-{
-    let mut j = i;
-    let mut n = k;
-    while j < end {
-        let same = is_letter(w, n, text[j]);
-        if !same {
-            return WordEnd { read: n, index: j };
-        }
-        j += 1;
-        n += 1;
-    }
-    WordEnd { read: n, index: j }
-}
-
-// The state of a value behind one more byte, 5 where the byte ends it, begins an entity or may not stand there.
-fn value_next(kind: u8, q: u8, v: u8, b: u8) -> u8
-    ensures { λ r. ⌜ r ≡ valueNext kind q v b ⌝ }
-{
-    let plain = is_char(b);
-    if !plain {
-        return 5;
-    }
-    let other = (b == q) | ((b == 38) & (kind == 0));
-    if other {
-        return 5;
-    }
-    value_step(kind, v, b)
-}
-
-fn value_end(text: &[u8], end: usize, e: u8, a: u8, q: u8, v: u8, i: usize) -> ValueEnd
-    requires { ⌜ Ends (now text) end i ⌝ }
-    ensures { λ r. ⌜ Went (now (text .entry)) end e a q v i (r .state) (r .index) ⌝ }
-{
-    let kind = kind_of(e, a);
-    let mut j = i;
-    let mut u = v;
-    while j < end {
-        let b = text[j];
-        let next = value_next(kind, q, u, b);
-        if next == 5 {
-            return ValueEnd { state: u, index: j };
-        }
-        u = next;
-        j += 1;
-    }
-    ValueEnd { state: u, index: j }
 }
 
 // From the first byte of an attribute's name on, up to its "=".
@@ -292,39 +182,6 @@ fn value_leap(text: &[u8], end: usize, e: u8, x: u8, a: u8, q: u8, v: u8, t: u8,
 
 // As far as the zone of the place goes, or a part of that.
 pub fn leap_from(text: &[u8], end: usize, place: Place, top: u8, i: usize) -> Leap
-    requires { ⌜ Ends (now text) end i × (wordAt place ≤ i) ⌝ }
-    ensures { λ r. ⌜ Leapt (now (text .entry)) end (zone place) place top i r ⌝ }
-{
-    let still = Leap {
-        place,
-        top,
-        index: i,
-    };
-    match place {
-        Place::Content => content_leap(text, end, top, i),
-        Place::Less => still,
-        Place::Bang => still,
-        Place::Dash => still,
-        Place::Comment => comment_leap(text, end, top, i),
-        Place::CommentDash => still,
-        Place::CommentEnd => still,
-        Place::Name(w, k) => name_leap(text, end, w, k, top, i),
-        Place::Tag(e, x) => tag_leap(text, end, e, x, top, i),
-        Place::Space(e, x) => space_leap(text, end, e, x, top, i),
-        Place::Attribute(e, x, j, k) => still,
-        Place::Equals(e, x, j) => still,
-        Place::Quote(e, x, j) => still,
-        Place::Value(e, x, j, q, v) => value_leap(text, end, e, x, j, q, v, top, i),
-        Place::Ampersand(e, x, j, q) => still,
-        Place::Entity(e, x, j, q, w, k) => still,
-        Place::Slash => still,
-        Place::End(k) => end_leap(text, end, k, top, i),
-        Place::Close => still,
-    }
-}
-
-// The same for the search alone, as with advance_here.
-pub fn leap_here(text: &[u8], end: usize, place: Place, top: u8, i: usize) -> Leap
     requires { ⌜ Ends (now text) end i × (wordAt place ≤ i) ⌝ }
     ensures { λ r. ⌜ Leapt (now (text .entry)) end (zone place) place top i r ⌝ }
 {

@@ -1,14 +1,14 @@
 -- Whether a text is refused with 12, and where.
 use mathlib.Core.Path.{_≡_, refl, sym, ap, _∙_}
-use mathlib.Core.Bool.{Bool, true, false, not, _&&_}
+use mathlib.Core.Bool.{Bool, true, false, not}
 use mathlib.Core.List.{List}
 use mathlib.Core.Option.{Option, none, some}
-use Prim.Native.Nat.{ℕ, _≤_}
+use Prim.Native.Nat.{ℕ, _-_, _≤_, _<_}
 use native.Mathlib.Omega.{arith}
-use lib.Dec.{leb}
-use lib.ListN.{length}
-use borrow.Author.Tests.{not-true, not-false, leb-true}
-use Rattle.grammar.specs.Grammar.{isText, inGrammar}
+use lib.ListN.{length, take, drop, length-take}
+use lib.Seq.{take-take}
+use borrow.Author.Tests.{not-true, not-false, lt-leb}
+use Rattle.grammar.specs.Grammar.{isText, inGrammar, grammarFault, start, liveBytes}
 use Rattle.markup.specs.Passes.{Found}
 use Rattle.reading.specs.Tags.{tagsOf}
 use Rattle.reading.specs.Faults.{firstFault}
@@ -36,21 +36,27 @@ abbrev pub JudgedAs : List ℕ → List ℕ → List ℕ → Judged → Type 0
 JudgedAs text levels ids (Faulty at) = readOf text ≡ faulty at
 JudgedAs text levels ids (Well n) = WellRead text levels ids n
 
+pub judge-begun : (text levels ids : List ℕ) → length text ≤ 32768 → length levels ≡ 32768 → length ids ≡ 15070 → Begun text levels ids
+judge-begun text levels ids s d r = record { short = s; deep = d; room = r }
+
+module _ (text : List ℕ) where
+  -- what is read of a text that is too long
+  abbrev pub head : List ℕ
+  head = take (32768 - 0) (drop 0 text)
+
+  pub judge-head : (levels ids : List ℕ) → length levels ≡ 32768 → length ids ≡ 15070 → Begun head levels ids
+  judge-head levels ids d r = record { short = simp length-take (omega arith); deep = d; room = r }
+
+  pub judge-long : 32768 < length text → (at : ℕ) (whole : Bool) → Found head at whole → readOf text ≡ faulty at
+  unfolding readOf inGrammar grammarFault
+  judge-long long at whole found =
+      rw (lt-leb (length text) 32768 long)
+      (ap faulty (sym (found .first ∙ ap (liveBytes start) (take-take 32768 32768 text (omega arith)))))
+
 module _ (text : List ℕ) (at : ℕ) (whole : Bool) (found : Found text at whole) where
   pub judge-outside : not whole ≡ true → readOf text ≡ faulty at
   unfolding readOf
   judge-outside q = rw (sym (found .is-whole) ∙ not-true whole q) (ap faulty (sym (found .first)))
-
-  pub judge-short : not whole ≡ false → length text ≤ 32768
-  unfolding inGrammar
-  judge-short q = leb-true (length text) 32768 (left (leb (length text) 32768) (isText text) (sym (found .is-whole) ∙ not-false whole q))
-    where
-      left : (a b : Bool) → (a && b) ≡ true → a ≡ true
-      left true b e = refl
-      left false b e = e
-
-  pub judge-begun : (levels ids : List ℕ) → not whole ≡ false → length levels ≡ 32768 → length ids ≡ 15070 → Begun text levels ids
-  judge-begun levels ids q d r = record { short = judge-short q; deep = d; room = r }
 
   module _ (levels ids : List ℕ) (n : ℕ) (fault : Fault) (in-text : not whole ≡ false) (s : Searched text levels ids n fault) where
     pub judge-fault : (i : ℕ) → fault ≡ At i → readOf text ≡ faulty i

@@ -1,12 +1,12 @@
 // The name slots of a text (R-1, 1.19): "equal names share a slot, by first use in the text as id, descriptor or action's name". Each is noted by its
 // place in the text and its length.
 ghost use mathlib.Core.Path.{_≡_};
-ghost use mathlib.Core.Bool.{cond};
 ghost use Rattle.marks.specs.Marks.{valueFrom, valueTo};
 ghost use Rattle.slots.specs.Slots.{AddRoom, Added, AddedAll, isUse, ValueIn};
 ghost use Rattle.slots.specs.Walk.{endsTag, AddedBy, Begun, Gathered};
 use marks::Mark;
 use marks::begin;
+use marks::either;
 use marks::is_mark;
 use marks::next_mark;
 use scan::is_space;
@@ -79,15 +79,6 @@ fn add_value(text: &[u8], slots: &mut [u16], n: usize, word: u8, from: usize, to
         return add_names(text, slots, n, from, to);
     }
     n
-}
-
-fn either(first: bool, a: usize, b: usize) -> usize
-    ensures { λ r. ⌜ r ≡ cond first a b ⌝ }
-{
-    if first {
-        return a;
-    }
-    b
 }
 
 // Does the mark end a tag.

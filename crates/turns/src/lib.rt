@@ -1,6 +1,5 @@
 // What stands inside a tag and behind it (R-1, 1.15): the walk from tag to tag with the spots that they stand in as a stack.
 ghost use mathlib.Core.Path.{_≡_};
-ghost use mathlib.Core.Bool.{cond};
 ghost use Prim.Native.Nat.{_*_, _≤_, _<_};
 ghost use lib.ListN.{length};
 ghost use Rattle.turns.specs.Spots.{TopIs, StoreRoom, stored, restDepth, TurnRoom, TransitionTurn, blockPart, TurnIs};
@@ -8,6 +7,7 @@ ghost use Rattle.turns.specs.Turns.{EnterRoom, Entered, TagRoom, TagTurn
 ghost use Rattle.turns.specs.Next.{TurnAt, stayed, NextTurn};
 use marks::Mark;
 use marks::Walk;
+use marks::either;
 use tags::is_stated;
 use tags::next_tag;
 
@@ -65,15 +65,6 @@ fn store_spot(spots: &mut [u16], at: usize, s: SpotCells)
     let number = s.number;
     spots[at * 2] = narrow(what);
     spots[at * 2 + 1] = narrow(number);
-}
-
-fn either(first: bool, a: usize, b: usize) -> usize
-    ensures { λ r. ⌜ r ≡ cond first a b ⌝ }
-{
-    if first {
-        return a;
-    }
-    b
 }
 
 // How many spots there are around the innermost.

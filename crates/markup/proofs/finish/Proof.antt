@@ -1,6 +1,6 @@
 use borrow.Author.Needs.{needs}
 use mathlib.Core.Path.{refl}
-use Rattle.markup.specs.Strides.{finished}
+use Rattle.markup.specs.Passes.{finished}
 use Rattle.markup.proofs.finish.Statement.{statement}
 use Rattle.markup.proofs.finish.Tie as tie
 

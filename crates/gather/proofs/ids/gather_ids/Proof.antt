@@ -1,6 +1,6 @@
 use borrow.Author.Needs.{needs}
 use Prim.Native.Nat.{_-_}
-use Rattle.gather.specs.Ids.{Gathering, begun-keys, ids-start, ids-end, ids-room, ids-fits, ids-less, ids-more}
+use Rattle.gather.specs.Ids.{Gathering, begun-keys, ids-start, ids-stopped, ids-over, ids-room, ids-fits, ids-less, ids-more}
 use lib.ListN.{length}
 use Rattle.gather.proofs.ids.gather_ids.Statement.{statement}
 use Rattle.gather.proofs.ids.gather_ids.Tie as tie
@@ -26,6 +26,9 @@ next-mark-requires c κs = search needs
 is-mark-requires : tie.Need-is-mark-requires Inv-loop μ-loop
 is-mark-requires c κs = search needs
 
+ended-requires : tie.Need-ended-requires Inv-loop μ-loop
+ended-requires c κs = search (needs, ids-stopped)
+
 same-length : tie.Need-same-length Inv-loop μ-loop
 same-length c = search needs
 
@@ -33,7 +36,7 @@ same-length-2 : tie.Need-same-length-2 Inv-loop μ-loop
 same-length-2 c = search needs
 
 returns : tie.Need-returns Inv-loop μ-loop
-returns c = search (needs, ids-end)
+returns c = search (needs, ids-over)
 
 is-row-mark-requires : tie.Need-is-row-mark-requires Inv-loop μ-loop
 is-row-mark-requires c κs = search needs
@@ -64,6 +67,7 @@ gather-ids-spec =
     loop-holds
     next-mark-requires
     is-mark-requires
+    ended-requires
     same-length
     same-length-2
     returns

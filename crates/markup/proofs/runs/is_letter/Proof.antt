@@ -1,8 +1,8 @@
 use borrow.Author.Needs.{needs}
 use mathlib.Core.Path.{refl}
 use Rattle.markup.specs.Runs.{isLetter}
-use Rattle.markup.proofs.leaps.is_letter.Statement.{statement}
-use Rattle.markup.proofs.leaps.is_letter.Tie as tie
+use Rattle.markup.proofs.runs.is_letter.Statement.{statement}
+use Rattle.markup.proofs.runs.is_letter.Tie as tie
 
 word-byte-requires : tie.Need-word-byte-requires
 word-byte-requires c κs = search needs

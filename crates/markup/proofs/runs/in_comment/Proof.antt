@@ -1,8 +1,8 @@
 use borrow.Author.Needs.{needs}
 use mathlib.Core.Path.{refl}
 use Rattle.markup.specs.Runs.{inComment}
-use Rattle.markup.proofs.leaps.in_comment.Statement.{statement}
-use Rattle.markup.proofs.leaps.in_comment.Tie as tie
+use Rattle.markup.proofs.runs.in_comment.Statement.{statement}
+use Rattle.markup.proofs.runs.in_comment.Tie as tie
 
 is-char-requires : tie.Need-is-char-requires
 is-char-requires c κs = search needs

@@ -1,8 +1,8 @@
 use borrow.Author.Needs.{needs}
 use Prim.Native.Nat.{_-_}
 use Rattle.markup.specs.Runs.{Went, value-start, value-more}
-use Rattle.markup.proofs.leaps.value_end.Statement.{statement}
-use Rattle.markup.proofs.leaps.value_end.Tie as tie
+use Rattle.markup.proofs.runs.value_end.Statement.{statement}
+use Rattle.markup.proofs.runs.value_end.Tie as tie
 
 abbrev Inv-loop : tie.InvT-loop
 Inv-loop text end e a q v i kind j₀ u₀ j u = Went text end e a q v i u j

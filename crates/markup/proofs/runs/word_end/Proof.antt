@@ -1,8 +1,8 @@
 use borrow.Author.Needs.{needs}
 use Prim.Native.Nat.{_-_}
 use Rattle.markup.specs.Runs.{Worded, word-start, word-more}
-use Rattle.markup.proofs.leaps.word_end.Statement.{statement}
-use Rattle.markup.proofs.leaps.word_end.Tie as tie
+use Rattle.markup.proofs.runs.word_end.Statement.{statement}
+use Rattle.markup.proofs.runs.word_end.Tie as tie
 
 abbrev Inv-loop : tie.InvT-loop
 Inv-loop text end w k i j₀ n₀ j n = Worded text end w k i n j

@@ -2,8 +2,8 @@ use borrow.Author.Needs.{needs}
 use mathlib.Core.Path.{refl, sym, _∙_}
 use borrow.Author.Tests.{not-true, not-false}
 use Rattle.markup.specs.Runs.{valueNext}
-use Rattle.markup.proofs.leaps.value_next.Statement.{statement}
-use Rattle.markup.proofs.leaps.value_next.Tie as tie
+use Rattle.markup.proofs.runs.value_next.Statement.{statement}
+use Rattle.markup.proofs.runs.value_next.Tie as tie
 
 is-char-requires : tie.Need-is-char-requires
 is-char-requires c κs = search needs

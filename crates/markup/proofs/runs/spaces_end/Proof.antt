@@ -2,8 +2,8 @@ use borrow.Author.Needs.{needs}
 use Prim.Native.Nat.{_-_}
 use Rattle.grammar.specs.Grammar.{isSpace}
 use Rattle.markup.specs.Runs.{Ran, ran-start, ran-more}
-use Rattle.markup.proofs.leaps.spaces_end.Statement.{statement}
-use Rattle.markup.proofs.leaps.spaces_end.Tie as tie
+use Rattle.markup.proofs.runs.spaces_end.Statement.{statement}
+use Rattle.markup.proofs.runs.spaces_end.Tie as tie
 
 abbrev Inv-loop : tie.InvT-loop
 Inv-loop text end i j₀ j = Ran isSpace text end i j

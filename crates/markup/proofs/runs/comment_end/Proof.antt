@@ -1,8 +1,8 @@
 use borrow.Author.Needs.{needs}
 use Prim.Native.Nat.{_-_}
-use Rattle.markup.specs.Runs.{Ran, ran-start, ran-more, inComment}
-use Rattle.markup.proofs.leaps.comment_end.Statement.{statement}
-use Rattle.markup.proofs.leaps.comment_end.Tie as tie
+use Rattle.markup.specs.Runs.{Ran, ran-start, ran-then, ran-block, block-short, inComment}
+use Rattle.markup.proofs.runs.comment_end.Statement.{statement}
+use Rattle.markup.proofs.runs.comment_end.Tie as tie
 
 abbrev Inv-loop : tie.InvT-loop
 Inv-loop text end i j₀ j = Ran inComment text end i j
@@ -13,23 +13,23 @@ abbrev μ-loop : tie.MeasureT-loop
 loop-holds : tie.Need-loop-holds Inv-loop μ-loop
 loop-holds c = search (needs, ran-start)
 
-shared-slice-read-in-comment : tie.Need-shared-slice-read-in-comment Inv-loop μ-loop
-shared-slice-read-in-comment c = search needs
+all-in-comment-requires : tie.Need-all-in-comment-requires Inv-loop μ-loop
+all-in-comment-requires c κs = search needs
 
-in-comment-requires : tie.Need-in-comment-requires Inv-loop μ-loop
-in-comment-requires c κs = search needs
+comment-rest-requires : tie.Need-comment-rest-requires Inv-loop μ-loop
+comment-rest-requires c κs = search needs
 
 returns : tie.Need-returns Inv-loop μ-loop
-returns c = search needs
+returns c = search (needs, ran-then)
 
 add-j : tie.Need-add-j Inv-loop μ-loop
-add-j c = search needs
+add-j c = search (needs, block-short)
 
 loop-less : tie.Need-loop-less Inv-loop μ-loop
 loop-less c = search needs
 
 loop-again : tie.Need-loop-again Inv-loop μ-loop
-loop-again c = search (needs, ran-more)
+loop-again c = search (needs, ran-block)
 
 returns-2 : tie.Need-returns-2 Inv-loop μ-loop
 returns-2 c = search needs
@@ -41,8 +41,8 @@ comment-end-spec =
     Inv-loop
     μ-loop
     loop-holds
-    shared-slice-read-in-comment
-    in-comment-requires
+    all-in-comment-requires
+    comment-rest-requires
     returns
     add-j
     loop-less
