@@ -1,8 +1,9 @@
 #!/usr/bin/env python3
-"""The tables of the grammar (docs/grammar.md), written twice: specs/Tables.antt for the definition, crates/scan/src/tables.rt for the code.
+"""The tables of the grammar (docs/grammar.md), written for the definition, specs/Tables.antt, and for the code, crates/scan/src/tables.rt
+and, eight cells to a number, crates/scan/src/packed.rt with its list in crates/scan/specs/Packed.antt.
 
-tables.py           writes both, and `rt fmt` lays them out
-tables.py --check   tells whether both hold what would be written
+tables.py           writes them, and `rt fmt` lays them out
+tables.py --check   tells whether they hold what would be written
 
 A new element or attribute is an entry here and moves no proof: the tables have room for 24 elements, 16 attributes and 32 levels. An element has at
 most 4 attributes, of which it may require one; a level has at most 8 children; a word has at most 10 bytes, and one that begins another stands
@@ -123,14 +124,43 @@ def definition():
     return text
 
 
+# The tables of one bit or two a cell are numbers in crates/scan/src/lib.rt.
+NUMBERS = {"kinds", "ends", "bits"}
+
+
 def code():
     text = "// The tables of the grammar, as crates/grammar/tables.py writes them.\n"
-    for name, cells in tables().items():
+    for name, cells in ((name, cells) for name, cells in tables().items() if name not in NUMBERS):
         text += "// %s\npub const %s: [u8; %d] = [%s];\n" % (MEANING[name], name.upper(), len(cells), ", ".join(map(str, cells)))
     return text
 
 
-FILES = {"crates/grammar/specs/Tables.antt": definition, "crates/scan/src/tables.rt": code}
+# The tables that a walk looks at most, eight cells to a number, the first one lowest.
+PACKED = ["menus", "attrs", "adds", "owners", "opened", "needed"]
+PACKED_CODE = "crates/scan/src/packed.rt"
+PACKED_SPEC = "crates/scan/specs/Packed.antt"
+
+
+def packs():
+    cells = sum((filled(tables()[name], -(-len(tables()[name]) // 8) * 8, 0) for name in PACKED), [])
+    return [sum(cell << (8 * k) for k, cell in enumerate(cells[i : i + 8])) for i in range(0, len(cells), 8)]
+
+
+def with_packs(name, pattern, lines):
+    text = open(os.path.join(top, name), encoding="utf-8").read()
+    return re.sub(pattern, lambda found: found[1] + lines + found[2], text, count=1, flags=re.S)
+
+
+def packed_code():
+    arms = "".join("        %d => %d,\n" % (i, n) for i, n in enumerate(packs()))
+    return with_packs(PACKED_CODE, r"(    match k \{\n).*?(        _ => 0,)", arms)
+
+
+def packed_spec():
+    return with_packs(PACKED_SPEC, r"(\npacks =\n).*?(\n\n)", "    " + " ∷ ".join(map(str, packs() + ["[]"])))
+
+
+FILES = {"crates/grammar/specs/Tables.antt": definition, "crates/scan/src/tables.rt": code, PACKED_CODE: packed_code, PACKED_SPEC: packed_spec}
 
 
 def words_of(text):
@@ -141,9 +171,10 @@ def main():
     faults = 0
     for name, write in FILES.items():
         path = os.path.join(top, name)
+        text = write()
         if "--check" not in sys.argv:
-            open(path, "w", encoding="utf-8").write(write())
-        elif words_of(open(path, encoding="utf-8").read()) != words_of(write()):
+            open(path, "w", encoding="utf-8").write(text)
+        elif words_of(open(path, encoding="utf-8").read()) != words_of(text):
             print("%s is not what tables.py writes" % name)
             faults += 1
     return 1 if faults else 0

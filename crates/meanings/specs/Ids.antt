@@ -9,8 +9,8 @@ use borrow.Author.Tests.{eqb-true, le-leb, not-true}
 use Rattle.definition.specs.Rows.{same, all, flat}
 use Rattle.grammar.specs.Words.{and-left, and-right, choose, no}
 use Rattle.reading.specs.Tags.{Part, Shape, opening, empty, closing, Markup}
-use Rattle.reading.specs.Faults.{namesIn, plain, typeWord, idWord, initialWord, eventWord, targetWord, states, valueOf, isClosing, isRowTag, idsOf, internal as internalText}
-use Rattle.reading.specs.Content.{endIf, Row, Fact, rowFact, listFact, transitionFact, actionFact, Spot, inRow, inBlock, rowOf, settled, blockOf, kindIn, actIn, conditionIn, rowsIn, Turn, isDefault, turn, endFacts, top, rest, factsFrom, rowsFrom, contentFrom, contentOf}
+use Rattle.reading.specs.Faults.{namesIn, idWord, initialWord, eventWord, targetWord, states, valueOf, isClosing, isRowTag, idsOf}
+use Rattle.reading.specs.Content.{endIf, Row, Fact, rowFact, listFact, transitionFact, actionFact, Spot, inRow, inBlock, rowOf, settled, blockOf, isInternal, kindIn, actIn, conditionIn, rowsIn, Turn, isDefault, turn, endFacts, top, rest, factsFrom, rowsFrom, contentFrom, contentOf}
 
 abbrev pub idOf : Row → List ℕ
 idOf r = r .id
@@ -61,7 +61,7 @@ module _ (ids : List (List ℕ)) (s : Spot) (n m e : ℕ) (ps : List Part) where
       rn : Turn
       rn =
           record {
-            facts = transitionFact (rowOf s) (namesIn (valueOf eventWord ps)) (conditionIn ids ps) (same (plain (valueOf typeWord ps)) internalText) (rowsIn ids (valueOf targetWord ps)) ∷ [];
+            facts = transitionFact (rowOf s) (namesIn (valueOf eventWord ps)) (conditionIn ids ps) (isInternal ps) (rowsIn ids (valueOf targetWord ps)) ∷ [];
             inside = inBlock (record { part = 4; owner = m });
             around = s;
             rows = n;

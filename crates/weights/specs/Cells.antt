@@ -10,9 +10,8 @@ use lib.ListN.{length, length-map}
 use borrow.Author.Tests.{eqb-true, leb-true, ne-eqb}
 use Rattle.grammar.specs.Words.{choose, no}
 use Rattle.reading.specs.Tags.{Part, Shape, opening, empty, closing, Markup}
-use Rattle.reading.specs.Faults.{namesIn, plain, typeWord, idWord, initialWord, eventWord, targetWord, valueOf, internal as internalText}
-use Rattle.definition.specs.Rows.{same}
-use Rattle.reading.specs.Content.{endIf, Fact, rowFact, listFact, transitionFact, actionFact, Spot, inRow, inBlock, rowOf, settled, blockOf, kindIn, actIn, conditionIn, rowNamed, rowsIn, Turn, isDefault, turn, endFacts, top, rest, factsFrom}
+use Rattle.reading.specs.Faults.{namesIn, idWord, initialWord, eventWord, targetWord, valueOf}
+use Rattle.reading.specs.Content.{endIf, Fact, rowFact, listFact, transitionFact, actionFact, Spot, inRow, inBlock, rowOf, settled, blockOf, isInternal, kindIn, actIn, conditionIn, rowNamed, rowsIn, Turn, isDefault, turn, endFacts, top, rest, factsFrom}
 use Rattle.weights.specs.Sizes.{nameSize, name-two, transition-long, row-long}
 use Rattle.weights.specs.Tags.{valueBytes, quoteBytes, startBytes, start-long, start-if, start-name, shapeBytes, tagBytes, allBytes}
 use Rattle.weights.specs.Names.{value-names, both-names}
@@ -78,7 +77,7 @@ turn-paid ids s n m e ps =
     rn : Turn
     rn =
         record {
-          facts = transitionFact (rowOf s) (namesIn (valueOf eventWord ps)) (conditionIn ids ps) (same (plain (valueOf typeWord ps)) internalText) (rowsIn ids (valueOf targetWord ps)) ∷ [];
+          facts = transitionFact (rowOf s) (namesIn (valueOf eventWord ps)) (conditionIn ids ps) (isInternal ps) (rowsIn ids (valueOf targetWord ps)) ∷ [];
           inside = inBlock (record { part = 4; owner = m });
           around = s;
           rows = n;
