@@ -40,7 +40,7 @@ use Rattle.rounds.specs.declared.Outcome.the-variants.{Idle, Did}
 use Rattle.rounds.specs.declared.Turn.{Turn}
 use Rattle.rounds.specs.declared.Step.{Step}
 use Rattle.rounds.specs.Turns.{judged, judged-none, untouched, Turned, turned-idle, turned-refused, turned-did}
-use Rattle.rounds.specs.Traces.{Filled, Drafted, Joined, joined-all, joined-in, joined-size, wrote-entries, wrote-trace}
+use Rattle.rounds.specs.Traces.{Filled, Joined, joined-all, joined-in, joined-size, wrote-entries, wrote-trace}
 use Rattle.rounds.specs.Judging.{Counted, refusal-judged}
 use Rattle.rounds.specs.Taking.{roundEffects, nextBy, round-did, stepTakes, byIn, lent-taken, StepReady, Decided, Commits, round-ready, left, shown}
 
@@ -136,10 +136,6 @@ module _ (chart names : List ℕ) (kinds : RowKinds) (numbers internal external 
 
       fits : Fits (length old) next es
       fits = not-refused (length old) next es goes
-
-      -- the entries that were drafted have room
-      pub draft-fits : (draft : List ℕ) → Drafted draft t (planEffects (chartOf chart) (step .plan) who takes) → t .entries ≤ length old
-      draft-fits draft w = let l = fits .roomy in let e = w .wrote .entries in let n = ap {B = ℕ} length (shown chart names kinds numbers internal external step items g) in omega arith
 
       module _ (joins : List ℕ) (v : Joined joins t (planEffects (chartOf chart) (step .plan) who takes)) where
         joined-es : Joined joins t es

@@ -48,6 +48,12 @@ pub struct Step {
     pub plan: Plan,
 }
 
+// What became of a step that was shown, and what was counted of it.
+pub struct Shown {
+    pub outcome: Outcome,
+    pub tally: Tally,
+}
+
 // What joins the internal queue is kept beside the draft: more than this are refused.
 const JOINS: usize = 32;
 

@@ -18,12 +18,13 @@ ghost use Rattle.state.specs.State.{configurationIn, historyIn, stateAt, HoldsA
 ghost use Rattle.lookup.specs.Lookup.{IndexOf, Lookup};
 ghost use Rattle.events.specs.Left.{internalLeft, externalLeft};
 ghost use Rattle.rounds.specs.Turns.{Turned};
-ghost use Rattle.rounds.specs.Judging.{LeavesInternal, LeavesExternal};
-ghost use Rattle.rounds.specs.Taking.{stepTakes, byIn, StepReady, Decided, Commits};
-ghost use Rattle.rounds.specs.Traces.{nothing, Filled, Drafted};
+ghost use Rattle.rounds.specs.Judging.{LeavesInternal, LeavesExternal, Shows};
+ghost use Rattle.rounds.specs.Taking.{stepTakes, byIn, Decided, Commits};
+ghost use Rattle.rounds.specs.Traces.{nothing};
 use crate::JOINS;
 use crate::NOTHING;
 use crate::Outcome;
+use crate::Shown;
 use crate::Step;
 use crate::Turn;
 use crate::judging::judge;
@@ -91,26 +92,46 @@ fn step_effects(
     microstep::plan_effects(chart, plan, chosen, by, trace, joins, NOTHING)
 }
 
-// The effects that were drafted, into the trace. Where the draft was too short they are all worked out again.
-fn show_plan(
+// It is drafted first; the effects of one with more entries than this are worked out twice.
+const DRAFT: usize = 168;
+
+// The step is drafted, judged with so many names that wait, and written into the trace unless it is refused. Where the draft was too short all is worked out
+// again: the step is handed on there alone, so that no other round copies it.
+fn show(
     chart: &[u64],
     step: Step,
     items: &[u16],
-    draft: &[u32],
-    tally: Tally,
+    kept: u64,
+    joins: &mut [u32],
     trace: &mut [u32],
-)
-    requires { ⌜ PlanReady (now chart) (step .plan) × ChosenIn (transitionCount (now chart)) (now items) (step .len) × Drafted (now draft) tally (planEffects (chartOf (now chart)) (step .plan) (byIn (now items)) (stepTakes (now items) step)) × (tally .entries ≤ length (now trace)) ⌝ }
-    ensures { λ _. ⌜ Filled (now (trace .entry)) (now (trace .exit)) tally (planEffects (chartOf (now (chart .entry))) (step .plan) (byIn (now (items .entry))) (stepTakes (now (items .entry)) step)) ⌝ }
+) -> Shown
+    requires { ⌜ PlanReady (now chart) (step .plan) × ChosenIn (transitionCount (now chart)) (now items) (step .len) × (kept ≤ 32) × (length (now joins) ≡ 32) ⌝ }
+    ensures { λ s. ⌜ Shows (planEffects (chartOf (now (chart .entry))) (step .plan) (byIn (now (items .entry))) (stepTakes (now (items .entry)) step)) kept (now (trace .entry)) (now (trace .exit)) (now (joins .exit)) s ⌝ }
 {
+    let mut draft = [0u32; DRAFT];
+    let tally = step_effects(chart, step, items, &mut draft, joins);
+    let outcome = judge(kept, tally, trace.len());
+    let Outcome::Did = outcome else {
+        return Shown {
+            outcome: outcome,
+            tally: tally,
+        };
+    };
     let n = tally.entries;
-    if (draft.len() as u64) < n {
+    if (DRAFT as u64) < n {
         let mut none = [0u32; 0];
         step_effects(chart, step, items, trace, &mut none);
-        return;
+        return Shown {
+            outcome: Outcome::Did,
+            tally: tally,
+        };
     }
     let end = n as usize;
     copy_u32(&draft[..end], trace);
+    Shown {
+        outcome: Outcome::Did,
+        tally: tally,
+    }
 }
 
 // ---- what is kept: queues, stored history, and the next state
@@ -153,51 +174,6 @@ fn commit(
 
 // ---- the round
 
-// It is drafted first; the effects of one with more entries than this are worked out twice.
-const DRAFT: usize = 128;
-
-// The step is carried out: drafted, judged, and written unless it is refused.
-fn carry_out(
-    chart: &[u64],
-    names: &[u8],
-    kinds: RowKinds,
-    numbers: &mut [u64],
-    internal: &mut [u8],
-    external: &mut [u8],
-    step: Step,
-    items: &[u16],
-    trace: &mut [u32],
-) -> Turn
-    requires { ⌜ StepReady (now chart) (now names) kinds (now numbers) (now internal) (now external) step (now items) ⌝ }
-    ensures { λ r. ⌜ Turned (roundIn Running (chartOf (now (chart .entry))) (nameAt (now (names .entry))) (stateAt (now (chart .entry)) (now (numbers .entry)) (now (internal .entry)) (now (external .entry)))) (stateAt (now (chart .entry)) (now (numbers .entry)) (now (internal .entry)) (now (external .entry))) r (now (numbers .exit)) (now (internal .exit)) (now (external .exit)) (now (trace .entry)) (now (trace .exit)) ⌝ }
-{
-    let source = step.source;
-    let kept = internal_left(source, numbers[state::INTERNAL]);
-    let mut draft = [0u32; DRAFT];
-    let mut joins = [0u32; JOINS];
-    let tally = step_effects(chart, step, items, &mut draft, &mut joins);
-    let outcome = judge(kept, tally, trace.len());
-    let Outcome::Did = outcome else {
-        return unchanged(outcome);
-    };
-    show_plan(chart, step, items, &draft, tally, trace);
-    let n = tally.names as usize;
-    commit(
-        chart,
-        names,
-        kinds,
-        numbers,
-        internal,
-        external,
-        step,
-        &joins[..n],
-    );
-    Turn {
-        outcome: Outcome::Did,
-        count: tally.entries as usize,
-    }
-}
-
 // The chosen transitions, which are the first of the items, are planned.
 fn plan_step(
     chart: &[u64],
@@ -227,6 +203,7 @@ fn plan_step(
     }
 }
 
+// Chosen, planned, shown, and kept unless it is refused.
 pub fn take(
     chart: &[u64],
     names: &[u8],
@@ -256,7 +233,17 @@ pub fn take(
         return unchanged(Outcome::Idle);
     }
     let step = plan_step(chart, index, kinds, numbers, choice, items);
-    carry_out(
+    let from = step.source;
+    let kept = internal_left(from, numbers[state::INTERNAL]);
+    let mut joins = [0u32; JOINS];
+    let shown = show(chart, step, items, kept, &mut joins, trace);
+    let outcome = shown.outcome;
+    let Outcome::Did = outcome else {
+        return unchanged(outcome);
+    };
+    let tally = shown.tally;
+    let n = tally.names as usize;
+    commit(
         chart,
         names,
         kinds,
@@ -264,7 +251,10 @@ pub fn take(
         internal,
         external,
         step,
-        items,
-        trace,
-    )
+        &joins[..n],
+    );
+    Turn {
+        outcome: Outcome::Did,
+        count: tally.entries as usize,
+    }
 }

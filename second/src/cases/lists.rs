@@ -30,9 +30,9 @@ const REFUSED: u64 = 40;
 /// The last so many of the lists with 8 and 9 are of large charts too.
 const LARGE_REFUSED: u64 = 1;
 
-/// Regions, and actions of the parallel above them, so that the round that enters them has 128 entries,
-/// 129 and 551: as many as the library drafts, one more, and many more.
-const LONG: [(usize, usize); 3] = [(13, 7), (13, 8), (60, 7)];
+/// Regions, and actions of the parallel above them, so that the round that enters them has 168 entries,
+/// 169 and 551: as many as the library drafts, one more, and many more.
+const LONG: [(usize, usize); 3] = [(18, 2), (18, 3), (60, 7)];
 
 pub fn lists() -> Vec<Line> {
     let mut lines = story();

@@ -1,8 +1,11 @@
 use borrow.Author.Needs.{needs}
 use mathlib.Core.Path.{refl, sym, _∙_}
+use native.Mathlib.Omega.{arith}
+use Rattle.state.specs.Places.{numbers-size}
 use Rattle.matching.specs.Chosen.{listOf}
-use Rattle.rounds.specs.Deciding.{taken-idle, plan-asks, step-ready}
-use Rattle.rounds.proofs.Tags.{not-nothing}
+use Rattle.rounds.specs.Taking.{internal-leaves}
+use Rattle.rounds.specs.Deciding.{taken-idle, plan-asks, step-ready, few-kept, taken-refused, few-join, joins-fit, joins-size, is-decided, taken-did}
+use Rattle.rounds.proofs.Tags.{not-nothing, not-did}
 use Rattle.rounds.proofs.taking.take.Statement.{statement}
 use Rattle.rounds.proofs.taking.take.Tie as tie
 
@@ -21,12 +24,20 @@ returns c = taken-idle _ _ _ _ _ _ _ (c .before .before .before .before .before 
 plan-step-requires : tie.Need-plan-step-requires
 plan-step-requires c κs = plan-asks _ _ _ _ _ _ _ (c .before .before .before .before .before .before .before .before .before .before .before .before .before .before .before .before .before .before .pre .0) (c .before .before .before .before .before .before .before .before .before .before .before .before .before .before .before .before .before .before .pre .1) _ _ (c .before .before .before .before .before .choose .ensures)
 
-carry-out-requires : tie.Need-carry-out-requires
+slice-read-internal-left : tie.Need-slice-read-internal-left
+slice-read-internal-left c = let e = numbers-size _ _ _ _ (c .before .before .before .before .before .before .before .before .before .before .before .before .before .before .before .before .before .before .before .before .pre .1 .spells) in omega arith
+
+internal-left-requires : tie.Need-internal-left-requires
 unfolding listOf
-carry-out-requires c κs = step-ready _ _ _ _ _ _ _ (c .before .before .before .before .before .before .before .before .before .before .before .before .before .before .before .before .before .before .before .before .before .before .before .before .pre .0) (c .before .before .before .before .before .before .before .before .before .before .before .before .before .before .before .before .before .before .before .before .before .before .before .before .pre .1) _ _ (c .before .before .before .before .before .before .before .before .before .before .before .choose .ensures) (not-nothing _ (c .before .before .before .before .before .before .before .before .match .keys2)) _ (c .before .before .before .before .before .plan-step .ensures)
+internal-left-requires c κs = internal-leaves _ _ _ _ _ _ _ _ (step-ready _ _ _ _ _ _ _ (c .before .before .before .before .before .before .before .before .before .before .before .before .before .before .before .before .before .before .before .before .pre .0) (c .before .before .before .before .before .before .before .before .before .before .before .before .before .before .before .before .before .before .before .before .pre .1) _ _ (c .before .before .before .before .before .before .before .choose .ensures) (not-nothing _ (c .before .before .before .before .match .keys2)) _ (c .before .plan-step .ensures))
+
+show-requires : tie.Need-show-requires
+unfolding listOf
+show-requires c κs = let g = step-ready _ _ _ _ _ _ _ (c .before .before .before .before .before .before .before .before .before .before .before .before .before .before .before .before .before .before .before .before .before .before .before .before .pre .0) (c .before .before .before .before .before .before .before .before .before .before .before .before .before .before .before .before .before .before .before .before .before .before .before .before .pre .1) _ _ (c .before .before .before .before .before .before .before .before .before .before .before .choose .ensures) (not-nothing _ (c .before .before .before .before .before .before .before .before .match .keys2)) _ (c .before .before .before .before .before .plan-step .ensures) in (g .ready, g .lent, few-kept _ _ _ _ _ _ _ _ g _ (c .before .before .before .internal-left .ensures), search needs)
 
 returns-2 : tie.Need-returns-2
-returns-2 c = c .before .before .before .before .before .before .before .before .carry-out .ensures
+unfolding listOf
+returns-2 c = let z = not-did _ (c .before .match2 .keys2) in rw (c .before .before .before .before .before .show .ensures .stays z) (taken-refused _ _ _ _ _ _ _ _ (step-ready _ _ _ _ _ _ _ (c .before .before .before .before .before .before .before .before .before .before .before .before .before .before .before .before .before .before .before .before .before .before .before .before .before .before .before .before .before .before .pre .0) (c .before .before .before .before .before .before .before .before .before .before .before .before .before .before .before .before .before .before .before .before .before .before .before .before .before .before .before .before .before .before .pre .1) _ _ (c .before .before .before .before .before .before .before .before .before .before .before .before .before .before .before .before .before .choose .ensures) (not-nothing _ (c .before .before .before .before .before .before .before .before .before .before .before .before .before .before .match .keys2)) _ (c .before .before .before .before .before .before .before .before .before .before .before .plan-step .ensures)) _ (c .before .before .before .before .before .before .before .before .before .internal-left .ensures) (c .before .before .before .before .before .show .result .tally) (c .before .before .before .before .before .show .ensures .counted) (c .before .before .before .before .before .before .before .before .before .before .before .before .before .before .before .before .before .before .before .before .before .before .before .before .before .before .before .before .before .before .args .trace .now) _ (c .before .before .before .before .before .show .ensures .judges) _ (c .unchanged2 .ensures) z)
 
 same-length : tie.Need-same-length
 same-length c = refl
@@ -40,20 +51,63 @@ same-length-3 c = refl
 same-length-4 : tie.Need-same-length-4
 same-length-4 c = c .before .before .before .before .before .choose .ensures .selected .fits .room ∙ sym (c .before .before .before .before .before .before .before .before .before .before .before .before .before .before .before .before .before .before .pre .2)
 
+slice-aggregate-show : tie.Need-slice-aggregate-show
+slice-aggregate-show c = search needs
+
+enum-told-2 : tie.Need-enum-told-2
+enum-told-2 c = search needs
+
+unchanged-requires-2 : tie.Need-unchanged-requires-2
+unchanged-requires-2 c κs = search needs
+
 same-length-5 : tie.Need-same-length-5
-same-length-5 c = c .before .before .before .before .before .before .before .before .carry-out .kept .1 .1 .1 .0
+same-length-5 c = refl
 
 same-length-6 : tie.Need-same-length-6
-same-length-6 c = c .before .before .before .before .before .before .before .before .carry-out .kept .1 .1 .1 .1 .0
+same-length-6 c = refl
 
 same-length-7 : tie.Need-same-length-7
-same-length-7 c = c .before .before .before .before .before .before .before .before .carry-out .kept .1 .1 .1 .1 .1 .0
+same-length-7 c = refl
 
 same-length-8 : tie.Need-same-length-8
-same-length-8 c = c .before .before .before .before .before .before .before .before .before .before .before .before .before .before .before .before .before .before .before .before .choose .ensures .selected .fits .room ∙ sym (c .before .before .before .before .before .before .before .before .before .before .before .before .before .before .before .before .before .before .before .before .before .before .before .before .before .before .before .before .before .before .before .before .before .pre .2)
+same-length-8 c = c .before .before .before .before .before .before .before .before .before .before .before .before .before .before .before .before .before .choose .ensures .selected .fits .room ∙ sym (c .before .before .before .before .before .before .before .before .before .before .before .before .before .before .before .before .before .before .before .before .before .before .before .before .before .before .before .before .before .before .pre .2)
 
 same-length-9 : tie.Need-same-length-9
-same-length-9 c = c .before .before .before .before .before .before .before .before .carry-out .kept .1 .1 .1 .1 .1 .1 .1 .1 .0
+same-length-9 c = c .before .before .before .before .before .show .kept .1 .1 .1 .1 .1 .0
+
+array-share-prefix-joins : tie.Need-array-share-prefix-joins
+unfolding listOf
+array-share-prefix-joins c =
+    let l = joins-fit _ _ _ _ _ _ _ _ (step-ready _ _ _ _ _ _ _ (c .before .before .before .before .before .before .before .before .before .before .before .before .before .before .before .before .before .before .before .before .before .before .before .before .before .before .before .before .before .before .before .before .before .before .pre .0) (c .before .before .before .before .before .before .before .before .before .before .before .before .before .before .before .before .before .before .before .before .before .before .before .before .before .before .before .before .before .before .before .before .before .before .pre .1) _ _ (c .before .before .before .before .before .before .before .before .before .before .before .before .before .before .before .before .before .before .before .before .before .choose .ensures) (not-nothing _ (c .before .before .before .before .before .before .before .before .before .before .before .before .before .before .before .before .before .before .match .keys2)) _ (c .before .before .before .before .before .before .before .before .before .before .before .before .before .before .before .plan-step .ensures)) _ (c .before .before .before .before .before .before .before .before .before .before .before .before .before .internal-left .ensures) (c .before .before .before .before .before .before .before .before .before .show .result .tally) (c .before .before .before .before .before .before .before .before .before .show .ensures .counted) (c .before .before .before .before .before .before .before .before .before .before .before .before .before .before .before .before .before .before .before .before .before .before .before .before .before .before .before .before .before .before .before .before .before .before .args .trace .now) _ (c .before .before .before .before .before .before .before .before .before .show .ensures .judges) (c .before .before .before .before .enum-told2 .given .1) _ (c .before .before .before .before .before .before .before .before .before .show .ensures .joined) in
+    let m = few-join _ _ _ _ _ _ _ _ (step-ready _ _ _ _ _ _ _ (c .before .before .before .before .before .before .before .before .before .before .before .before .before .before .before .before .before .before .before .before .before .before .before .before .before .before .before .before .before .before .before .before .before .before .pre .0) (c .before .before .before .before .before .before .before .before .before .before .before .before .before .before .before .before .before .before .before .before .before .before .before .before .before .before .before .before .before .before .before .before .before .before .pre .1) _ _ (c .before .before .before .before .before .before .before .before .before .before .before .before .before .before .before .before .before .before .before .before .before .choose .ensures) (not-nothing _ (c .before .before .before .before .before .before .before .before .before .before .before .before .before .before .before .before .before .before .match .keys2)) _ (c .before .before .before .before .before .before .before .before .before .before .before .before .before .before .before .plan-step .ensures)) _ (c .before .before .before .before .before .before .before .before .before .before .before .before .before .internal-left .ensures) (c .before .before .before .before .before .before .before .before .before .show .result .tally) (c .before .before .before .before .before .before .before .before .before .show .ensures .counted) (c .before .before .before .before .before .before .before .before .before .before .before .before .before .before .before .before .before .before .before .before .before .before .before .before .before .before .before .before .before .before .before .before .before .before .args .trace .now) _ (c .before .before .before .before .before .before .before .before .before .show .ensures .judges) (c .before .before .before .before .enum-told2 .given .1) _ (c .before .before .before .before .before .before .before .before .before .show .ensures .joined) in
+    search needs
+
+slice-aggregate-commit : tie.Need-slice-aggregate-commit
+unfolding listOf
+slice-aggregate-commit c = joins-size _ _ _ _ _ _ _ _ (step-ready _ _ _ _ _ _ _ (c .before .before .before .before .before .before .before .before .before .before .before .before .before .before .before .before .before .before .before .before .before .before .before .before .before .before .before .before .before .before .before .before .before .before .before .pre .0) (c .before .before .before .before .before .before .before .before .before .before .before .before .before .before .before .before .before .before .before .before .before .before .before .before .before .before .before .before .before .before .before .before .before .before .before .pre .1) _ _ (c .before .before .before .before .before .before .before .before .before .before .before .before .before .before .before .before .before .before .before .before .before .before .choose .ensures) (not-nothing _ (c .before .before .before .before .before .before .before .before .before .before .before .before .before .before .before .before .before .before .before .match .keys2)) _ (c .before .before .before .before .before .before .before .before .before .before .before .before .before .before .before .before .plan-step .ensures)) _ (c .before .before .before .before .before .before .before .before .before .before .before .before .before .before .internal-left .ensures) (c .before .before .before .before .before .before .before .before .before .before .show .result .tally) (c .before .before .before .before .before .before .before .before .before .before .show .ensures .counted) (c .before .before .before .before .before .before .before .before .before .before .before .before .before .before .before .before .before .before .before .before .before .before .before .before .before .before .before .before .before .before .before .before .before .before .before .args .trace .now) _ (c .before .before .before .before .before .before .before .before .before .before .show .ensures .judges) (c .before .before .before .before .before .enum-told2 .given .1) _ (c .before .before .before .before .before .before .before .before .before .before .show .ensures .joined)
+
+commit-requires : tie.Need-commit-requires
+unfolding listOf
+commit-requires c κs = is-decided _ _ _ _ _ _ _ _ (step-ready _ _ _ _ _ _ _ (c .before .before .before .before .before .before .before .before .before .before .before .before .before .before .before .before .before .before .before .before .before .before .before .before .before .before .before .before .before .before .before .before .before .before .before .pre .0) (c .before .before .before .before .before .before .before .before .before .before .before .before .before .before .before .before .before .before .before .before .before .before .before .before .before .before .before .before .before .before .before .before .before .before .before .pre .1) _ _ (c .before .before .before .before .before .before .before .before .before .before .before .before .before .before .before .before .before .before .before .before .before .before .choose .ensures) (not-nothing _ (c .before .before .before .before .before .before .before .before .before .before .before .before .before .before .before .before .before .before .before .match .keys2)) _ (c .before .before .before .before .before .before .before .before .before .before .before .before .before .before .before .before .plan-step .ensures)) _ (c .before .before .before .before .before .before .before .before .before .before .before .before .before .before .internal-left .ensures) (c .before .before .before .before .before .before .before .before .before .before .show .result .tally) (c .before .before .before .before .before .before .before .before .before .before .show .ensures .counted) (c .before .before .before .before .before .before .before .before .before .before .before .before .before .before .before .before .before .before .before .before .before .before .before .before .before .before .before .before .before .before .before .before .before .before .before .args .trace .now) _ (c .before .before .before .before .before .before .before .before .before .before .show .ensures .judges) (c .before .before .before .before .before .enum-told2 .given .1) _ (c .before .before .before .before .before .before .before .before .before .before .show .ensures .joined)
+
+same-length-10 : tie.Need-same-length-10
+same-length-10 c = c .before .before .before .before .before .before .commit .kept .1 .1 .1 .0
+
+same-length-11 : tie.Need-same-length-11
+same-length-11 c = c .before .before .before .before .before .before .commit .kept .1 .1 .1 .1 .0
+
+same-length-12 : tie.Need-same-length-12
+same-length-12 c = c .before .before .before .before .before .before .commit .kept .1 .1 .1 .1 .1 .0
+
+same-length-13 : tie.Need-same-length-13
+same-length-13 c = c .before .before .before .before .before .before .before .before .before .before .before .before .before .before .before .before .before .before .before .before .before .before .before .before .before .before .before .before .before .choose .ensures .selected .fits .room ∙ sym (c .before .before .before .before .before .before .before .before .before .before .before .before .before .before .before .before .before .before .before .before .before .before .before .before .before .before .before .before .before .before .before .before .before .before .before .before .before .before .before .before .before .before .pre .2)
+
+same-length-14 : tie.Need-same-length-14
+same-length-14 c = c .before .before .before .before .before .before .before .before .before .before .before .before .before .before .before .before .before .show .kept .1 .1 .1 .1 .1 .0
+
+returns-3 : tie.Need-returns-3
+unfolding listOf
+returns-3 c = taken-did _ _ _ _ _ _ _ _ (step-ready _ _ _ _ _ _ _ (c .before .before .before .before .before .before .before .before .before .before .before .before .before .before .before .before .before .before .before .before .before .before .before .before .before .before .before .before .before .before .before .before .before .before .before .before .before .before .before .before .before .before .pre .0) (c .before .before .before .before .before .before .before .before .before .before .before .before .before .before .before .before .before .before .before .before .before .before .before .before .before .before .before .before .before .before .before .before .before .before .before .before .before .before .before .before .before .before .pre .1) _ _ (c .before .before .before .before .before .before .before .before .before .before .before .before .before .before .before .before .before .before .before .before .before .before .before .before .before .before .before .before .before .choose .ensures) (not-nothing _ (c .before .before .before .before .before .before .before .before .before .before .before .before .before .before .before .before .before .before .before .before .before .before .before .before .before .before .match .keys2)) _ (c .before .before .before .before .before .before .before .before .before .before .before .before .before .before .before .before .before .before .before .before .before .before .before .plan-step .ensures)) _ (c .before .before .before .before .before .before .before .before .before .before .before .before .before .before .before .before .before .before .before .before .before .internal-left .ensures) (c .before .before .before .before .before .before .before .before .before .before .before .before .before .before .before .before .before .show .result .tally) (c .before .before .before .before .before .before .before .before .before .before .before .before .before .before .before .before .before .show .ensures .counted) (c .before .before .before .before .before .before .before .before .before .before .before .before .before .before .before .before .before .before .before .before .before .before .before .before .before .before .before .before .before .before .before .before .before .before .before .before .before .before .before .before .before .before .args .trace .now) _ (c .before .before .before .before .before .before .before .before .before .before .before .before .before .before .before .before .before .show .ensures .judges) (c .before .before .before .before .before .before .before .before .before .before .before .before .enum-told2 .given .1) _ (c .before .before .before .before .before .before .before .before .before .before .before .before .before .before .before .before .before .show .ensures .joined) _ (c .before .before .before .before .before .before .before .before .before .before .before .before .before .before .before .before .before .show .ensures .filled (c .before .before .before .before .before .before .before .before .before .before .before .before .enum-told2 .given .1)) _ _ _ (c .before .before .before .before .before .before .commit .ensures)
 
 pub take-spec : {M : Type 1} → statement M
 take-spec =
@@ -68,10 +122,24 @@ take-spec =
     same-length-4
     returns
     plan-step-requires
-    carry-out-requires
+    slice-read-internal-left
+    internal-left-requires
+    slice-aggregate-show
+    show-requires
+    enum-told-2
+    unchanged-requires-2
     same-length-5
     same-length-6
     same-length-7
     same-length-8
     same-length-9
-    returns-2)
+    returns-2
+    array-share-prefix-joins
+    slice-aggregate-commit
+    commit-requires
+    same-length-10
+    same-length-11
+    same-length-12
+    same-length-13
+    same-length-14
+    returns-3)
