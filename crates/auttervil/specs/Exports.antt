@@ -24,7 +24,9 @@ use Rattle.lent.specs.declared.RanIn.{RanIn}
 use Rattle.lent.specs.declared.Stepped.{Stepped}
 use Rattle.lent.specs.Places.{startedIn, ranIn, steppedIn, Steps}
 use Rattle.reading.specs.Calls.{Outcome}
+use Rattle.writing.specs.Calls.{Outcome as Writing}
 use Rattle.auttervil.specs.declared.ReadResult.{ReadResult}
+use Rattle.auttervil.specs.declared.WriteResult.{WriteResult}
 use Rattle.auttervil.specs.declared.StartResult.{StartResult}
 use Rattle.auttervil.specs.declared.RunResult.{RunResult}
 use Rattle.auttervil.specs.declared.StepResult.{StepResult}
@@ -103,3 +105,8 @@ steps-to first chart names name rounds old s q n m trace h e g = record {
 
 abbrev pub readOutcome : ReadResult → List ℕ → List ℕ → Outcome
 readOutcome r place namePlace = record { answer = r .answer; offset = r .offset; cells = r .cells; bytes = r .bytes; numbers = place; names = namePlace }
+
+-- ---- writing a chart back: the result with the buffer behind the call
+
+abbrev pub writeOutcome : WriteResult → List ℕ → Writing
+writeOutcome r buffer = record { answer = r .answer; length = r .length; buffer = buffer }

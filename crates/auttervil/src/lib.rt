@@ -14,8 +14,9 @@ ghost use Rattle.session.specs.Sessions.{postOf, runOf, runEffects};
 ghost use Rattle.lent.specs.Places.{sessionIn, lengthsFit, startIn, startInEffects};
 ghost use Rattle.calls.specs.Performing.{Performs, callsIn};
 ghost use Rattle.reading.specs.Calls.{callOf};
+ghost use Rattle.writing.specs.Calls.{callOf as writeOf};
 ghost use Rattle.read_text.specs.Whole.{placesFit, readWith, WorkKept};
-ghost use Rattle.auttervil.specs.Exports.{CompilesTo, chartAnswer, StartsTo, PostsTo, RunsTo, StepsTo, readOutcome};
+ghost use Rattle.auttervil.specs.Exports.{CompilesTo, chartAnswer, StartsTo, PostsTo, RunsTo, StepsTo, readOutcome, writeOutcome};
 use definition::Answer;
 
 // The number of this ABI: it stands in the name of every function too, so that an archive of another one does not link.
@@ -310,5 +311,30 @@ pub extern "C" fn auttervil_raw2_read_with(
         offset: offset,
         cells: cells,
         bytes: bytes,
+    }
+}
+
+// The length of the text; with 13, that of a buffer that it would fit, if there is one.
+#[repr(C)]
+pub struct WriteResult {
+    pub answer: u32,
+    pub length: usize,
+}
+
+// Tables into SCXML text (R-4): 0 and the text at the buffer's beginning, or 1 to 5, 13 and the buffer as it was. Bytes behind the text keep what they held.
+#[no_mangle]
+pub extern "C" fn auttervil_raw2_write(
+    numbers: &[u64],
+    names: &[u8],
+    buffer: &mut [u8],
+) -> WriteResult
+    ensures { λ r. ⌜ writeOutcome r (now (buffer .exit)) ≡ writeOf (now (numbers .entry)) (now (names .entry)) (now (buffer .entry)) ⌝ }
+{
+    let written = write_text::write(numbers, names, buffer);
+    let answer = written.answer;
+    let length = written.length;
+    WriteResult {
+        answer: answer,
+        length: length,
     }
 }
