@@ -30,10 +30,10 @@ ended-requires : tie.Need-ended-requires Inv-loop μ-loop
 ended-requires c κs = search (needs, ids-stopped)
 
 same-length : tie.Need-same-length Inv-loop μ-loop
-same-length c = search needs
+same-length c = let p = c .before .before .before .before .before .before .before .before .before .before .before .before .before .before .before .before .pre in let d = p .deep in let r = p .room in search needs
 
 same-length-2 : tie.Need-same-length-2 Inv-loop μ-loop
-same-length-2 c = search needs
+same-length-2 c = let p = c .before .before .before .before .before .before .before .before .before .before .before .before .before .before .before .before .pre in let d = p .deep in let r = p .room in search needs
 
 returns : tie.Need-returns Inv-loop μ-loop
 returns c = search (needs, ids-over)
