@@ -88,7 +88,7 @@ fn reads_in_places(text: &[u8], random: &mut Random, counts: &mut Counts) -> Res
 
 /// The text in places that are large enough, if it is not too large for them.
 fn reads(text: &[u8], random: &mut Random, counts: &mut Counts) -> Result<(), String> {
-    counts.answers[reads_alike(text, 26_154, 49_152, random)?] += 1;
+    counts.answers[reads_alike(text, 27_756, 49_152, random)?] += 1;
     Ok(())
 }
 

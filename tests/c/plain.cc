@@ -36,7 +36,9 @@ static void text_is_read()
     auttervil_compiled compiled = AUTTERVIL_COMPILE(&reading.tables, read);
     CHECK(reading.answer == AUTTERVIL_DONE && compiled.answer == AUTTERVIL_DONE && auttervil_find_row(&compiled.chart, "on") == 2);
     auttervil_tables tables = auttervil_tables_of(&compiled.chart);
-    CHECK(auttervil_write(&tables, nullptr, 0).length == auttervil_write(&reading.tables, message, sizeof message).length);
+    char again[sizeof message];
+    CHECK(auttervil_write(&tables, again, sizeof again).length == auttervil_write(&reading.tables, message, sizeof message).length);
+    CHECK(std::memcmp(again, message, auttervil_write(&tables, nullptr, 0).length) == 0);
     reading = AUTTERVIL_READ_WITH(&scratch, text, 30, read);
     CHECK(reading.answer == AUTTERVIL_BAD_TEXT && reading.offset == 30 && auttervil_prolog_length(text, sizeof text - 1) == 0);
     CHECK(auttervil_position_of(text, 30, reading.offset).column == 31 && auttervil_show_offset(message, sizeof message, text, 30, 30) == strlen(message));

@@ -21,7 +21,7 @@ use Rattle.gather.specs.Faults.{Searched}
 use Rattle.reader.specs.declared.Judged.{Judged}
 use Rattle.reader.specs.declared.Judged.the-variants.{Faulty, Well}
 
--- the places that the walks work in: a level for each byte, two numbers for each id that a text can have
+-- the places that the walks work in: a level for each byte, three numbers for each id that a text can have and one for each of 1,024 keys
 pub record Places (levels ids : List ℕ) : Type 0 where
   pub deep : length levels ≡ 32768
   pub room : length ids ≡ 15070

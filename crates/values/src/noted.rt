@@ -1,4 +1,4 @@
-// Names noted one behind the other, by place and length, each found in about the time of reading it. The place that they are noted in ends with one number for each key, and
+// Names noted one behind the other, by place and length, each found in about the time of reading it where few share a key: those of one key are followed one by one. The place that they are noted in ends with one number for each key, and
 // before these, backwards, with one for each name: the last new name of the key, and the new name of its key before it. Both are told by their number and one; 0 tells of none.
 ghost use mathlib.Core.Path.{_≡_};
 ghost use Prim.Native.Nat.{_+_, _*_, _-_, _≤_, _<_};

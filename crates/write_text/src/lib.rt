@@ -13,7 +13,7 @@ pub mod rows;
 pub mod runs;
 
 // "new refusal 13" (4.7)
-const NO_ROOM: u32 = 13;
+const LONG_TEXT: u32 = 13;
 
 // The answer, and the length of the text: with 13, that of a buffer that it would fit, if there is one.
 pub struct Written {
@@ -41,10 +41,10 @@ pub fn write(numbers: &[u64], names: &[u8], buffer: &mut [u8]) -> Written
     let mut nothing = [0u8; 0];
     let length = lay_rows(numbers, names, &mut nothing);
     if LONGEST < length {
-        return result(NO_ROOM, 0);
+        return result(LONG_TEXT, 0);
     }
     if buffer.len() < length {
-        return result(NO_ROOM, length);
+        return result(LONG_TEXT, length);
     }
     let end = lay_rows(numbers, names, buffer);
     result(0, end)

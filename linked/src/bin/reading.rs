@@ -29,6 +29,7 @@ const KINDS: [(&str, fn(usize) -> Vec<u8>); 7] = [
     ("references to ids that differ in the middle", middles),
     ("names that begin alike", names),
     ("the last of many names again and again", last_name),
+    ("the first of many names of one key", one_key),
     ("actions", actions),
     ("a comment", comment),
 ];
@@ -109,6 +110,21 @@ fn last_name(size: usize) -> Vec<u8> {
     repeated(&begin, size, |_| name(most / 4 * 4 - 1) + " ", "'/></state></scxml>", size)
 }
 
+/// The library's key of a name (`values::noted`), by which it looks names up.
+fn key(name: &str) -> usize {
+    name.bytes().fold(0, |key, byte| (key * 31 + byte as usize) % 1024)
+}
+
+/// The same with events that all have one key, length and last byte, and with the first of them repeated: names of one key are followed one by one.
+fn one_key(size: usize) -> Vec<u8> {
+    let most = (size / 43).min(760);
+    let spelled = |k: usize| format!("n{:05x}e", k);
+    let all: Vec<String> = (0..1 << 20).map(spelled).filter(|name| key(name) == 7).take(most).collect();
+    let names: String = all.chunks_exact(4).map(|four| format!("<transition event='{}'/>", four.join(" "))).collect();
+    let begin = format!("<scxml><state id='s'>{names}<transition event='");
+    repeated(&begin, size, |_| all[0].clone() + " ", "'/></state></scxml>", size)
+}
+
 /// States with full blocks.
 fn actions(size: usize) -> Vec<u8> {
     let block = "<if cond=\"In('s')\"><log label='65535'/><else/><raise event='e'/></if>".repeat(6);
@@ -133,7 +149,7 @@ fn time(call: impl FnOnce()) -> Duration {
 }
 
 fn measure(text: &[u8]) -> Times {
-    let (mut numbers, mut names) = (vec![0; 26_154], vec![0; 49_152]);
+    let (mut numbers, mut names) = (vec![0; 27_756], vec![0; 49_152]);
     let mut scratch = Scratch::filled(0);
     let mut times = Times { read: Duration::MAX, read_with: Duration::MAX, second: Duration::MAX };
     for _ in 0..TURNS {
@@ -151,7 +167,7 @@ fn measure(text: &[u8]) -> Times {
 /// Prints a line of the table; what is wanted and missed.
 fn measured(kind: &str, text: &[u8]) -> Vec<String> {
     let Times { read, read_with, second } = measure(text);
-    let answer = library::read(text, &mut [0; 26_154], &mut [0; 49_152]).answer;
+    let answer = library::read(text, &mut [0; 27_756], &mut [0; 49_152]).answer;
     let micros = |time: Duration| time.as_nanos() as f64 / 1_000.0;
     let ratio = micros(read) / micros(second);
     println!(
