@@ -38,7 +38,7 @@ static void text_is_read()
     auttervil_tables tables = auttervil_tables_of(&compiled.chart);
     char again[sizeof message];
     CHECK(auttervil_write(&tables, again, sizeof again).length == auttervil_write(&reading.tables, message, sizeof message).length);
-    CHECK(std::memcmp(again, message, auttervil_write(&tables, nullptr, 0).length) == 0);
+    CHECK(memcmp(again, message, auttervil_write(&tables, nullptr, 0).length) == 0);
     reading = AUTTERVIL_READ_WITH(&scratch, text, 30, read);
     CHECK(reading.answer == AUTTERVIL_BAD_TEXT && reading.offset == 30 && auttervil_prolog_length(text, sizeof text - 1) == 0);
     CHECK(auttervil_position_of(text, 30, reading.offset).column == 31 && auttervil_show_offset(message, sizeof message, text, 30, 30) == strlen(message));
