@@ -38,7 +38,6 @@ use Rattle.state.specs.State.{configurationIn, historyIn, internalIn, externalI
 use Rattle.state.specs.Found.{configuration-set}
 use Rattle.state.specs.Places.{reads-internal, reads-external, reads-configuration, reads-stored, numbers-size}
 use Rattle.events.specs.declared.Source.the-variants.{Nothing, Eventless, Internal, External}
-use Rattle.lookup.specs.declared.RowKinds.{RowKinds}
 use Rattle.lookup.specs.Lookup.{Lookup}
 use Rattle.events.specs.Choosers.{taking-by}
 use Rattle.events.specs.Rounds.{internalAfter, externalAfter, roundBy, EventReady, Found, Chooses}
@@ -188,9 +187,9 @@ module _ (chart slots : List ℕ) (g : CompiledWith chart slots) (f : Follower) 
         }
 
 -- what a round of a session that is spelled gives to the selection
-pub event-ready : (chart names index : List ℕ) (kinds : RowKinds) (l : Lookup chart names index kinds) (f : Follower) (numbers internal external : List ℕ) (items : List ℕ) →
-    Holds (chartOf chart) f numbers internal external → length items ≡ 768 → EventReady chart names index kinds numbers items
-event-ready chart names index kinds l f numbers internal external items h e = record {
+pub event-ready : (chart names index : List ℕ) (l : Lookup chart names index) (f : Follower) (numbers internal external : List ℕ) (items : List ℕ) →
+    Holds (chartOf chart) f numbers internal external → length items ≡ 768 → EventReady chart names index numbers items
+event-ready chart names index l f numbers internal external items h e = record {
   looked = l;
   size = numbers-size f numbers internal external (h .spells);
   inside = conf-within chart names (l .compiled) f numbers internal external h;

@@ -21,7 +21,6 @@ use Rattle.selection.specs.declared.Selected.{Selected}
 use Rattle.selection.specs.History.{storedAt}
 use Rattle.selection.specs.Ready.{Selects}
 use Rattle.selection.specs.Choosers.{IsSelectedBy}
-use Rattle.lookup.specs.declared.RowKinds.{RowKinds}
 use Rattle.lookup.specs.Lookup.{Lookup}
 use Rattle.state.specs.State.{configurationIn, historyIn}
 use Rattle.effects.specs.Kinds.{effectOf}
@@ -52,8 +51,8 @@ roundBy Internal c names f by ts = takingBy c names f by (internalAfter Internal
 roundBy External c names f by ts = takingBy c names f by (internalAfter External f) (externalAfter External f) ts
 
 -- all that the selection for an event is given: what is worked out of the chart, the session's numbers, room for the items
-pub record EventReady (chart names index : List ℕ) (kinds : RowKinds) (numbers items : List ℕ) : Type 0 where
-  pub looked : Lookup chart names index kinds
+pub record EventReady (chart names index numbers items : List ℕ) : Type 0 where
+  pub looked : Lookup chart names index
   pub size : length numbers ≡ 1031
   pub inside : Within (rowCount chart) (rowsOf (configurationIn numbers))
   pub places : length items ≡ 768

@@ -17,7 +17,6 @@ ghost use Rattle.events.specs.Rounds.{EventReady, Found, Chooses, intern
 use effects::writing::DONE;
 use effects::writing::KIND;
 use effects::writing::RAISED;
-use lookup::RowKinds;
 use numbers::NameNumber;
 use numbers::Row;
 use rowset::RowSet;
@@ -42,21 +41,20 @@ fn select_event(
     chart: &[u64],
     names: &[u8],
     index: &[u16],
-    kinds: RowKinds,
     numbers: &[u64],
     event: &[u8],
     items: &mut [u16],
 ) -> Selected
-    requires { ⌜ EventReady (now chart) (now names) (now index) kinds (now numbers) (now items) ⌝ }
+    requires { ⌜ EventReady (now chart) (now names) (now index) (now numbers) (now items) ⌝ }
     ensures { λ r. ⌜ Found (now (chart .entry)) (now (names .entry)) (now (numbers .entry)) (eventOf (now (event .entry))) (now (items .exit)) r ⌝ }
 {
-    let atomic = kinds.atomic;
+    let atomic = lookup::rows_at(index, lookup::ATOMIC);
     let conf = chart::set_at(numbers, 0);
     selection::select(
         chart,
         names,
         &index[..lookup::STARTS],
-        &index[lookup::STARTS..lookup::INDEX],
+        &index[lookup::STARTS..lookup::ATOMIC],
         atomic,
         conf,
         &numbers[state::HISTORY..state::INTERNAL],
@@ -70,22 +68,21 @@ pub fn select_eventless(
     chart: &[u64],
     names: &[u8],
     index: &[u16],
-    kinds: RowKinds,
     numbers: &[u64],
     items: &mut [u16],
 ) -> Selected
-    requires { ⌜ EventReady (now chart) (now names) (now index) kinds (now numbers) (now items) ⌝ }
+    requires { ⌜ EventReady (now chart) (now names) (now index) (now numbers) (now items) ⌝ }
     ensures { λ r. ⌜ Found (now (chart .entry)) (now (names .entry)) (now (numbers .entry)) none (now (items .exit)) r ⌝ }
 {
     let conf = chart::set_at(numbers, 0);
-    let eventless = kinds.eventless;
+    let eventless = lookup::rows_at(index, lookup::EVENTLESS);
     if !conf.meets(eventless) {
         return Selected {
             len: 0,
             exits: RowSet::empty(),
         };
     }
-    select_event(chart, names, index, kinds, numbers, b"", items)
+    select_event(chart, names, index, numbers, b"", items)
 }
 
 // "eventless transitions first. If none is selected, the oldest internal event; if there is none, the oldest external event; if there
@@ -94,16 +91,15 @@ pub fn choose(
     chart: &[u64],
     names: &[u8],
     index: &[u16],
-    kinds: RowKinds,
     numbers: &[u64],
     internal: &[u8],
     external: &[u8],
     items: &mut [u16],
 ) -> Choice
-    requires { ⌜ Lookup (now chart) (now names) (now index) kinds × HoldsAt (now chart) (now numbers) (now internal) (now external) × (length (now items) ≡ 768) ⌝ }
+    requires { ⌜ Lookup (now chart) (now names) (now index) × HoldsAt (now chart) (now numbers) (now internal) (now external) × (length (now items) ≡ 768) ⌝ }
     ensures { λ r. ⌜ Chooses (chartOf (now (chart .entry))) (nameAt (now (names .entry))) (stateAt (now (chart .entry)) (now (numbers .entry)) (now (internal .entry)) (now (external .entry))) (storedAt (historyIn (now (numbers .entry)))) (now (items .exit)) r ⌝ }
 {
-    let first = select_eventless(chart, names, index, kinds, numbers, items);
+    let first = select_eventless(chart, names, index, numbers, items);
     if 0 < first.len {
         return Choice {
             source: Source::Eventless,
@@ -114,14 +110,14 @@ pub fn choose(
         let event = queue::first_name(internal);
         return Choice {
             source: Source::Internal,
-            selected: select_event(chart, names, index, kinds, numbers, event, items),
+            selected: select_event(chart, names, index, numbers, event, items),
         };
     }
     if 0 < numbers[state::EXTERNAL] {
         let event = queue::first_name(external);
         return Choice {
             source: Source::External,
-            selected: select_event(chart, names, index, kinds, numbers, event, items),
+            selected: select_event(chart, names, index, numbers, event, items),
         };
     }
     Choice {

@@ -20,7 +20,7 @@ use Rattle.theory.specs.Runs.{Fits}
 use Rattle.rowset.specs.declared.RowSet.{RowSet}
 use Rattle.rowset.specs.Member.{rowsOf}
 use Rattle.chart.specs.Ready.{CompiledWith}
-use Rattle.lookup.specs.declared.RowKinds.{RowKinds}
+use Rattle.lookup.specs.Lookup.{atomicIn}
 use Rattle.microstep.specs.Plan.{plan-next}
 use Rattle.microstep.specs.Words.{HistoryStored}
 use Rattle.queue.specs.Queues.{queueBytes, queueOf}
@@ -35,8 +35,8 @@ use Rattle.rounds.specs.Taking.{roundEffects, nextBy, stepTakes, byIn, S
 
 -- ---- what is decided is kept
 
-module _ (chart names : List ℕ) (kinds : RowKinds) (numbers internal external : List ℕ) (step : Step) (joins : List ℕ) (d : Decided chart names kinds numbers internal external step joins) where
-  abbrev g : StepReady chart names kinds numbers internal external step (d .items)
+module _ (chart names index numbers internal external : List ℕ) (step : Step) (joins : List ℕ) (d : Decided chart names index numbers internal external step joins) where
+  abbrev g : StepReady chart names index numbers internal external step (d .items)
   g = d .made
 
   abbrev chosen : List ℕ
@@ -52,11 +52,11 @@ module _ (chart names : List ℕ) (kinds : RowKinds) (numbers internal external 
   after = nextBy (step .source) (chartOf chart) (nameAt names) here who chosen
 
   names-now : queuedNames (chartOf chart) (nameAt names) joins ≡ flat (queued (chartOf chart) (nameAt names)) (roundEffects (chartOf chart) here who chosen)
-  names-now = ap (queuedNames (chartOf chart) (nameAt names)) (d .joined) ∙ entered chart names kinds numbers internal external step (d .items) g .queues
+  names-now = ap (queuedNames (chartOf chart) (nameAt names)) (d .joined) ∙ entered chart names index numbers internal external step (d .items) g .queues
 
   module _ (inner : List ℕ) (kept : ℕ) (i : inner ≡ internalBytes (step .source) internal) (n : kept ≡ internalLeft (step .source) (internalIn numbers)) where
     queue-now : QueueIs (internalAfter (step .source) here) inner kept
-    queue-now = rw (i, n) (left chart names kinds numbers internal external step (d .items) g .internal)
+    queue-now = rw (i, n) (left chart names index numbers internal external step (d .items) g .internal)
 
     next-length : kept + length (queuedNames (chartOf chart) (nameAt names) joins) ≡ length (after .internal)
     unfolding nextBy
@@ -68,7 +68,7 @@ module _ (chart names : List ℕ) (kinds : RowKinds) (numbers internal external 
     pub names-join : CompiledWith chart names × JoinsIn chart joins × (inner ≡ queueBytes (queueOf inner kept)) × (kept + length (queuedNames (chartOf chart) (nameAt names) joins) ≤ 32)
     names-join = (
       g .compiled,
-      rw (d .joined) (entered chart names kinds numbers internal external step (d .items) g .inside),
+      rw (d .joined) (entered chart names index numbers internal external step (d .items) g .inside),
       queue-now .again,
       let l = d .short in
           let m = next-length in
@@ -85,8 +85,8 @@ module _ (chart names : List ℕ) (kinds : RowKinds) (numbers internal external 
         Spells after cells inner2 outer
     unfolding nextBy
     committed stored inner2 outer waiting others conf mode cells joined x y h k r m e =
-        let p = planned chart names kinds numbers internal external step (d .items) g in
-        let b = left chart names kinds numbers internal external step (d .items) g in
+        let p = planned chart names index numbers internal external step (d .items) g in
+        let b = left chart names index numbers internal external step (d .items) g in
         let is : rowsOf conf ≡ configurationAfter (chartOf chart) (here .configuration) (storedIn (here .history)) chosen =
         r ∙ plan-next (chartOf chart) (here .configuration) (storedIn (here .history)) chosen (step .plan) p in
         let w : HistoryStored chart (rowsOf (configurationIn numbers)) (rowsOf (step .plan .out)) (historyIn numbers) stored = rw (g .planned .from) at h in
@@ -95,7 +95,7 @@ module _ (chart names : List ℕ) (kinds : RowKinds) (numbers internal external 
         let fit : state.Fits stored = subst state.Fits back (state.fits-part (take 4 numbers ++ (stored ++ drop 1024 (drop 4 numbers))) 4 1024 k) in
         let hist : historyIn (take 4 numbers ++ (stored ++ drop 1024 (drop 4 numbers))) ≡ historyWords (historyAfter (chartOf chart) (here .configuration) (storedIn (here .history)) chosen) =
         back ∙
-        history-next chart names (g .compiled) here numbers internal external (g .holds) (kinds .atomic) (step .plan .out) chosen stored (g .rows .atomic) (g .planned .out) w fit in
+        history-next chart names (g .compiled) here numbers internal external (g .holds) (atomicIn index) (step .plan .out) chosen stored (g .indexed .atomic) (g .planned .out) w fit in
         let inside = joined .1 ∙ next-length in
         let outside = y ∙ b .external .count in
         let mode-is = m ∙ ap (modeOf (chartOf chart)) is in

@@ -22,11 +22,9 @@ use Rattle.selection.specs.Ready.{Selects}
 use Rattle.effects.specs.declared.Tally.{Tally}
 use Rattle.effects.specs.Trace.{queues-all}
 use Rattle.microstep.specs.declared.Plan.{Plan}
-use Rattle.matching.specs.Histories.{historyRows}
 use Rattle.microstep.specs.Stored.{RoundReady}
 use Rattle.microstep.specs.Plan.{Planned, PlanReady, planEffects}
-use Rattle.lookup.specs.declared.RowKinds.{RowKinds}
-use Rattle.lookup.specs.Lookup.{IndexOf, Lookup}
+use Rattle.lookup.specs.Lookup.{atomicIn, IndexOf, Lookup}
 use Rattle.state.specs.State.{configurationIn, historyIn, internalIn, stateAt, HoldsAt}
 use Rattle.state.specs.Places.{numbers-size}
 use Rattle.events.specs.declared.Source.{Source}
@@ -49,7 +47,7 @@ use Rattle.rounds.specs.Taking.{roundEffects, nextBy, round-did, stepTak
 pub chosen-fit : (c : Chart) (conf : List ℕ) (hist : History) (items : List ℕ) (r : Selected) → Selects c conf hist items r → Taken (c .transitions) (listOf items (r .len))
 chosen-fit c conf hist items r h = lent-taken (c .transitions) items (r .len) (h .fits)
 
-module _ (chart names index : List ℕ) (kinds : RowKinds) (numbers internal external : List ℕ) (g : Lookup chart names index kinds) (h : HoldsAt chart numbers internal external)
+module _ (chart names index numbers internal external : List ℕ) (g : Lookup chart names index) (h : HoldsAt chart numbers internal external)
     (items : List ℕ) (choice : Choice) (ch : Chooses (chartOf chart) (nameAt names) (stateAt chart numbers internal external) (storedAt (historyIn numbers)) items choice) where
   abbrev f : Follower
   f = stateAt chart numbers internal external
@@ -64,21 +62,20 @@ module _ (chart names index : List ℕ) (kinds : RowKinds) (numbers internal ext
       turned-idle (roundIn Running (chartOf chart) (nameAt names) f) f t numbers internal external old (h .spells) q
       (ch .is ∙ ap (λ (source : Source). roundBy source (chartOf chart) (nameAt names) f (byIn items) ts) e)
 
-  pub plan-asks : IndexOf (chartOf chart) index × (length numbers ≡ 1031) × RoundReady chart (historyIn numbers) (kinds .atomic) (configurationIn numbers) ×
-      (rowsOf (kinds .histories) ≡ historyRows (chartOf chart)) × Selects (chartOf chart) (rowsOf (configurationIn numbers)) (storedAt (historyIn numbers)) items (choice .selected)
+  pub plan-asks : IndexOf (chartOf chart) index × (length numbers ≡ 1031) × RoundReady chart (historyIn numbers) (atomicIn index) (configurationIn numbers) ×
+      Selects (chartOf chart) (rowsOf (configurationIn numbers)) (storedAt (historyIn numbers)) items (choice .selected)
   plan-asks = (
     g .indexed,
     numbers-size f numbers internal external (h .spells),
-    round-ready chart names (g .compiled) f numbers internal external h (kinds .atomic) (g .rows .atomic),
-    g .rows .histories,
+    round-ready chart names (g .compiled) f numbers internal external h (atomicIn index) (g .indexed .atomic),
     subst (λ (conf : List ℕ). Selects (chartOf chart) conf (storedAt (historyIn numbers)) items (choice .selected)) (sym (conf-read chart names (g .compiled) f numbers internal external h)) (ch .selected),
   )
 
   pub step-ready : (choice .source ≡ Nothing → ⊥) → (step : Step) → (step .source ≡ choice .source) × (step .len ≡ choice .selected .len) ×
-      Planned (chartOf chart) (rowsOf (configurationIn numbers)) (storedAt (historyIn numbers)) ts (step .plan) × PlanReady chart (step .plan) → StepReady chart names kinds numbers internal external step items
+      Planned (chartOf chart) (rowsOf (configurationIn numbers)) (storedAt (historyIn numbers)) ts (step .plan) × PlanReady chart (step .plan) → StepReady chart names index numbers internal external step items
   step-ready z step p = record {
     compiled = g .compiled;
-    rows = g .rows;
+    indexed = g .indexed;
     holds = h;
     is = rw (p .0, p .1) (ch .is);
     lent = rw (p .1) (ch .selected .fits);
@@ -91,7 +88,7 @@ module _ (chart names index : List ℕ) (kinds : RowKinds) (numbers internal ext
 
 -- ---- 7 and 10
 
-module _ (chart names : List ℕ) (kinds : RowKinds) (numbers internal external : List ℕ) (step : Step) (items : List ℕ) (g : StepReady chart names kinds numbers internal external step items)
+module _ (chart names index numbers internal external : List ℕ) (step : Step) (items : List ℕ) (g : StepReady chart names index numbers internal external step items)
     (kept : ℕ) (n : kept ≡ internalLeft (step .source) (internalIn numbers)) where
   abbrev from : Follower
   from = stateAt chart numbers internal external
@@ -109,7 +106,7 @@ module _ (chart names : List ℕ) (kinds : RowKinds) (numbers internal external 
   next = nextBy (step .source) (chartOf chart) (nameAt names) from who takes
 
   waiting : QueueIs (internalAfter (step .source) from) (internalBytes (step .source) internal) kept
-  waiting = rw n (left chart names kinds numbers internal external step items g .internal)
+  waiting = rw n (left chart names index numbers internal external step items g .internal)
 
   pub few-kept : kept ≤ 32
   few-kept = waiting .short
@@ -124,7 +121,7 @@ module _ (chart names : List ℕ) (kinds : RowKinds) (numbers internal external 
     is-judged =
         j ∙
         ap judged (refusal-judged (chartOf chart) (nameAt names) (length old) kept t (internalAfter (step .source) from) next es
-        (subst (Counted t) (shown chart names kinds numbers internal external step items g) q) (waiting .count) refl)
+        (subst (Counted t) (shown chart names index numbers internal external step items g) q) (waiting .count) refl)
 
     pub taken-refused : (u : Turn) → u ≡ untouched o → (o ≡ Did → ⊥) → Turned (roundIn Running (chartOf chart) (nameAt names) from) from u numbers internal external old old
     taken-refused u y z =
@@ -139,7 +136,7 @@ module _ (chart names : List ℕ) (kinds : RowKinds) (numbers internal external 
 
       module _ (joins : List ℕ) (v : Joined joins t (planEffects (chartOf chart) (step .plan) who takes)) where
         joined-es : Joined joins t es
-        joined-es = subst (Joined joins t) (shown chart names kinds numbers internal external step items g) v
+        joined-es = subst (Joined joins t) (shown chart names index numbers internal external step items g) v
 
         -- no more join than are kept
         pub few-join : t .names ≤ 32
@@ -157,15 +154,15 @@ module _ (chart names : List ℕ) (kinds : RowKinds) (numbers internal external 
         pub joins-size : t .names ≡ length (take (t .names) joins)
         joins-size = joined-size joins t es joined-es few-join
 
-        pub is-decided : Decided chart names kinds numbers internal external step (take (t .names) joins)
+        pub is-decided : Decided chart names index numbers internal external step (take (t .names) joins)
         is-decided = record { items = items; made = g; joined = joined-all joins t es joined-es few-join; short = fits .short }
 
         -- shown and kept, it is done
         pub taken-did : (new : List ℕ) → Filled old new t (planEffects (chartOf chart) (step .plan) who takes) → (numbersNow internalNow externalNow : List ℕ) →
-            Commits chart names kinds numbers internal external step (take (t .names) joins) numbersNow internalNow externalNow →
+            Commits chart names index numbers internal external step (take (t .names) joins) numbersNow internalNow externalNow →
             Turned (roundIn Running (chartOf chart) (nameAt names) from) from (record { outcome = Did; count = t .entries }) numbersNow internalNow externalNow old new
         unfolding is-decided
         taken-did new w numbersNow internalNow externalNow k =
-            let v : Filled old new t es = subst (Filled old new t) (shown chart names kinds numbers internal external step items g) w in
+            let v : Filled old new t es = subst (Filled old new t) (shown chart names index numbers internal external step items g) w in
             turned-did (roundIn Running (chartOf chart) (nameAt names) from) from (record { outcome = Did; count = t .entries }) numbersNow internalNow externalNow old new next es is-round goes refl
             (k .next is-decided) (wrote-entries old new t es (fits .roomy) v) (wrote-trace old new t es (fits .roomy) v)

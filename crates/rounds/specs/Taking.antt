@@ -29,8 +29,7 @@ use Rattle.matching.specs.Choosers.{choosersIn}
 use Rattle.selection.specs.History.{storedAt}
 use Rattle.effects.specs.Trace.{joinsOf}
 use Rattle.effects.specs.Choosers.{chooserIn}
-use Rattle.lookup.specs.declared.RowKinds.{RowKinds}
-use Rattle.lookup.specs.Lookup.{KindsOf}
+use Rattle.lookup.specs.Lookup.{atomicIn, historiesIn, IndexOf}
 use Rattle.microstep.specs.declared.Plan.{Plan}
 use Rattle.microstep.specs.Stored.{StoreReady, RoundReady}
 use Rattle.microstep.specs.Plan.{Planned, PlanReady, planEffects, plan-effects, next-within}
@@ -94,9 +93,9 @@ pub lent-taken : (k : ℕ) (items : List ℕ) (n : ℕ) → ChosenIn k items n �
 lent-taken k items n h = record { most = let e = chosen-length k items n h in let m = h .most in omega arith; inside = h .inside }
 
 -- these transitions were chosen, for an event from there, and planned
-pub record StepReady (chart names : List ℕ) (kinds : RowKinds) (numbers internal external : List ℕ) (step : Step) (items : List ℕ) : Type 0 where
+pub record StepReady (chart names index numbers internal external : List ℕ) (step : Step) (items : List ℕ) : Type 0 where
   pub compiled : CompiledWith chart names
-  pub rows : KindsOf (chartOf chart) kinds
+  pub indexed : IndexOf (chartOf chart) index
   pub holds : HoldsAt chart numbers internal external
   pub is : roundIn Running (chartOf chart) (nameAt names) (stateAt chart numbers internal external) ≡
       roundBy (step .source) (chartOf chart) (nameAt names) (stateAt chart numbers internal external) (byIn items) (stepTakes items step)
@@ -108,15 +107,15 @@ pub record StepReady (chart names : List ℕ) (kinds : RowKinds) (numbers intern
   pub ready : PlanReady chart (step .plan)
 
 -- and not refused: these join the internal queue
-pub record Decided (chart names : List ℕ) (kinds : RowKinds) (numbers internal external : List ℕ) (step : Step) (joins : List ℕ) : Type 0 where
+pub record Decided (chart names index numbers internal external : List ℕ) (step : Step) (joins : List ℕ) : Type 0 where
   pub items : List ℕ
-  pub made : StepReady chart names kinds numbers internal external step items
+  pub made : StepReady chart names index numbers internal external step items
   pub joined : joins ≡ joinsOf (roundEffects (chartOf chart) (stateAt chart numbers internal external) (byIn items) (stepTakes items step))
   pub short : length ((nextBy (step .source) (chartOf chart) (nameAt names) (stateAt chart numbers internal external) (byIn items) (stepTakes items step)) .internal) ≤ 32
 
 -- the places then spell the next state
-pub record Commits (chart names : List ℕ) (kinds : RowKinds) (numbers internal external : List ℕ) (step : Step) (joins numbersNow internalNow externalNow : List ℕ) : Type 0 where
-  pub next : (d : Decided chart names kinds numbers internal external step joins) →
+pub record Commits (chart names index numbers internal external : List ℕ) (step : Step) (joins numbersNow internalNow externalNow : List ℕ) : Type 0 where
+  pub next : (d : Decided chart names index numbers internal external step joins) →
       Spells (nextBy (step .source) (chartOf chart) (nameAt names) (stateAt chart numbers internal external) (byIn (d .items)) (stepTakes (d .items) step)) numbersNow internalNow externalNow
 
 some-name : (queue : List Name) (n : ℕ) → n ≡ length queue → (queue ≡ [] → ⊥) → 0 < n
@@ -192,7 +191,7 @@ module _ (chart names : List ℕ) (k : CompiledWith chart names) (f : Follower) 
 
 -- ---- a step that is ready
 
-module _ (chart names : List ℕ) (kinds : RowKinds) (numbers internal external : List ℕ) (step : Step) (items : List ℕ) (g : StepReady chart names kinds numbers internal external step items) where
+module _ (chart names index numbers internal external : List ℕ) (step : Step) (items : List ℕ) (g : StepReady chart names index numbers internal external step items) where
   abbrev ts : List ℕ
   ts = stepTakes items step
 
@@ -253,9 +252,9 @@ module _ (chart names : List ℕ) (kinds : RowKinds) (numbers internal external 
         outer = λ e. queue-waits external (f .external) (externalIn numbers) (h .spells .externalIs) m (external-leaves .some e) (omega arith);
       }
 
-  pub stores-ready : StoreReady chart (kinds .atomic) (plan .conf) × (rowsOf (kinds .histories) ≡ historyRows (chartOf chart)) × (length (historyIn numbers) ≡ 1024)
+  pub stores-ready : StoreReady chart (atomicIn index) (plan .conf) × (rowsOf (historiesIn index) ≡ historyRows (chartOf chart)) × (length (historyIn numbers) ≡ 1024)
   stores-ready =
-      (record { ready = g .compiled .ready; atomic = g .rows .atomic; inside = plan-within }, g .rows .histories, history-size f numbers internal external (g .holds .spells))
+      (record { ready = g .compiled .ready; atomic = g .indexed .atomic; inside = plan-within }, g .indexed .histories, history-size f numbers internal external (g .holds .spells))
 
   pub next-ready : (r : RowSet) → rowsOf r ≡ union (rowsOf (plan .stay)) (rowsOf (plan .set)) → RowsReady chart (rowsOf r)
   next-ready r e =

@@ -22,20 +22,18 @@ use crate::judging::unchanged;
 use crate::taking::take;
 use definition::Mode;
 use definition::Status;
-use lookup::RowKinds;
 
 fn round(
     chart: &[u64],
     names: &[u8],
     index: &[u16],
-    kinds: RowKinds,
     numbers: &mut [u64],
     internal: &mut [u8],
     external: &mut [u8],
     items: &mut [u16],
     trace: &mut [u32],
 ) -> Turn
-    requires { ⌜ Lookup (now chart) (now names) (now index) kinds × HoldsAt (now chart) (now numbers) (now internal) (now external) × (length (now items) ≡ 768) ⌝ }
+    requires { ⌜ Lookup (now chart) (now names) (now index) × HoldsAt (now chart) (now numbers) (now internal) (now external) × (length (now items) ≡ 768) ⌝ }
     ensures { λ r. ⌜ Turned (round (chartOf (now (chart .entry))) (nameAt (now (names .entry))) (stateAt (now (chart .entry)) (now (numbers .entry)) (now (internal .entry)) (now (external .entry)))) (stateAt (now (chart .entry)) (now (numbers .entry)) (now (internal .entry)) (now (external .entry))) r (now (numbers .exit)) (now (internal .exit)) (now (external .exit)) (now (trace .entry)) (now (trace .exit)) ⌝ }
 {
     let mode = state::mode_from(numbers[state::MODE]);
@@ -44,7 +42,6 @@ fn round(
             chart,
             names,
             index,
-            kinds,
             numbers,
             internal,
             external,
@@ -84,11 +81,10 @@ fn rest_status(
     chart: &[u64],
     names: &[u8],
     index: &[u16],
-    kinds: RowKinds,
     numbers: &[u64],
     items: &mut [u16],
 ) -> Status
-    requires { ⌜ EventReady (now chart) (now names) (now index) kinds (now numbers) (now items) ⌝ }
+    requires { ⌜ EventReady (now chart) (now names) (now index) (now numbers) (now items) ⌝ }
     ensures { λ s. ⌜ s ≡ restBy (modeIn (now (numbers .entry))) (internalIn (now (numbers .entry))) (externalIn (now (numbers .entry))) (selected (chartOf (now (chart .entry))) (nameAt (now (names .entry))) (rowsOf (configurationIn (now (numbers .entry)))) (storedAt (historyIn (now (numbers .entry)))) none) ⌝ }
 {
     let mode = state::mode_from(numbers[state::MODE]);
@@ -99,7 +95,7 @@ fn rest_status(
             if (0 < numbers[state::INTERNAL]) | (0 < numbers[state::EXTERNAL]) {
                 return Status::More;
             }
-            let first = events::select_eventless(chart, names, index, kinds, numbers, items);
+            let first = events::select_eventless(chart, names, index, numbers, items);
             if 0 < first.len {
                 return Status::More;
             }
@@ -121,7 +117,6 @@ pub fn run(
     requires { ⌜ CompiledWith (now chart) (now names) × HoldsAt (now chart) (now numbers) (now internal) (now external) ⌝ }
     ensures { λ r. ⌜ RunDone (run (chartOf (now (chart .entry))) (nameAt (now (names .entry))) rounds (stateAt (now (chart .entry)) (now (numbers .entry)) (now (internal .entry)) (now (external .entry))) (length (now (trace .entry)))) r (now (numbers .exit)) (now (internal .exit)) (now (external .exit)) (now (trace .entry)) (now (trace .exit)) ⌝ }
 {
-    let kinds = lookup::row_kinds(chart);
     let mut index = [0u16; lookup::INDEX];
     lookup::put_index(chart, &mut index);
     let mut items = [0u16; matching::ITEMS];
@@ -133,7 +128,6 @@ pub fn run(
             chart,
             names,
             &index,
-            kinds,
             numbers,
             internal,
             external,
@@ -148,7 +142,7 @@ pub fn run(
         done += 1;
     }
     Progress {
-        status: rest_status(chart, names, &index, kinds, numbers, &mut items),
+        status: rest_status(chart, names, &index, numbers, &mut items),
         rounds: done,
         count: count,
     }

@@ -10,12 +10,11 @@ ghost use Rattle.matching.specs.Chosen.{listOf, ChosenIn};
 ghost use Rattle.selection.specs.History.{storedAt};
 ghost use Rattle.selection.specs.Ready.{Selects};
 ghost use Rattle.effects.specs.Trace.{places, Wrote};
-ghost use Rattle.matching.specs.Histories.{historyRows};
 ghost use Rattle.microstep.specs.Stored.{RoundReady};
 ghost use Rattle.microstep.specs.Plan.{Planned, PlanReady, planEffects};
 ghost use Rattle.legality.specs.Rows.{RowsReady};
 ghost use Rattle.state.specs.State.{configurationIn, historyIn, stateAt, HoldsAt};
-ghost use Rattle.lookup.specs.Lookup.{IndexOf, Lookup};
+ghost use Rattle.lookup.specs.Lookup.{atomicIn, IndexOf, Lookup};
 ghost use Rattle.events.specs.Left.{internalLeft, externalLeft};
 ghost use Rattle.rounds.specs.Turns.{Turned};
 ghost use Rattle.rounds.specs.Judging.{LeavesInternal, LeavesExternal, Shows};
@@ -33,7 +32,6 @@ use definition::Mode;
 use effects::Tally;
 use events::Choice;
 use events::Source;
-use lookup::RowKinds;
 use places::copy_u32;
 use rowset::RowSet;
 use state::State;
@@ -139,22 +137,22 @@ fn show(
 fn commit(
     chart: &[u64],
     names: &[u8],
-    kinds: RowKinds,
+    index: &[u16],
     numbers: &mut [u64],
     internal: &mut [u8],
     external: &mut [u8],
     step: Step,
     joins: &[u32],
 )
-    requires { ⌜ Decided (now chart) (now names) kinds (now numbers) (now internal) (now external) step (now joins) ⌝ }
-    ensures { λ _. ⌜ Commits (now (chart .entry)) (now (names .entry)) kinds (now (numbers .entry)) (now (internal .entry)) (now (external .entry)) step (now (joins .entry)) (now (numbers .exit)) (now (internal .exit)) (now (external .exit)) ⌝ }
+    requires { ⌜ Decided (now chart) (now names) (now index) (now numbers) (now internal) (now external) step (now joins) ⌝ }
+    ensures { λ _. ⌜ Commits (now (chart .entry)) (now (names .entry)) (now (index .entry)) (now (numbers .entry)) (now (internal .entry)) (now (external .entry)) step (now (joins .entry)) (now (numbers .exit)) (now (internal .exit)) (now (external .exit)) ⌝ }
 {
     let source = step.source;
     let plan = step.plan;
     let conf = plan.conf;
     let out = plan.out;
-    let atomic = kinds.atomic;
-    let histories = kinds.histories;
+    let atomic = lookup::rows_at(index, lookup::ATOMIC);
+    let histories = lookup::rows_at(index, lookup::HISTORIES);
     let inner = numbers[state::INTERNAL];
     let outer = numbers[state::EXTERNAL];
     let kept = internal_left(source, inner);
@@ -175,25 +173,18 @@ fn commit(
 // ---- the round
 
 // The chosen transitions, which are the first of the items, are planned.
-fn plan_step(
-    chart: &[u64],
-    index: &[u16],
-    kinds: RowKinds,
-    numbers: &[u64],
-    choice: Choice,
-    items: &[u16],
-) -> Step
-    requires { ⌜ IndexOf (chartOf (now chart)) (now index) × (length (now numbers) ≡ 1031) × RoundReady (now chart) (historyIn (now numbers)) (kinds .atomic) (configurationIn (now numbers)) × (rowsOf (kinds .histories) ≡ historyRows (chartOf (now chart))) × Selects (chartOf (now chart)) (rowsOf (configurationIn (now numbers))) (storedAt (historyIn (now numbers))) (now items) (choice .selected) ⌝ }
+fn plan_step(chart: &[u64], index: &[u16], numbers: &[u64], choice: Choice, items: &[u16]) -> Step
+    requires { ⌜ IndexOf (chartOf (now chart)) (now index) × (length (now numbers) ≡ 1031) × RoundReady (now chart) (historyIn (now numbers)) (atomicIn (now index)) (configurationIn (now numbers)) × Selects (chartOf (now chart)) (rowsOf (configurationIn (now numbers))) (storedAt (historyIn (now numbers))) (now items) (choice .selected) ⌝ }
     ensures { λ s. ⌜ (s .source ≡ choice .source) × (s .len ≡ choice .selected .len) × Planned (chartOf (now (chart .entry))) (rowsOf (configurationIn (now (numbers .entry)))) (storedAt (historyIn (now (numbers .entry)))) (listOf (now (items .entry)) (choice .selected .len)) (s .plan) × PlanReady (now (chart .entry)) (s .plan) ⌝ }
 {
     let selected = choice.selected;
     let source = choice.source;
     let n = selected.len;
     let out = selected.exits;
-    let atomic = kinds.atomic;
-    let histories = kinds.histories;
+    let atomic = lookup::rows_at(index, lookup::ATOMIC);
+    let histories = lookup::rows_at(index, lookup::HISTORIES);
     let conf = chart::set_at(numbers, 0);
-    let domains = &index[lookup::STARTS..lookup::INDEX];
+    let domains = &index[lookup::STARTS..lookup::ATOMIC];
     let stored = &numbers[state::HISTORY..state::INTERNAL];
     let chosen = &items[..n];
     Step {
@@ -208,31 +199,21 @@ pub fn take(
     chart: &[u64],
     names: &[u8],
     index: &[u16],
-    kinds: RowKinds,
     numbers: &mut [u64],
     internal: &mut [u8],
     external: &mut [u8],
     items: &mut [u16],
     trace: &mut [u32],
 ) -> Turn
-    requires { ⌜ Lookup (now chart) (now names) (now index) kinds × HoldsAt (now chart) (now numbers) (now internal) (now external) × (length (now items) ≡ 768) ⌝ }
+    requires { ⌜ Lookup (now chart) (now names) (now index) × HoldsAt (now chart) (now numbers) (now internal) (now external) × (length (now items) ≡ 768) ⌝ }
     ensures { λ r. ⌜ Turned (roundIn Running (chartOf (now (chart .entry))) (nameAt (now (names .entry))) (stateAt (now (chart .entry)) (now (numbers .entry)) (now (internal .entry)) (now (external .entry)))) (stateAt (now (chart .entry)) (now (numbers .entry)) (now (internal .entry)) (now (external .entry))) r (now (numbers .exit)) (now (internal .exit)) (now (external .exit)) (now (trace .entry)) (now (trace .exit)) ⌝ }
 {
-    let choice = events::choose(
-        chart,
-        names,
-        index,
-        kinds,
-        numbers,
-        internal,
-        external,
-        items,
-    );
+    let choice = events::choose(chart, names, index, numbers, internal, external, items);
     let source = choice.source;
     if let Source::Nothing = source {
         return unchanged(Outcome::Idle);
     }
-    let step = plan_step(chart, index, kinds, numbers, choice, items);
+    let step = plan_step(chart, index, numbers, choice, items);
     let from = step.source;
     let kept = internal_left(from, numbers[state::INTERNAL]);
     let mut joins = [0u32; JOINS];
@@ -246,7 +227,7 @@ pub fn take(
     commit(
         chart,
         names,
-        kinds,
+        index,
         numbers,
         internal,
         external,

@@ -6,7 +6,7 @@ use Rattle.events.proofs.choose.Statement.{statement}
 use Rattle.events.proofs.choose.Tie as tie
 
 select-eventless-requires : tie.Need-select-eventless-requires
-select-eventless-requires c κs = event-ready _ _ _ _ (c .before .before .before .before .before .before .before .before .pre .0) _ _ _ _ _ (c .before .before .before .before .before .before .before .before .pre .1) (c .before .before .before .before .before .before .before .before .pre .2)
+select-eventless-requires c κs = event-ready _ _ _ (c .before .before .before .before .before .before .before .before .pre .0) _ _ _ _ _ (c .before .before .before .before .before .before .before .before .pre .1) (c .before .before .before .before .before .before .before .before .pre .2)
 
 same-length : tie.Need-same-length
 same-length c = c .before .before .before .before .select-eventless .ensures .chosen .fits .room ∙ sym (c .before .before .before .before .before .before .before .before .before .before .before .before .before .pre .2)
@@ -18,7 +18,7 @@ first-name-requires : tie.Need-first-name-requires
 first-name-requires c κs = let e = internal-size _ _ _ _ (c .before .before .before .before .before .before .before .before .before .before .before .before .before .before .before .pre .1 .spells) in record { inside = omega arith }
 
 select-event-requires : tie.Need-select-event-requires
-select-event-requires c κs = event-ready _ _ _ _ (c .before .before .before .before .before .before .before .before .before .before .before .before .before .before .before .before .before .pre .0) _ _ _ _ _ (c .before .before .before .before .before .before .before .before .before .before .before .before .before .before .before .before .before .pre .1) (c .before .before .before .before .before .before .before .before .select-eventless .ensures .chosen .fits .room)
+select-event-requires c κs = event-ready _ _ _ (c .before .before .before .before .before .before .before .before .before .before .before .before .before .before .before .before .before .pre .0) _ _ _ _ _ (c .before .before .before .before .before .before .before .before .before .before .before .before .before .before .before .before .before .pre .1) (c .before .before .before .before .before .before .before .before .select-eventless .ensures .chosen .fits .room)
 
 same-length-2 : tie.Need-same-length-2
 same-length-2 c = c .before .before .select-event .ensures .chosen .fits .room ∙ sym (c .before .before .before .before .before .before .before .before .before .before .before .before .before .before .before .before .before .before .before .before .pre .2)
@@ -30,7 +30,7 @@ first-name-requires-2 : tie.Need-first-name-requires-2
 first-name-requires-2 c κs = let e = external-size _ _ _ _ (c .before .before .before .before .before .before .before .before .before .before .before .before .before .before .before .before .before .pre .1 .spells) in record { inside = omega arith }
 
 select-event-requires-2 : tie.Need-select-event-requires-2
-select-event-requires-2 c κs = event-ready _ _ _ _ (c .before .before .before .before .before .before .before .before .before .before .before .before .before .before .before .before .before .before .before .pre .0) _ _ _ _ _ (c .before .before .before .before .before .before .before .before .before .before .before .before .before .before .before .before .before .before .before .pre .1) (c .before .before .before .before .before .before .before .before .before .before .select-eventless .ensures .chosen .fits .room)
+select-event-requires-2 c κs = event-ready _ _ _ (c .before .before .before .before .before .before .before .before .before .before .before .before .before .before .before .before .before .before .before .pre .0) _ _ _ _ _ (c .before .before .before .before .before .before .before .before .before .before .before .before .before .before .before .before .before .before .before .pre .1) (c .before .before .before .before .before .before .before .before .before .before .select-eventless .ensures .chosen .fits .room)
 
 same-length-3 : tie.Need-same-length-3
 same-length-3 c = c .before .before .select-event2 .ensures .chosen .fits .room ∙ sym (c .before .before .before .before .before .before .before .before .before .before .before .before .before .before .before .before .before .before .before .before .before .before .pre .2)

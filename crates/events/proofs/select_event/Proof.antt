@@ -9,7 +9,7 @@ set-at-requires : tie.Need-set-at-requires
 set-at-requires c κs = set-inside _ (c .before .before .before .before .before .before .before .pre .size)
 
 select-requires : tie.Need-select-requires
-select-requires c κs = record { prepared = prepared _ _ _ _ (c .before .before .before .before .before .before .before .before .before .before .before .before .pre .looked); fixed = c .before .before .before .before .before .before .before .before .before .before .before .before .pre .looked .indexed .domains; inside = rw (c .before .before .before .before .set-at .ensures) (c .before .before .before .before .before .before .before .before .before .before .before .before .pre .inside); room = history-part (c .before .before .before .before .before .before .before .before .before .before .before .before .args .numbers .now) (c .before .before .before .before .before .before .before .before .before .before .before .before .pre .size); places = c .before .before .before .before .before .before .before .before .before .before .before .before .pre .places }
+select-requires c κs = record { prepared = rw (c .before .before .before .before .before .rows-at .ensures) (prepared _ _ _ (c .before .before .before .before .before .before .before .before .before .before .before .before .pre .looked)); fixed = c .before .before .before .before .before .before .before .before .before .before .before .before .pre .looked .indexed .domains; inside = rw (c .before .before .before .before .set-at .ensures) (c .before .before .before .before .before .before .before .before .before .before .before .before .pre .inside); room = history-part (c .before .before .before .before .before .before .before .before .before .before .before .before .args .numbers .now) (c .before .before .before .before .before .before .before .before .before .before .before .before .pre .size); places = c .before .before .before .before .before .before .before .before .before .before .before .before .pre .places }
 
 same-length : tie.Need-same-length
 same-length c = c .before .before .select .ensures .chosen .fits .room ∙ sym (c .before .before .before .before .before .before .before .before .before .before .before .before .before .before .before .pre .places)
@@ -38,10 +38,14 @@ part-select-start-2 c = search needs
 part-select-end-2 : tie.Need-part-select-end-2
 part-select-end-2 c = search needs
 
+rows-at-requires : tie.Need-rows-at-requires
+rows-at-requires c κs = search needs
+
 pub select-event-spec : {M : Type 1} → statement M
 select-event-spec =
     tie.close
     (tie.spec
+    rows-at-requires
     set-at-requires
     slice-aggregate-select
     sub-select

@@ -1,5 +1,5 @@
 use borrow.Author.Needs.{needs}
-use mathlib.Core.Path.{refl, ap}
+use mathlib.Core.Path.{refl, ap, _∙_}
 use Rattle.rowset.specs.Member.{rowsOf}
 use Rattle.state.specs.Numbers.{set-inside}
 use Rattle.events.specs.Choosing.{eventless-none, eventless-found}
@@ -16,7 +16,7 @@ empty-requires : tie.Need-empty-requires
 empty-requires c κs = search needs
 
 returns : tie.Need-returns
-returns c = eventless-none _ (c .before .before .before .before .before .before .before .before .before .before .pre .looked .compiled .ready .sound) _ _ _ _ _ _ _ _ (c .before .before .before .before .before .before .before .before .before .before .pre .inside) (c .before .before .before .before .before .before .before .before .before .before .pre .places) (ap rowsOf (c .before .before .before .before .set-at .ensures)) (c .before .before .before .before .before .before .before .before .before .before .pre .looked .rows .eventless) (c .before .before .meets .ensures) (c .before .if1 .taken) refl (c .empty .ensures)
+returns c = eventless-none _ (c .before .before .before .before .before .before .before .before .before .before .pre .looked .compiled .ready .sound) _ _ _ _ _ _ _ _ (c .before .before .before .before .before .before .before .before .before .before .pre .inside) (c .before .before .before .before .before .before .before .before .before .before .pre .places) (ap rowsOf (c .before .before .before .before .set-at .ensures)) (ap rowsOf (c .before .before .before .rows-at .ensures) ∙ c .before .before .before .before .before .before .before .before .before .before .pre .looked .indexed .eventless) (c .before .before .meets .ensures) (c .before .if1 .taken) refl (c .empty .ensures)
 
 slice-aggregate-select-event : tie.Need-slice-aggregate-select-event
 slice-aggregate-select-event c = search needs
@@ -30,11 +30,15 @@ same-length c = search needs
 returns-2 : tie.Need-returns-2
 returns-2 c = eventless-found _ _ _ _ _ _ _ refl (c .before .before .select-event .ensures)
 
+rows-at-requires : tie.Need-rows-at-requires
+rows-at-requires c κs = search needs
+
 pub select-eventless-spec : {M : Type 1} → statement M
 select-eventless-spec =
     tie.close
     (tie.spec
     set-at-requires
+    rows-at-requires
     meets-requires
     empty-requires
     returns

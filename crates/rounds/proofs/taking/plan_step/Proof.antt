@@ -18,11 +18,11 @@ part-stored-end c = let e = c .before .before .before .before .before .before .b
 
 slice-aggregate-chosen : tie.Need-slice-aggregate-chosen
 unfolding listOf
-slice-aggregate-chosen c = sym (list-length _ _ (let r = c .before .before .before .before .before .before .before .before .before .before .before .before .pre .4 .fits .room in let m = c .before .before .before .before .before .before .before .before .before .before .before .before .pre .4 .fits .most in omega arith))
+slice-aggregate-chosen c = sym (list-length _ _ (let r = c .before .before .before .before .before .before .before .before .before .before .before .before .pre .3 .fits .room in let m = c .before .before .before .before .before .before .before .before .before .before .before .before .pre .3 .fits .most in omega arith))
 
 plan-round-requires : tie.Need-plan-round-requires
 unfolding listOf
-plan-round-requires c κs = rw (c .before .before .before .set-at .ensures) (c .before .before .before .before .before .before .before .before .before .before .before .before .pre .0 .domains, c .before .before .before .before .before .before .before .before .before .before .before .before .pre .2, c .before .before .before .before .before .before .before .before .before .before .before .before .pre .3, chosen-fit _ _ _ _ _ (c .before .before .before .before .before .before .before .before .before .before .before .before .pre .4), c .before .before .before .before .before .before .before .before .before .before .before .before .pre .4 .exits)
+plan-round-requires c κs = rw (c .before .before .before .before .before .rows-at .ensures, c .before .before .before .before .rows-at2 .ensures, c .before .before .before .set-at .ensures) (c .before .before .before .before .before .before .before .before .before .before .before .before .pre .0 .domains, c .before .before .before .before .before .before .before .before .before .before .before .before .pre .2, c .before .before .before .before .before .before .before .before .before .before .before .before .pre .0 .histories, chosen-fit _ _ _ _ _ (c .before .before .before .before .before .before .before .before .before .before .before .before .pre .3), c .before .before .before .before .before .before .before .before .before .before .before .before .pre .3 .exits)
 
 returns : tie.Need-returns
 unfolding listOf
@@ -40,10 +40,18 @@ sub-stored c = search needs
 part-stored-start : tie.Need-part-stored-start
 part-stored-start c = search needs
 
+rows-at-requires : tie.Need-rows-at-requires
+rows-at-requires c κs = search needs
+
+rows-at-requires-2 : tie.Need-rows-at-requires-2
+rows-at-requires-2 c κs = search needs
+
 pub plan-step-spec : {M : Type 1} → statement M
 plan-step-spec =
     tie.close
     (tie.spec
+    rows-at-requires
+    rows-at-requires-2
     set-at-requires
     sub-domains
     part-domains-start

@@ -19,25 +19,25 @@ unchanged-requires : tie.Need-unchanged-requires
 unchanged-requires c κs = search needs
 
 returns : tie.Need-returns
-returns c = taken-idle _ _ _ _ _ _ _ (c .before .before .before .before .before .before .before .before .before .before .before .before .before .before .before .before .before .before .pre .0) (c .before .before .before .before .before .before .before .before .before .before .before .before .before .before .before .before .before .before .pre .1) _ _ (c .before .before .before .before .before .choose .ensures) _ _ (c .unchanged .ensures) (c .before .enum-told .given .1)
+returns c = taken-idle _ _ _ _ _ _ (c .before .before .before .before .before .before .before .before .before .before .before .before .before .before .before .before .before .before .pre .0) (c .before .before .before .before .before .before .before .before .before .before .before .before .before .before .before .before .before .before .pre .1) _ _ (c .before .before .before .before .before .choose .ensures) _ _ (c .unchanged .ensures) (c .before .enum-told .given .1)
 
 plan-step-requires : tie.Need-plan-step-requires
-plan-step-requires c κs = plan-asks _ _ _ _ _ _ _ (c .before .before .before .before .before .before .before .before .before .before .before .before .before .before .before .before .before .before .pre .0) (c .before .before .before .before .before .before .before .before .before .before .before .before .before .before .before .before .before .before .pre .1) _ _ (c .before .before .before .before .before .choose .ensures)
+plan-step-requires c κs = plan-asks _ _ _ _ _ _ (c .before .before .before .before .before .before .before .before .before .before .before .before .before .before .before .before .before .before .pre .0) (c .before .before .before .before .before .before .before .before .before .before .before .before .before .before .before .before .before .before .pre .1) _ _ (c .before .before .before .before .before .choose .ensures)
 
 slice-read-internal-left : tie.Need-slice-read-internal-left
 slice-read-internal-left c = let e = numbers-size _ _ _ _ (c .before .before .before .before .before .before .before .before .before .before .before .before .before .before .before .before .before .before .before .before .pre .1 .spells) in omega arith
 
 internal-left-requires : tie.Need-internal-left-requires
 unfolding listOf
-internal-left-requires c κs = internal-leaves _ _ _ _ _ _ _ _ (step-ready _ _ _ _ _ _ _ (c .before .before .before .before .before .before .before .before .before .before .before .before .before .before .before .before .before .before .before .before .pre .0) (c .before .before .before .before .before .before .before .before .before .before .before .before .before .before .before .before .before .before .before .before .pre .1) _ _ (c .before .before .before .before .before .before .before .choose .ensures) (not-nothing _ (c .before .before .before .before .match .keys2)) _ (c .before .plan-step .ensures))
+internal-left-requires c κs = internal-leaves _ _ _ _ _ _ _ _ (step-ready _ _ _ _ _ _ (c .before .before .before .before .before .before .before .before .before .before .before .before .before .before .before .before .before .before .before .before .pre .0) (c .before .before .before .before .before .before .before .before .before .before .before .before .before .before .before .before .before .before .before .before .pre .1) _ _ (c .before .before .before .before .before .before .before .choose .ensures) (not-nothing _ (c .before .before .before .before .match .keys2)) _ (c .before .plan-step .ensures))
 
 show-requires : tie.Need-show-requires
 unfolding listOf
-show-requires c κs = let g = step-ready _ _ _ _ _ _ _ (c .before .before .before .before .before .before .before .before .before .before .before .before .before .before .before .before .before .before .before .before .before .before .before .before .pre .0) (c .before .before .before .before .before .before .before .before .before .before .before .before .before .before .before .before .before .before .before .before .before .before .before .before .pre .1) _ _ (c .before .before .before .before .before .before .before .before .before .before .before .choose .ensures) (not-nothing _ (c .before .before .before .before .before .before .before .before .match .keys2)) _ (c .before .before .before .before .before .plan-step .ensures) in (g .ready, g .lent, few-kept _ _ _ _ _ _ _ _ g _ (c .before .before .before .internal-left .ensures), search needs)
+show-requires c κs = let g = step-ready _ _ _ _ _ _ (c .before .before .before .before .before .before .before .before .before .before .before .before .before .before .before .before .before .before .before .before .before .before .before .before .pre .0) (c .before .before .before .before .before .before .before .before .before .before .before .before .before .before .before .before .before .before .before .before .before .before .before .before .pre .1) _ _ (c .before .before .before .before .before .before .before .before .before .before .before .choose .ensures) (not-nothing _ (c .before .before .before .before .before .before .before .before .match .keys2)) _ (c .before .before .before .before .before .plan-step .ensures) in (g .ready, g .lent, few-kept _ _ _ _ _ _ _ _ g _ (c .before .before .before .internal-left .ensures), search needs)
 
 returns-2 : tie.Need-returns-2
 unfolding listOf
-returns-2 c = let z = not-did _ (c .before .match2 .keys2) in rw (c .before .before .before .before .before .show .ensures .stays z) (taken-refused _ _ _ _ _ _ _ _ (step-ready _ _ _ _ _ _ _ (c .before .before .before .before .before .before .before .before .before .before .before .before .before .before .before .before .before .before .before .before .before .before .before .before .before .before .before .before .before .before .pre .0) (c .before .before .before .before .before .before .before .before .before .before .before .before .before .before .before .before .before .before .before .before .before .before .before .before .before .before .before .before .before .before .pre .1) _ _ (c .before .before .before .before .before .before .before .before .before .before .before .before .before .before .before .before .before .choose .ensures) (not-nothing _ (c .before .before .before .before .before .before .before .before .before .before .before .before .before .before .match .keys2)) _ (c .before .before .before .before .before .before .before .before .before .before .before .plan-step .ensures)) _ (c .before .before .before .before .before .before .before .before .before .internal-left .ensures) (c .before .before .before .before .before .show .result .tally) (c .before .before .before .before .before .show .ensures .counted) (c .before .before .before .before .before .before .before .before .before .before .before .before .before .before .before .before .before .before .before .before .before .before .before .before .before .before .before .before .before .before .args .trace .now) _ (c .before .before .before .before .before .show .ensures .judges) _ (c .unchanged2 .ensures) z)
+returns-2 c = let z = not-did _ (c .before .match2 .keys2) in rw (c .before .before .before .before .before .show .ensures .stays z) (taken-refused _ _ _ _ _ _ _ _ (step-ready _ _ _ _ _ _ (c .before .before .before .before .before .before .before .before .before .before .before .before .before .before .before .before .before .before .before .before .before .before .before .before .before .before .before .before .before .before .pre .0) (c .before .before .before .before .before .before .before .before .before .before .before .before .before .before .before .before .before .before .before .before .before .before .before .before .before .before .before .before .before .before .pre .1) _ _ (c .before .before .before .before .before .before .before .before .before .before .before .before .before .before .before .before .before .choose .ensures) (not-nothing _ (c .before .before .before .before .before .before .before .before .before .before .before .before .before .before .match .keys2)) _ (c .before .before .before .before .before .before .before .before .before .before .before .plan-step .ensures)) _ (c .before .before .before .before .before .before .before .before .before .internal-left .ensures) (c .before .before .before .before .before .show .result .tally) (c .before .before .before .before .before .show .ensures .counted) (c .before .before .before .before .before .before .before .before .before .before .before .before .before .before .before .before .before .before .before .before .before .before .before .before .before .before .before .before .before .before .args .trace .now) _ (c .before .before .before .before .before .show .ensures .judges) _ (c .unchanged2 .ensures) z)
 
 same-length : tie.Need-same-length
 same-length c = refl
@@ -78,17 +78,17 @@ same-length-9 c = c .before .before .before .before .before .show .kept .1 .1 .1
 array-share-prefix-joins : tie.Need-array-share-prefix-joins
 unfolding listOf
 array-share-prefix-joins c =
-    let l = joins-fit _ _ _ _ _ _ _ _ (step-ready _ _ _ _ _ _ _ (c .before .before .before .before .before .before .before .before .before .before .before .before .before .before .before .before .before .before .before .before .before .before .before .before .before .before .before .before .before .before .before .before .before .before .pre .0) (c .before .before .before .before .before .before .before .before .before .before .before .before .before .before .before .before .before .before .before .before .before .before .before .before .before .before .before .before .before .before .before .before .before .before .pre .1) _ _ (c .before .before .before .before .before .before .before .before .before .before .before .before .before .before .before .before .before .before .before .before .before .choose .ensures) (not-nothing _ (c .before .before .before .before .before .before .before .before .before .before .before .before .before .before .before .before .before .before .match .keys2)) _ (c .before .before .before .before .before .before .before .before .before .before .before .before .before .before .before .plan-step .ensures)) _ (c .before .before .before .before .before .before .before .before .before .before .before .before .before .internal-left .ensures) (c .before .before .before .before .before .before .before .before .before .show .result .tally) (c .before .before .before .before .before .before .before .before .before .show .ensures .counted) (c .before .before .before .before .before .before .before .before .before .before .before .before .before .before .before .before .before .before .before .before .before .before .before .before .before .before .before .before .before .before .before .before .before .before .args .trace .now) _ (c .before .before .before .before .before .before .before .before .before .show .ensures .judges) (c .before .before .before .before .enum-told2 .given .1) _ (c .before .before .before .before .before .before .before .before .before .show .ensures .joined) in
-    let m = few-join _ _ _ _ _ _ _ _ (step-ready _ _ _ _ _ _ _ (c .before .before .before .before .before .before .before .before .before .before .before .before .before .before .before .before .before .before .before .before .before .before .before .before .before .before .before .before .before .before .before .before .before .before .pre .0) (c .before .before .before .before .before .before .before .before .before .before .before .before .before .before .before .before .before .before .before .before .before .before .before .before .before .before .before .before .before .before .before .before .before .before .pre .1) _ _ (c .before .before .before .before .before .before .before .before .before .before .before .before .before .before .before .before .before .before .before .before .before .choose .ensures) (not-nothing _ (c .before .before .before .before .before .before .before .before .before .before .before .before .before .before .before .before .before .before .match .keys2)) _ (c .before .before .before .before .before .before .before .before .before .before .before .before .before .before .before .plan-step .ensures)) _ (c .before .before .before .before .before .before .before .before .before .before .before .before .before .internal-left .ensures) (c .before .before .before .before .before .before .before .before .before .show .result .tally) (c .before .before .before .before .before .before .before .before .before .show .ensures .counted) (c .before .before .before .before .before .before .before .before .before .before .before .before .before .before .before .before .before .before .before .before .before .before .before .before .before .before .before .before .before .before .before .before .before .before .args .trace .now) _ (c .before .before .before .before .before .before .before .before .before .show .ensures .judges) (c .before .before .before .before .enum-told2 .given .1) _ (c .before .before .before .before .before .before .before .before .before .show .ensures .joined) in
+    let l = joins-fit _ _ _ _ _ _ _ _ (step-ready _ _ _ _ _ _ (c .before .before .before .before .before .before .before .before .before .before .before .before .before .before .before .before .before .before .before .before .before .before .before .before .before .before .before .before .before .before .before .before .before .before .pre .0) (c .before .before .before .before .before .before .before .before .before .before .before .before .before .before .before .before .before .before .before .before .before .before .before .before .before .before .before .before .before .before .before .before .before .before .pre .1) _ _ (c .before .before .before .before .before .before .before .before .before .before .before .before .before .before .before .before .before .before .before .before .before .choose .ensures) (not-nothing _ (c .before .before .before .before .before .before .before .before .before .before .before .before .before .before .before .before .before .before .match .keys2)) _ (c .before .before .before .before .before .before .before .before .before .before .before .before .before .before .before .plan-step .ensures)) _ (c .before .before .before .before .before .before .before .before .before .before .before .before .before .internal-left .ensures) (c .before .before .before .before .before .before .before .before .before .show .result .tally) (c .before .before .before .before .before .before .before .before .before .show .ensures .counted) (c .before .before .before .before .before .before .before .before .before .before .before .before .before .before .before .before .before .before .before .before .before .before .before .before .before .before .before .before .before .before .before .before .before .before .args .trace .now) _ (c .before .before .before .before .before .before .before .before .before .show .ensures .judges) (c .before .before .before .before .enum-told2 .given .1) _ (c .before .before .before .before .before .before .before .before .before .show .ensures .joined) in
+    let m = few-join _ _ _ _ _ _ _ _ (step-ready _ _ _ _ _ _ (c .before .before .before .before .before .before .before .before .before .before .before .before .before .before .before .before .before .before .before .before .before .before .before .before .before .before .before .before .before .before .before .before .before .before .pre .0) (c .before .before .before .before .before .before .before .before .before .before .before .before .before .before .before .before .before .before .before .before .before .before .before .before .before .before .before .before .before .before .before .before .before .before .pre .1) _ _ (c .before .before .before .before .before .before .before .before .before .before .before .before .before .before .before .before .before .before .before .before .before .choose .ensures) (not-nothing _ (c .before .before .before .before .before .before .before .before .before .before .before .before .before .before .before .before .before .before .match .keys2)) _ (c .before .before .before .before .before .before .before .before .before .before .before .before .before .before .before .plan-step .ensures)) _ (c .before .before .before .before .before .before .before .before .before .before .before .before .before .internal-left .ensures) (c .before .before .before .before .before .before .before .before .before .show .result .tally) (c .before .before .before .before .before .before .before .before .before .show .ensures .counted) (c .before .before .before .before .before .before .before .before .before .before .before .before .before .before .before .before .before .before .before .before .before .before .before .before .before .before .before .before .before .before .before .before .before .before .args .trace .now) _ (c .before .before .before .before .before .before .before .before .before .show .ensures .judges) (c .before .before .before .before .enum-told2 .given .1) _ (c .before .before .before .before .before .before .before .before .before .show .ensures .joined) in
     search needs
 
 slice-aggregate-commit : tie.Need-slice-aggregate-commit
 unfolding listOf
-slice-aggregate-commit c = joins-size _ _ _ _ _ _ _ _ (step-ready _ _ _ _ _ _ _ (c .before .before .before .before .before .before .before .before .before .before .before .before .before .before .before .before .before .before .before .before .before .before .before .before .before .before .before .before .before .before .before .before .before .before .before .pre .0) (c .before .before .before .before .before .before .before .before .before .before .before .before .before .before .before .before .before .before .before .before .before .before .before .before .before .before .before .before .before .before .before .before .before .before .before .pre .1) _ _ (c .before .before .before .before .before .before .before .before .before .before .before .before .before .before .before .before .before .before .before .before .before .before .choose .ensures) (not-nothing _ (c .before .before .before .before .before .before .before .before .before .before .before .before .before .before .before .before .before .before .before .match .keys2)) _ (c .before .before .before .before .before .before .before .before .before .before .before .before .before .before .before .before .plan-step .ensures)) _ (c .before .before .before .before .before .before .before .before .before .before .before .before .before .before .internal-left .ensures) (c .before .before .before .before .before .before .before .before .before .before .show .result .tally) (c .before .before .before .before .before .before .before .before .before .before .show .ensures .counted) (c .before .before .before .before .before .before .before .before .before .before .before .before .before .before .before .before .before .before .before .before .before .before .before .before .before .before .before .before .before .before .before .before .before .before .before .args .trace .now) _ (c .before .before .before .before .before .before .before .before .before .before .show .ensures .judges) (c .before .before .before .before .before .enum-told2 .given .1) _ (c .before .before .before .before .before .before .before .before .before .before .show .ensures .joined)
+slice-aggregate-commit c = joins-size _ _ _ _ _ _ _ _ (step-ready _ _ _ _ _ _ (c .before .before .before .before .before .before .before .before .before .before .before .before .before .before .before .before .before .before .before .before .before .before .before .before .before .before .before .before .before .before .before .before .before .before .before .pre .0) (c .before .before .before .before .before .before .before .before .before .before .before .before .before .before .before .before .before .before .before .before .before .before .before .before .before .before .before .before .before .before .before .before .before .before .before .pre .1) _ _ (c .before .before .before .before .before .before .before .before .before .before .before .before .before .before .before .before .before .before .before .before .before .before .choose .ensures) (not-nothing _ (c .before .before .before .before .before .before .before .before .before .before .before .before .before .before .before .before .before .before .before .match .keys2)) _ (c .before .before .before .before .before .before .before .before .before .before .before .before .before .before .before .before .plan-step .ensures)) _ (c .before .before .before .before .before .before .before .before .before .before .before .before .before .before .internal-left .ensures) (c .before .before .before .before .before .before .before .before .before .before .show .result .tally) (c .before .before .before .before .before .before .before .before .before .before .show .ensures .counted) (c .before .before .before .before .before .before .before .before .before .before .before .before .before .before .before .before .before .before .before .before .before .before .before .before .before .before .before .before .before .before .before .before .before .before .before .args .trace .now) _ (c .before .before .before .before .before .before .before .before .before .before .show .ensures .judges) (c .before .before .before .before .before .enum-told2 .given .1) _ (c .before .before .before .before .before .before .before .before .before .before .show .ensures .joined)
 
 commit-requires : tie.Need-commit-requires
 unfolding listOf
-commit-requires c κs = is-decided _ _ _ _ _ _ _ _ (step-ready _ _ _ _ _ _ _ (c .before .before .before .before .before .before .before .before .before .before .before .before .before .before .before .before .before .before .before .before .before .before .before .before .before .before .before .before .before .before .before .before .before .before .before .pre .0) (c .before .before .before .before .before .before .before .before .before .before .before .before .before .before .before .before .before .before .before .before .before .before .before .before .before .before .before .before .before .before .before .before .before .before .before .pre .1) _ _ (c .before .before .before .before .before .before .before .before .before .before .before .before .before .before .before .before .before .before .before .before .before .before .choose .ensures) (not-nothing _ (c .before .before .before .before .before .before .before .before .before .before .before .before .before .before .before .before .before .before .before .match .keys2)) _ (c .before .before .before .before .before .before .before .before .before .before .before .before .before .before .before .before .plan-step .ensures)) _ (c .before .before .before .before .before .before .before .before .before .before .before .before .before .before .internal-left .ensures) (c .before .before .before .before .before .before .before .before .before .before .show .result .tally) (c .before .before .before .before .before .before .before .before .before .before .show .ensures .counted) (c .before .before .before .before .before .before .before .before .before .before .before .before .before .before .before .before .before .before .before .before .before .before .before .before .before .before .before .before .before .before .before .before .before .before .before .args .trace .now) _ (c .before .before .before .before .before .before .before .before .before .before .show .ensures .judges) (c .before .before .before .before .before .enum-told2 .given .1) _ (c .before .before .before .before .before .before .before .before .before .before .show .ensures .joined)
+commit-requires c κs = is-decided _ _ _ _ _ _ _ _ (step-ready _ _ _ _ _ _ (c .before .before .before .before .before .before .before .before .before .before .before .before .before .before .before .before .before .before .before .before .before .before .before .before .before .before .before .before .before .before .before .before .before .before .before .pre .0) (c .before .before .before .before .before .before .before .before .before .before .before .before .before .before .before .before .before .before .before .before .before .before .before .before .before .before .before .before .before .before .before .before .before .before .before .pre .1) _ _ (c .before .before .before .before .before .before .before .before .before .before .before .before .before .before .before .before .before .before .before .before .before .before .choose .ensures) (not-nothing _ (c .before .before .before .before .before .before .before .before .before .before .before .before .before .before .before .before .before .before .before .match .keys2)) _ (c .before .before .before .before .before .before .before .before .before .before .before .before .before .before .before .before .plan-step .ensures)) _ (c .before .before .before .before .before .before .before .before .before .before .before .before .before .before .internal-left .ensures) (c .before .before .before .before .before .before .before .before .before .before .show .result .tally) (c .before .before .before .before .before .before .before .before .before .before .show .ensures .counted) (c .before .before .before .before .before .before .before .before .before .before .before .before .before .before .before .before .before .before .before .before .before .before .before .before .before .before .before .before .before .before .before .before .before .before .before .args .trace .now) _ (c .before .before .before .before .before .before .before .before .before .before .show .ensures .judges) (c .before .before .before .before .before .enum-told2 .given .1) _ (c .before .before .before .before .before .before .before .before .before .before .show .ensures .joined)
 
 same-length-10 : tie.Need-same-length-10
 same-length-10 c = c .before .before .before .before .before .before .commit .kept .1 .1 .1 .0
@@ -107,7 +107,7 @@ same-length-14 c = c .before .before .before .before .before .before .before .be
 
 returns-3 : tie.Need-returns-3
 unfolding listOf
-returns-3 c = taken-did _ _ _ _ _ _ _ _ (step-ready _ _ _ _ _ _ _ (c .before .before .before .before .before .before .before .before .before .before .before .before .before .before .before .before .before .before .before .before .before .before .before .before .before .before .before .before .before .before .before .before .before .before .before .before .before .before .before .before .before .before .pre .0) (c .before .before .before .before .before .before .before .before .before .before .before .before .before .before .before .before .before .before .before .before .before .before .before .before .before .before .before .before .before .before .before .before .before .before .before .before .before .before .before .before .before .before .pre .1) _ _ (c .before .before .before .before .before .before .before .before .before .before .before .before .before .before .before .before .before .before .before .before .before .before .before .before .before .before .before .before .before .choose .ensures) (not-nothing _ (c .before .before .before .before .before .before .before .before .before .before .before .before .before .before .before .before .before .before .before .before .before .before .before .before .before .before .match .keys2)) _ (c .before .before .before .before .before .before .before .before .before .before .before .before .before .before .before .before .before .before .before .before .before .before .before .plan-step .ensures)) _ (c .before .before .before .before .before .before .before .before .before .before .before .before .before .before .before .before .before .before .before .before .before .internal-left .ensures) (c .before .before .before .before .before .before .before .before .before .before .before .before .before .before .before .before .before .show .result .tally) (c .before .before .before .before .before .before .before .before .before .before .before .before .before .before .before .before .before .show .ensures .counted) (c .before .before .before .before .before .before .before .before .before .before .before .before .before .before .before .before .before .before .before .before .before .before .before .before .before .before .before .before .before .before .before .before .before .before .before .before .before .before .before .before .before .before .args .trace .now) _ (c .before .before .before .before .before .before .before .before .before .before .before .before .before .before .before .before .before .show .ensures .judges) (c .before .before .before .before .before .before .before .before .before .before .before .before .enum-told2 .given .1) _ (c .before .before .before .before .before .before .before .before .before .before .before .before .before .before .before .before .before .show .ensures .joined) _ (c .before .before .before .before .before .before .before .before .before .before .before .before .before .before .before .before .before .show .ensures .filled (c .before .before .before .before .before .before .before .before .before .before .before .before .enum-told2 .given .1)) _ _ _ (c .before .before .before .before .before .before .commit .ensures)
+returns-3 c = taken-did _ _ _ _ _ _ _ _ (step-ready _ _ _ _ _ _ (c .before .before .before .before .before .before .before .before .before .before .before .before .before .before .before .before .before .before .before .before .before .before .before .before .before .before .before .before .before .before .before .before .before .before .before .before .before .before .before .before .before .before .pre .0) (c .before .before .before .before .before .before .before .before .before .before .before .before .before .before .before .before .before .before .before .before .before .before .before .before .before .before .before .before .before .before .before .before .before .before .before .before .before .before .before .before .before .before .pre .1) _ _ (c .before .before .before .before .before .before .before .before .before .before .before .before .before .before .before .before .before .before .before .before .before .before .before .before .before .before .before .before .before .choose .ensures) (not-nothing _ (c .before .before .before .before .before .before .before .before .before .before .before .before .before .before .before .before .before .before .before .before .before .before .before .before .before .before .match .keys2)) _ (c .before .before .before .before .before .before .before .before .before .before .before .before .before .before .before .before .before .before .before .before .before .before .before .plan-step .ensures)) _ (c .before .before .before .before .before .before .before .before .before .before .before .before .before .before .before .before .before .before .before .before .before .internal-left .ensures) (c .before .before .before .before .before .before .before .before .before .before .before .before .before .before .before .before .before .show .result .tally) (c .before .before .before .before .before .before .before .before .before .before .before .before .before .before .before .before .before .show .ensures .counted) (c .before .before .before .before .before .before .before .before .before .before .before .before .before .before .before .before .before .before .before .before .before .before .before .before .before .before .before .before .before .before .before .before .before .before .before .before .before .before .before .before .before .before .args .trace .now) _ (c .before .before .before .before .before .before .before .before .before .before .before .before .before .before .before .before .before .show .ensures .judges) (c .before .before .before .before .before .before .before .before .before .before .before .before .enum-told2 .given .1) _ (c .before .before .before .before .before .before .before .before .before .before .before .before .before .before .before .before .before .show .ensures .joined) _ (c .before .before .before .before .before .before .before .before .before .before .before .before .before .before .before .before .before .show .ensures .filled (c .before .before .before .before .before .before .before .before .before .before .before .before .enum-told2 .given .1)) _ _ _ (c .before .before .before .before .before .before .commit .ensures)
 
 pub take-spec : {M : Type 1} → statement M
 take-spec =
