@@ -7,3 +7,4 @@ pub mod Count
 pub mod Fill
 pub mod Tabled
 pub mod Whole
+pub mod Few
