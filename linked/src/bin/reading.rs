@@ -23,7 +23,7 @@ const MOST_TIME: Duration = Duration::from_millis(5);
 const MOST_RATIO: f64 = 3.0;
 
 /// Kinds of texts, each with what makes one of at most so many bytes.
-const KINDS: [(&str, fn(usize) -> Vec<u8>); 7] = [
+const KINDS: [(&str, fn(usize) -> Vec<u8>); 8] = [
     ("random spelling", random_spelling),
     ("references to ids that begin alike", references),
     ("references to ids that differ in the middle", middles),
