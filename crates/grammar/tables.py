@@ -146,18 +146,22 @@ def packs():
     return [sum(cell << (8 * k) for k, cell in enumerate(cells[i : i + 8])) for i in range(0, len(cells), 8)]
 
 
-def with_packs(name, pattern, lines):
-    text = open(os.path.join(top, name), encoding="utf-8").read()
+def put_between(text, pattern, lines):
     return re.sub(pattern, lambda found: found[1] + lines + found[2], text, count=1, flags=re.S)
 
 
 def packed_code():
-    arms = "".join("        %d => %d,\n" % (i, n) for i, n in enumerate(packs()))
-    return with_packs(PACKED_CODE, r"(    match k \{\n).*?(        _ => 0,)", arms)
+    text = open(os.path.join(top, PACKED_CODE), encoding="utf-8").read()
+    arms = ["        %d => %d,\n" % (i, n) for i, n in enumerate(packs())]
+    menus = len(tables()["menus"]) // 8
+    for function, part in (("menus", arms[:menus]), ("others", arms[menus:])):
+        text = put_between(text, r"(fn %s\(.*?    match k \{\n).*?(        _ => 0,)" % function, "".join(part))
+    return text
 
 
 def packed_spec():
-    return with_packs(PACKED_SPEC, r"(\npacks =\n).*?(\n\n)", "    " + " ∷ ".join(map(str, packs() + ["[]"])))
+    text = open(os.path.join(top, PACKED_SPEC), encoding="utf-8").read()
+    return put_between(text, r"(\npacks =\n).*?(\n\n)", "    " + " ∷ ".join(map(str, packs() + ["[]"])))
 
 
 FILES = {"crates/grammar/specs/Tables.antt": definition, "crates/scan/src/tables.rt": code, PACKED_CODE: packed_code, PACKED_SPEC: packed_spec}

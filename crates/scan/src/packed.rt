@@ -3,9 +3,8 @@ ghost use mathlib.Core.Path.{_≡_};
 ghost use Prim.Native.Nat.{_<_};
 ghost use Rattle.scan.specs.Packed.{Packed, bitOf, pairOf};
 
-// The menus from 0 on, the attributes from 33, the sets with one more from 45, the owners from 53, the levels that are opened from 57, the needed
-// attributes from 60; 0 of no number.
-pub fn packed(k: usize) -> u64
+// The menus, from 0 on.
+fn menus(k: usize) -> u64
     ensures { λ r. ⌜ Packed k r ⌝ }
 {
     match k {
@@ -42,6 +41,15 @@ pub fn packed(k: usize) -> u64
         30 => 3472328296227680304,
         31 => 3472328296227680304,
         32 => 3472328278963530024,
+        _ => 0,
+    }
+}
+
+// The attributes from 33 on, the sets with one more from 45, the owners from 53, the levels that are opened from 57, the needed attributes from 60.
+fn others(k: usize) -> u64
+    ensures { λ r. ⌜ Packed k r ⌝ }
+{
+    match k {
         33 => 3472305111992834328,
         34 => 3472328201738399770,
         35 => 3472328296227675162,
@@ -74,6 +82,16 @@ pub fn packed(k: usize) -> u64
         62 => 289360691352306688,
         _ => 0,
     }
+}
+
+// All of them; 0 of no number.
+pub fn packed(k: usize) -> u64
+    ensures { λ r. ⌜ Packed k r ⌝ }
+{
+    if k < 33 {
+        return menus(k);
+    }
+    others(k)
 }
 
 // Cell k of those with one bit.
