@@ -1,0 +1,46 @@
+-- `each_two` counts up to the number of words.
+use borrow.Author.Needs.{needs}
+use Prim.Native.Nat.{_-_}
+use Rattle.names_run.proofs.several.each_two.Statement.{statement}
+use Rattle.names_run.proofs.several.each_two.Tie as tie
+
+abbrev Inv-loop : tie.InvT-loop
+Inv-loop letters more last k₀ k = Unit {0}
+
+abbrev μ-loop : tie.MeasureT-loop
+μ-loop letters more last k₀ k = last - k
+
+short-words-requires : tie.Need-short-words-requires Inv-loop μ-loop
+short-words-requires c κs = search needs
+
+loop-holds : tie.Need-loop-holds Inv-loop μ-loop
+loop-holds c = search needs
+
+each-beside-word-requires : tie.Need-each-beside-word-requires Inv-loop μ-loop
+each-beside-word-requires c κs = search needs
+
+add-k : tie.Need-add-k Inv-loop μ-loop
+add-k c = search needs
+
+loop-less : tie.Need-loop-less Inv-loop μ-loop
+loop-less c = search needs
+
+loop-again : tie.Need-loop-again Inv-loop μ-loop
+loop-again c = search needs
+
+returns : tie.Need-returns Inv-loop μ-loop
+returns c = search needs
+
+pub each-two-spec : {M : Type 1} → statement M
+each-two-spec =
+    tie.close
+    (tie.spec
+    Inv-loop
+    μ-loop
+    short-words-requires
+    loop-holds
+    each-beside-word-requires
+    add-k
+    loop-less
+    loop-again
+    returns)

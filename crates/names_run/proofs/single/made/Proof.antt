@@ -1,0 +1,48 @@
+-- `made` stores to each place, and the length stays.
+use borrow.Author.Needs.{needs}
+use mathlib.Core.Path.{_≡_}
+use Prim.Native.Nat.{_-_}
+use lib.ListN.{length, length-set}
+use Rattle.names_run.proofs.single.made.Statement.{statement}
+use Rattle.names_run.proofs.single.made.Tie as tie
+
+abbrev Inv-loop : tie.InvT-loop
+Inv-loop unit n tail bytes₀ i₀ bytes i = 128 ≡ length bytes
+
+abbrev μ-loop : tie.MeasureT-loop
+μ-loop unit n tail bytes₀ i₀ bytes i = 128 - i
+
+loop-holds : tie.Need-loop-holds Inv-loop μ-loop
+loop-holds c = search needs
+
+letter-requires : tie.Need-letter-requires Inv-loop μ-loop
+letter-requires c κs = search needs
+
+array-write-bytes : tie.Need-array-write-bytes Inv-loop μ-loop
+array-write-bytes c = search needs
+
+add-i : tie.Need-add-i Inv-loop μ-loop
+add-i c = search needs
+
+loop-less : tie.Need-loop-less Inv-loop μ-loop
+loop-less c = search needs
+
+loop-again : tie.Need-loop-again Inv-loop μ-loop
+loop-again c = simp length-set (c .before .before .loop .inv)
+
+returns : tie.Need-returns Inv-loop μ-loop
+returns c = search needs
+
+pub made-spec : {M : Type 1} → statement M
+made-spec =
+    tie.close
+    (tie.spec
+    Inv-loop
+    μ-loop
+    loop-holds
+    letter-requires
+    array-write-bytes
+    add-i
+    loop-less
+    loop-again
+    returns)
