@@ -33,7 +33,7 @@ behind : (xs new more : List ℕ) (at i : ℕ) → drop at xs ≡ new ++ more �
 behind xs new more at i e l =
     sym (getD-drop at xs i 0) ∙ ap (λ (ys : List ℕ). getD ys i 0) e ∙ sym (getD-take (length new) (new ++ more) i 0 l) ∙ ap (λ (ys : List ℕ). getD ys i 0) (take-at new more (length new) refl)
 
-pub word-behind : (xs new more : List ℕ) (at i : ℕ) → drop at xs ≡ new ++ more → i + 3 < length new → wordIn xs (at + i) ≡ wordIn new i
+word-behind : (xs new more : List ℕ) (at i : ℕ) → drop at xs ≡ new ++ more → i + 3 < length new → wordIn xs (at + i) ≡ wordIn new i
 unfolding wordIn
 word-behind xs new more at i e l =
     let a : (k : ℕ) → k < 4 → getD xs (at + i + k) 0 ≡ getD new (i + k) 0 = λ k h. ap (λ (n : ℕ). getD xs n 0) (omega arith) ∙ behind xs new more at (i + k) e (omega arith) in
