@@ -88,10 +88,10 @@ static void bad_ends(void)
 
 static void bad_tags(void)
 {
-    IS_BAD(IN("<datamodel/>"), "<datamodel> may not stand in this <state>");
+    IS_BAD(IN("<datamodel/>"), "<datamodel> is not read: docs/grammar.md has what of SCXML is left out");
     IS_BAD(IN("<xi:include/>"), "<xi:include> may not stand in this <state>");
     IS_BAD(IN("<log label='1'/>"), "<log> may not stand in this <state>");
-    IS_BAD(IN("<onentry><script/></onentry>"), "<script> may not stand in this <onentry>");
+    IS_BAD(IN("<onentry><script/></onentry>"), "<script> is not read: docs/grammar.md has what of SCXML is left out");
     IS_BAD(IN("<initial><transition target='a'/></initial><initial/>"), "<initial> may not stand in this <state>");
     IS_BAD(TEXT("<html/>"), "<html> may not stand here: a text is one <scxml>");
     IS_BAD(TEXT("<scxml/><scxml/>"), "<scxml> may not stand here: a text is one <scxml>");
@@ -109,8 +109,8 @@ static void bad_tags(void)
     IS_BAD(IN("<onentry><log ></log></onentry>"), "label is missing");
     IS_BAD(IN("<onentry><if></if></onentry>"), "cond is missing");
     IS_BAD(IN("<onentry><elseif/></onentry>"), "cond is missing");
-    IS_BAD(IN("<onentry><send event='e'/></onentry>"), "<send> may not stand in this <onentry>");
-    IS_BAD(IN("<onexit><cancel sendid='e'/></onexit>"), "<cancel> may not stand in this <onexit>");
+    IS_BAD(IN("<onentry><send event='e'/></onentry>"), "<send> is not read: docs/grammar.md has what of SCXML is left out");
+    IS_BAD(IN("<onexit><cancel sendid='e'/></onexit>"), "<cancel> is not read: docs/grammar.md has what of SCXML is left out");
     IS_BAD(IN("<initial><transition/></initial>"), "target is missing: an initial transition has one");
     IS_BAD(IN("<initial/>"), "an <initial> holds a transition");
     /* Attributes that may not stand there. */
@@ -160,8 +160,8 @@ static void bad_values(void)
     IS_BAD(IN("<state id=' b'/>"), "one name stands here, without blanks");
     IS_BAD(IN("<transition event='e*'/>"), NAME_WORDS);
     IS_BAD(IN("<transition event='&amp;'/>"), NAME_WORDS);
-    IS_BAD(IN("<onentry><raise event='*'/></onentry>"), NAME_WORDS);
-    IS_BAD(IN("<state id='b$'/>"), NAME_WORDS);
+    IS_BAD(IN("<onentry><raise event='*'/></onentry>"), "a name has to stand here: letters, digits, - and _, joined by single dots");
+    IS_BAD(IN("<state id='b$'/>"), "a name has to stand here: letters, digits, - and _, joined by single dots");
 }
 
 /* Rules 1 to 3 in texts of the grammar. */
