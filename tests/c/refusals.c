@@ -149,15 +149,15 @@ static void bad_values(void)
     IS_BAD(TEXT("<scxml xmlns='scxml'/>"), "xmlns is http://www.w3.org/2005/07/scxml");
     IS_BAD(IN("<transition cond='a &foo;'/>"), "& begins one of &amp; &lt; &gt; &quot; &apos;");
     IS_BAD(IN("<transition cond='&#39;'/>"), "& begins one of &amp; &lt; &gt; &quot; &apos;");
-    IS_BAD(IN("<transition cond='a<b'/>"), "this may not stand in a value; the quote behind it may be missing");
-    IS_BAD(IN("<state id='b><state id='c'/>"), "this may not stand in a value; the quote behind it may be missing");
-    IS_BAD(IN("<transition target='a/>\n<state id='b'/>"), "this may not stand in a value; the quote behind it may be missing");
+    IS_BAD(IN("<transition cond='a<b'/>"), "this may not stand in a value; the quote that ends the value may be missing");
+    IS_BAD(IN("<state id='b><state id='c'/>"), "this may not stand in a value; the quote that ends the value may be missing");
+    IS_BAD(IN("<transition target='a/>\n<state id='b'/>"), "this may not stand in a value; the quote that ends the value may be missing");
     IS_BAD(IN("<state id='b..c'/>"), "letters, digits, - or _ have to stand behind a dot");
     IS_BAD(IN("<state id='b.'/>"), "letters, digits, - or _ have to stand behind a dot");
     IS_BAD(IN("<transition target=''/>"), "a value without a name in it");
     IS_BAD(IN("<transition event=' '/>"), "a value without a name in it");
-    IS_BAD(IN("<state id='b c'/>"), "one name stands here, without blanks");
-    IS_BAD(IN("<state id=' b'/>"), "one name stands here, without blanks");
+    IS_BAD(IN("<state id='b c'/>"), "one name has to stand here, without blanks");
+    IS_BAD(IN("<state id=' b'/>"), "one name has to stand here, without blanks");
     IS_BAD(IN("<transition event='e*'/>"), NAME_WORDS);
     IS_BAD(IN("<transition event='&amp;'/>"), NAME_WORDS);
     IS_BAD(IN("<onentry><raise event='*'/></onentry>"), "a name has to stand here: letters, digits, - and _, joined by single dots");
@@ -191,8 +191,8 @@ static void broken_rules(void)
     CHECK(is_refused(IN("<parallel id='p'><history id='h'><transition target='p'/></history></parallel>"), AUTTERVIL_TREE, "the root and a parallel need a child that is no history"));
     CHECK(is_refused(IN("<history id='h'><transition target='a'/></history>"), AUTTERVIL_TREE, "a state with a history needs a child that is none"));
     CHECK(is_refused(IN("<final id='f'><state id='b'/></final>"), AUTTERVIL_TREE, "no row may stand in a final or a history"));
-    CHECK(is_refused(IN("<parallel id='p'><state id='b'/><final id='f'/></parallel>"), AUTTERVIL_TREE, "a final does not stand in a parallel"));
-    CHECK(is_refused(TEXT("<scxml><history id='h'><transition target='a'/></history><state id='a'/></scxml>"), AUTTERVIL_TREE, "a history stands in a state or parallel"));
+    CHECK(is_refused(IN("<parallel id='p'><state id='b'/><final id='f'/></parallel>"), AUTTERVIL_TREE, "a final may not stand in a parallel"));
+    CHECK(is_refused(TEXT("<scxml><history id='h'><transition target='a'/></history><state id='a'/></scxml>"), AUTTERVIL_TREE, "a history may stand only in a state or parallel"));
 }
 
 /* Rules 4 and 5. */
@@ -201,18 +201,18 @@ static void more_broken_rules(void)
     CHECK(is_refused(TEXT("<scxml><onentry><log label='1'/></onentry><state id='a'/></scxml>"), AUTTERVIL_LISTS, "the root and a history have no entry or exit actions"));
     CHECK(is_refused(IN("<state id='b'/><history id='h'><transition event='e' target='b'/></history>"), AUTTERVIL_LISTS, "a history needs a transition with a target and neither event nor cond"));
     CHECK(is_refused(TEXT("<scxml><state id='a' initial='b'/><state id='b'/></scxml>"), AUTTERVIL_LISTS, "a state without children has no initial list"));
-    CHECK(is_refused(TEXT("<scxml><state id='a' initial='b'><state id='c'/></state><state id='b'/></scxml>"), AUTTERVIL_LISTS, "an initial list names rows inside its own row"));
+    CHECK(is_refused(TEXT("<scxml><state id='a' initial='b'><state id='c'/></state><state id='b'/></scxml>"), AUTTERVIL_LISTS, "an initial list may name only rows inside its own row"));
     CHECK(is_told(IN("<transition event='e' target='a a'/>"), AUTTERVIL_LISTS, 0, auttervil_strstatus(AUTTERVIL_LISTS)));
-    CHECK(is_refused(TEXT("<scxml><transition event='e' target='a'/><state id='a'/></scxml>"), AUTTERVIL_TRANSITIONS, "a transition stands in a state or parallel"));
-    CHECK(is_refused(IN("<final id='f'><transition event='e'/></final>"), AUTTERVIL_TRANSITIONS, "a transition stands in a state or parallel"));
+    CHECK(is_refused(TEXT("<scxml><transition event='e' target='a'/><state id='a'/></scxml>"), AUTTERVIL_TRANSITIONS, "a transition may stand only in a state or parallel"));
+    CHECK(is_refused(IN("<final id='f'><transition event='e'/></final>"), AUTTERVIL_TRANSITIONS, "a transition may stand only in a state or parallel"));
     CHECK(is_refused(IN("<state id='b'/><history id='h'><transition target='b'/><transition event='e' target='b'/></history>"), AUTTERVIL_TRANSITIONS, "a history's transition has neither event nor cond"));
     CHECK(is_refused(IN("<transition/>"), AUTTERVIL_TRANSITIONS, "a transition without an event needs a target"));
     CHECK(is_refused(IN("<transition cond=\"In('a')\"/>"), AUTTERVIL_TRANSITIONS, "a transition without an event needs a target"));
     CHECK(is_refused(IN("<state id='b'/><transition target='a'/>"), AUTTERVIL_TRANSITIONS, "a transition without event and cond leads to its own row: it would spin"));
     CHECK(is_refused(IN("<state id='b'/><history id='h'><transition target='b'/><transition target='b'/></history>"), AUTTERVIL_TRANSITIONS, "a history has one transition"));
-    CHECK(is_refused(IN("<onentry><if cond=\"In('a')\"><else/><if cond=\"In('a')\"><else/></if><else/></if></onentry>"), AUTTERVIL_TRANSITIONS, "an elseif or else stands behind the else of its if"));
-    CHECK(is_refused(IN("<onentry><else/></onentry>"), AUTTERVIL_TRANSITIONS, "an elseif or else stands in an if"));
-    CHECK(is_refused(IN("<onentry><if cond=\"In('a')\"/><elseif cond=\"In('a')\"/></onentry>"), AUTTERVIL_TRANSITIONS, "an elseif or else stands in an if"));
+    CHECK(is_refused(IN("<onentry><if cond=\"In('a')\"><else/><if cond=\"In('a')\"><else/></if><else/></if></onentry>"), AUTTERVIL_TRANSITIONS, "an elseif or else may not stand behind the else of its if"));
+    CHECK(is_refused(IN("<onentry><else/></onentry>"), AUTTERVIL_TRANSITIONS, "an elseif or else may stand only in an if"));
+    CHECK(is_refused(IN("<onentry><if cond=\"In('a')\"/><elseif cond=\"In('a')\"/></onentry>"), AUTTERVIL_TRANSITIONS, "an elseif or else may stand only in an if"));
     CHECK(is_refused(IN("<state id='In'/><transition event='e' cond='In(&apos;h&apos;)'/><history id='h'><transition target='In'/></history>"), AUTTERVIL_TRANSITIONS, "cond names a history, which is never active"));
     /* Behind a declaration, with the offset from the text's first byte on. */
     CHECK(is_told(TEXT("<?xml version='1.0'?>\n<scxml><state/></scxml>"), AUTTERVIL_BAD_TEXT, 29, "line 2, column 8: this <state> has no id\n<scxml><state/></scxml>\n       ^"));
