@@ -13,8 +13,8 @@ use Rattle.laws.specs.Bools.{bool-case, eq-case}
 use Rattle.laws.specs.Lists.{same-eq}
 use Rattle.laws.specs.Loops.{below-each}
 use Rattle.laws.specs.Orders.{lt-case}
-use Rattle.rules1.specs.Ids.{IdTurn, isIdOf, isNewId, new-done, new-leave, differs-root, differs-names}
-use Rattle.rules1.specs.Keys.{keyFrom, keyAt}
+use Rattle.rules1.specs.Ids.{IdTurn, isIdOf, isNewId, new-done, new-leave, differs-root, differs-names, id-slots, before-id}
+use Rattle.rules1.specs.Keys.{slotKey, keyAt}
 use Rattle.rules1.specs.Splits.{zeros}
 
 -- the row so many links behind x
@@ -127,12 +127,18 @@ module _ (numbers names : List ℕ) where
               let u : follow links (h .steps) head ≡ 0 = ap (λ (d : ℕ). follow links d head) q ∙ follow-more links e (h .steps - e) head ∙ ap (follow links (h .steps - e)) (sym (a .next) ∙ z) ∙ stays (h .steps - e) in
               absurd (let w = h .is in omega (arith, u, w, p)))
 
+          -- rows of one name have one slot, so one key
+          one-key : (j : ℕ) → suc j < i → nameAt names (idAt numbers i) ≡ nameAt names (idAt numbers (suc j)) → keyAt numbers names (suc j) ≡ key
+          one-key j m q =
+              let l = t .turn .below in
+              sym (ap slotKey (id-slots numbers names (t .turn .slots) i (suc j) (t .positive) (omega arith) l (omega (arith, l, m)) (t .own) (before-id numbers names i (t .turn) (suc j) m) q)) ∙ sym (t .is)
+
           differs : (j : ℕ) → j < i → idDiffers numbers names i j ≡ true
           differs zero m = differs-root numbers names i
           differs (suc j) m =
               eq-case (keyAt numbers names (suc j)) key (λ q. asked (suc j) (rw q at (t .so-far .held (suc j) (omega arith) m)) (omega arith))
               (λ n. differs-names numbers names i (suc j) (omega arith) (λ w. omega arith) ∙
-              ap not (bool-case (same (nameAt names (idAt numbers i)) (nameAt names (idAt numbers (suc j)))) (λ q. absurd (n (sym (ap (keyFrom 0) (same-eq _ _ q)) ∙ sym (t .is)))) (λ q. q)))
+              ap not (bool-case (same (nameAt names (idAt numbers i)) (nameAt names (idAt numbers (suc j)))) (λ q. absurd (n (one-key j m (same-eq _ _ q)))) (λ q. q)))
 
       pub met-twice : x < i → idDiffers numbers names i x ≡ false → Met numbers names i 1
       met-twice l d = record { low = omega arith; new = λ q. absurd (omega arith); twice = λ q. sym (new-leave numbers names i x l d) }

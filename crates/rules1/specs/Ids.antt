@@ -184,6 +184,9 @@ module _ (numbers names : List ℕ) where
     id-descriptor i n xs ys o e a q =
         rw (q, a .is) (and-right (zerosAfter (slotAt names n)) _ (s .fit n (optional-below (nameCount numbers) n (o .low) (eqb-false _ _ e))))
 
+    pub id-zeros : (i n : ℕ) (xs : List ℕ) → IdOf numbers i n → eqb n noNumber ≡ false → SlotOf names n xs → zerosAfter xs ≡ true
+    id-zeros i n xs o e a = rw (a .is) (slot-zeros n (optional-below (nameCount numbers) n (o .low) (eqb-false _ _ e)))
+
     pub id-low-read : (i n : ℕ) → IdOf numbers i n → eqb n noNumber ≡ false → SlotIn names n
     id-low-read i n o e = slot-in numbers names n (s .slots) (optional-below (nameCount numbers) n (o .low) (eqb-false _ _ e))
 

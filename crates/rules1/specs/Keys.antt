@@ -1,52 +1,62 @@
--- A key of an id: any function of its bytes serves, since names of different keys differ.
+-- A key of an id: any function of its slot's bytes serves, since slots of different keys differ.
 use mathlib.Core.Path.{_≡_, refl, sym, ap, _∙_}
 use mathlib.Core.Bool.{true, false}
-use mathlib.Core.List.{List, [], _∷_}
-use Prim.Native.Nat.{ℕ, zero, suc, _+_, _*_, _%_, _<_, _≤_}
-use native.Mathlib.Nat.{mod-lt, zero-lt-suc}
+use mathlib.Core.List.{List}
+use Prim.Native.Nat.{ℕ, zero, suc, _+_, _*_, _/_, _%_, _^_, _<_, _≤_}
+use native.Mathlib.Numerals.{add-one}
 use native.Mathlib.Omega.{arith}
-use lib.ListN.{length, getD, drop}
-use lib.Seq.{drop-cons}
-use Rattle.definition.specs.Names.{beforeZero}
-use Rattle.definition.specs.Tables.{idAt, nameAt}
+use lib.Bits.{bitOr, bitXor}
+use lib.ListN.{getD}
+use Rattle.definition.specs.Tables.{idAt, slotAt}
 use Rattle.tables.specs.Parts.{IdOf, SlotOf}
 use Rattle.rules1.specs.Ids.{isIdOf}
 
 abbrev pub keys : ℕ
 keys = 1024
 
--- the key of the bytes behind those that gave k
-unfoldable pub keyFrom : ℕ → List ℕ → ℕ
-keyFrom k [] = k
-keyFrom k (b ∷ bs) = keyFrom ((k * 31 + b) % keys) bs
+-- byte i of a slot, moved up by so many bits of a word
+abbrev pub movedAt : List ℕ → ℕ → ℕ → ℕ
+movedAt s i n = getD s i 0 * 2 ^ n % 2 ^ 64
+
+-- eight bytes as a word, the first one lowest
+unfoldable pub wordAt : List ℕ → ℕ → ℕ
+wordAt s i =
+    bitOr (bitOr (bitOr (bitOr (bitOr (bitOr (bitOr (getD s i 0) (movedAt s (i + 1) 8)) (movedAt s (i + 2) 16)) (movedAt s (i + 3) 24)) (movedAt s (i + 4) 32)) (movedAt s (i + 5) 40)) (movedAt s (i + 6) 48)) (movedAt s (i + 7) 56)
+
+-- the words before, turned, and the next one
+unfoldable pub mixOf : ℕ → ℕ → ℕ
+mixOf k w = bitXor (bitOr (k * 2 ^ 23 % 2 ^ 64) (k / 2 ^ 41)) w
+
+unfoldable pub squeezeOf : ℕ → ℕ
+squeezeOf k = bitXor k (k / 2 ^ 32) % 4294967296 * 2654435769 / 2 ^ 22 % 1024
+
+-- the first j words of a slot
+unfoldable pub mixedTo : List ℕ → ℕ → ℕ
+mixedTo s zero = 0
+mixedTo s (suc j) = mixOf (mixedTo s j) (wordAt s (j * 8))
+
+unfoldable pub slotKey : List ℕ → ℕ
+slotKey s = squeezeOf (mixedTo s 8)
 
 unfoldable pub keyAt : List ℕ → List ℕ → ℕ → ℕ
-keyAt numbers names i = keyFrom 0 (nameAt names (idAt numbers i))
+keyAt numbers names i = slotKey (slotAt names (idAt numbers i))
 
-pub key-begin : (bs : List ℕ) → keyFrom 0 (drop 0 bs) ≡ keyFrom 0 bs
-key-begin bs = refl
+pub mixed-begin : (s : List ℕ) → 0 ≡ mixedTo s 0
+unfolding mixedTo
+mixed-begin s = refl
 
-pub key-turn : (bs : List ℕ) (k i : ℕ) → i < length bs → keyFrom k (drop i bs) ≡ keyFrom 0 bs → keyFrom ((k * 31 + getD bs i 0) % keys) (drop (i + 1) bs) ≡ keyFrom 0 bs
-unfolding keyFrom
-key-turn bs k i l h = let e : i + 1 ≡ suc i = omega arith in rw e (sym (ap (keyFrom k) (drop-cons bs i 0 l)) ∙ h)
+pub mixed-turn : (s : List ℕ) (j k w r : ℕ) → k ≡ mixedTo s j → w ≡ wordAt s (j * 8) → r ≡ mixOf k w → r ≡ mixedTo s (j + 1)
+unfolding mixedTo
+mixed-turn s j k w r e f g = g ∙ rw (add-one j, e, f)
 
-drop-end : (bs : List ℕ) (i : ℕ) → length bs ≤ i → drop i bs ≡ []
-drop-end [] zero l = refl
-drop-end [] (suc i) l = refl
-drop-end (b ∷ bs) zero l = absurd (omega arith)
-drop-end (b ∷ bs) (suc i) l = drop-end bs i (omega arith)
-
-pub key-done : (bs : List ℕ) (k i : ℕ) → length bs ≤ i → keyFrom k (drop i bs) ≡ keyFrom 0 bs → k ≡ keyFrom 0 bs
-unfolding keyFrom
-key-done bs k i l h = ap (keyFrom k) (sym (drop-end bs i l)) ∙ h
-
-pub key-step : (k b : ℕ) → (k * 31 + b) % keys < keys
-key-step k b = mod-lt (k * 31 + b) (zero-lt-suc 1023)
+pub mixed-done : (s : List ℕ) (j k r : ℕ) → j ≤ 8 → 8 ≤ j → k ≡ mixedTo s j → r ≡ squeezeOf k → r ≡ slotKey s
+unfolding slotKey
+mixed-done s j k r l m e f = let q : j ≡ 8 = omega arith in f ∙ ap squeezeOf (e ∙ ap (mixedTo s) q)
 
 -- the key of a row's id, as it was read
-pub key-of-row : (numbers names : List ℕ) (i n k : ℕ) (xs ys : List ℕ) → IdOf numbers i n → SlotOf names n xs → ys ≡ beforeZero xs → k ≡ keyFrom 0 ys → k ≡ keyAt numbers names i
-unfolding keyAt nameAt
-key-of-row numbers names i n k xs ys o a q e = e ∙ rw (q, a .is, o .is)
+pub key-of-row : (numbers names : List ℕ) (i n k : ℕ) (xs : List ℕ) → IdOf numbers i n → SlotOf names n xs → k ≡ slotKey xs → k ≡ keyAt numbers names i
+unfolding keyAt
+key-of-row numbers names i n k xs o a e = e ∙ rw (a .is, o .is)
 
 -- k is the key of row i's id, or it has none
 pub record KeyOf (numbers names : List ℕ) (i k : ℕ) : Type 0 where

@@ -1,6 +1,7 @@
 pub mod Inside
 pub mod Arguments
 pub mod Ids
+pub mod Filled
 pub mod Keys
 pub mod Splits
 pub mod Classes

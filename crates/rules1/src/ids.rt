@@ -5,9 +5,12 @@ ghost use Rattle.definition.specs.Rows.{all, from};
 ghost use Rattle.definition.specs.Tables.{rowCount};
 ghost use Rattle.definition.specs.Rules.{idFits};
 ghost use Rattle.rules1.specs.Ids.{Slots};
-ghost use Rattle.rules1.specs.Keys.{keyFrom, KeyOf};
+ghost use Rattle.rules1.specs.Keys.{KeyOf};
 ghost use Rattle.rules1.specs.Chains.{Turn, Met};
 use crate::classes::ids_differ;
+use crate::filled::name_in;
+use crate::keys::KEYS;
+use crate::keys::key_of;
 use crate::spelling::is_id;
 use crate::spelling::is_id_of;
 use numbers::Row;
@@ -15,8 +18,6 @@ use tables::limits;
 
 // The rows seen so far are chained by the keys of their ids: the last row of each key, and for each row the one before it. 0 ends a chain, since the
 // root has no id.
-const KEYS: usize = 1024;
-
 // So many rows of one key are compared with another; where there are more, all ids are told apart byte by byte.
 const MOST_OF_A_KEY: usize = 32;
 
@@ -27,20 +28,7 @@ const TWICE: u64 = 1;
 
 const MANY: u64 = 2;
 
-// Any function of the bytes serves: names of different keys differ.
-fn key_of(name: &[u8]) -> usize
-    ensures { λ k. ⌜ (k ≡ keyFrom 0 (now (name .entry))) × (k < 1024) ⌝ }
-{
-    let mut key = 0;
-    let mut i = 0;
-    while i < name.len() {
-        key = (key * 31 + name[i] as usize) % KEYS;
-        i += 1;
-    }
-    key
-}
-
-// The key of a row's id, and KEYS where it has none: the end of its slot is looked for once.
+// The key of a row's id, and KEYS where it has none.
 fn id_key(numbers: &[u64], names: &[u8], r: Row) -> usize
     requires { ⌜ Slots (now numbers) (now names) × (r .0 < rowCount (now numbers)) × (0 < r .0) ⌝ }
     ensures { λ k. ⌜ KeyOf (now (numbers .entry)) (now (names .entry)) (r .0) k ⌝ }
@@ -50,11 +38,11 @@ fn id_key(numbers: &[u64], names: &[u8], r: Row) -> usize
     if none {
         return KEYS;
     }
-    let name = names::name_of(tables::slot_of(names, n));
-    if !is_id(name) {
+    let slot = tables::slot_of(names, n);
+    if !is_id(name_in(slot)) {
         return KEYS;
     }
-    key_of(name)
+    key_of(slot)
 }
 
 // Slots that end in zeros are equal if their names are.

@@ -5,13 +5,16 @@ ghost use Rattle.definition.specs.Tables.{actionCount, nameCount};
 ghost use Rattle.definition.specs.Rules.{slotFits, actionNamed, rule2};
 ghost use Rattle.tables.specs.Ranges.{InTables, ActionIn, SlotsIn};
 use definition::Action;
+use filled::fits;
 use ids::ids_fit;
 use numbers::NameNumber;
 pub use sizes::has_no_parts;
 pub use sizes::keeps_sizes;
 
 mod classes;
+mod filled;
 mod ids;
+mod keys;
 mod sizes;
 mod spelling;
 
@@ -24,7 +27,7 @@ fn slots_fit(numbers: &[u64], names: &[u8]) -> bool
     let n = tables::name_count(numbers);
     let mut i = 0;
     while i < n {
-        if !names::slot_fits(tables::slot_of(names, NameNumber(i as u16))) {
+        if !fits(tables::slot_of(names, NameNumber(i as u16))) {
             return false;
         }
         i += 1;

@@ -28,8 +28,8 @@ cast-t7 c = search needs
 slot-of-requires : tie.Need-slot-of-requires Inv-loop μ-loop
 slot-of-requires c κs = search (needs, slot-in)
 
-slot-fits-requires : tie.Need-slot-fits-requires Inv-loop μ-loop
-slot-fits-requires c κs = search needs
+fits-requires : tie.Need-fits-requires Inv-loop μ-loop
+fits-requires c κs = search needs
 
 returns : tie.Need-returns Inv-loop μ-loop
 returns c = search (needs, below-laws, said-laws, slot-judged)
@@ -56,7 +56,7 @@ slots-fit-spec =
     loop-holds
     cast-t7
     slot-of-requires
-    slot-fits-requires
+    fits-requires
     returns
     add-i
     loop-less
