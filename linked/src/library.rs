@@ -78,7 +78,7 @@ impl Scratch {
         Scratch {
             cells: vec![u64::from(with); 27_756],
             bytes: vec![with; 49_152],
-            ids: vec![u16::from(with); 15_070],
+            ids: vec![u16::from(with); 24_434],
             spots: vec![u16::from(with); 16_388],
             sources: vec![u16::from(with); 2_913],
             ranks: vec![u16::from(with); 2_913],

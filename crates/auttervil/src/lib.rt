@@ -274,7 +274,7 @@ pub extern "C" fn auttervil_raw2_read(
     }
 }
 
-// The same for a host with a small stack, which lends six work places: 27,756 numbers and 49,152 bytes for the tables, 15,070 numbers for ids, 16,388 for the spots that
+// The same for a host with a small stack, which lends six work places: 27,756 numbers and 49,152 bytes for the tables, 24,434 numbers for ids, 16,388 for the spots that
 // tags stand in, 2,913 each for the sources and the numbers of transitions. What they hold counts for nothing and is lost; work places of other lengths are answered by 199,
 // and nothing is written, in them neither.
 #[no_mangle]

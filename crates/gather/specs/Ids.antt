@@ -126,7 +126,7 @@ stating-more text id ps e w a b h l m = by (id .stated) refl (eqb w idWord) refl
 pub record RowRoom (text ids : List ℕ) (n at to : ℕ) : Type 0 where
   pub index : Index text ids n
   pub few : n < 32768
-  pub room : n * 3 + 1027 ≤ length ids
+  pub room : n * 5 + 1029 ≤ length ids
   pub first : at ≤ to
   pub quote : to ≤ length text
 
@@ -152,7 +152,7 @@ module _ (text ids : List ℕ) (n at to : ℕ) (w : RowRoom text ids n at to) wh
 pub record Begun (text levels ids : List ℕ) : Type 0 where
   pub short : length text ≤ 32768
   pub deep : length levels ≡ 32768
-  pub room : length ids ≡ 15070
+  pub room : length ids ≡ 24434
 
 pub record Gathered (text levels ids : List ℕ) (n : ℕ) : Type 0 where
   pub begun : Begun text levels ids
@@ -167,7 +167,7 @@ pub record GatheredAs (text levels ids : List ℕ) (r : Ids) : Type 0 where
 pub record Gathering (text levels ids : List ℕ) (w : Walk) (id : Id) (n : ℕ) : Type 0 where
   pub standing : Standing text levels w
   pub told : Told text levels (w .cursor) (w .index)
-  pub room : length ids ≡ 15070
+  pub room : length ids ≡ 24434
   pub index : Index text ids n
   pub parts : List Part
   pub stating : Stating text id parts

@@ -26,8 +26,8 @@ use Rattle.read_text.specs.Number.{NumberedBy, NumberedAs}
 
 pub record SurveyRoom (text levels ids names spots noted next ranks : List ℕ) : Type 0 where
   pub deep : length levels ≡ 32768
-  pub ids-room : length ids ≡ 15070
-  pub names-room : length names ≡ 3328
+  pub ids-room : length ids ≡ 24434
+  pub names-room : length names ≡ 4864
   pub spots-room : length spots ≡ 16388
   pub noted-room : length noted ≡ 2913
   pub next-room : length next ≡ 2816
@@ -72,7 +72,7 @@ module _ (text levels ids : List ℕ) (j : Judged) (r : JudgedAs text levels ids
     pub survey-short : length text ≤ 32768
     survey-short = well .gathered .noted .short
 
-    pub survey-begun : (names : List ℕ) → length names ≡ 3328 → Begun text levels names
+    pub survey-begun : (names : List ℕ) → length names ≡ 4864 → Begun text levels names
     survey-begun names n = record { short = survey-short; deep = well .gathered .begun .deep; room = n }
 
     module _ (levels' names : List ℕ) (s : Slots) (g : Gathered text levels' names s) where

@@ -20,17 +20,17 @@ use Rattle.read_text.specs.Tabled.{TabledAs}
 
 unfoldable pub placesFit : ℕ → ℕ → ℕ → ℕ → ℕ → ℕ → Bool
 placesFit work nameWork ids spots noted ranks =
-    eqb work 27756 && eqb nameWork 49152 && eqb ids 15070 && eqb spots 16388 && eqb noted 2913 && eqb ranks 2913
+    eqb work 27756 && eqb nameWork 49152 && eqb ids 24434 && eqb spots 16388 && eqb noted 2913 && eqb ranks 2913
 
 pub places-are : (work nameWork ids spots noted ranks : ℕ) →
-    (eqb work 27756 && eqb nameWork 49152 && eqb ids 15070 && eqb spots 16388 && eqb noted 2913 && eqb ranks 2913) ≡ placesFit work nameWork ids spots noted ranks
+    (eqb work 27756 && eqb nameWork 49152 && eqb ids 24434 && eqb spots 16388 && eqb noted 2913 && eqb ranks 2913) ≡ placesFit work nameWork ids spots noted ranks
 unfolding placesFit
 places-are work nameWork ids spots noted ranks = refl
 
 pub record ReadRoom (work nameWork ids spots noted ranks : ℕ) : Type 0 where
   pub work-room : work ≡ 27756
   pub name-room : nameWork ≡ 49152
-  pub ids-room : ids ≡ 15070
+  pub ids-room : ids ≡ 24434
   pub spots-room : spots ≡ 16388
   pub noted-room : noted ≡ 2913
   pub ranks-room : ranks ≡ 2913
@@ -75,17 +75,17 @@ module _ (work nameWork ids spots noted ranks : ℕ) (fit : Bool) (e : fit ≡ p
   unfolding placesFit
   places-room q =
       let six = sym e ∙ not-false fit q in
-      let five = left (eqb work 27756 && eqb nameWork 49152 && eqb ids 15070 && eqb spots 16388 && eqb noted 2913) (eqb ranks 2913) six in
-      let four = left (eqb work 27756 && eqb nameWork 49152 && eqb ids 15070 && eqb spots 16388) (eqb noted 2913) five in
-      let three = left (eqb work 27756 && eqb nameWork 49152 && eqb ids 15070) (eqb spots 16388) four in
-      let two = left (eqb work 27756 && eqb nameWork 49152) (eqb ids 15070) three in
+      let five = left (eqb work 27756 && eqb nameWork 49152 && eqb ids 24434 && eqb spots 16388 && eqb noted 2913) (eqb ranks 2913) six in
+      let four = left (eqb work 27756 && eqb nameWork 49152 && eqb ids 24434 && eqb spots 16388) (eqb noted 2913) five in
+      let three = left (eqb work 27756 && eqb nameWork 49152 && eqb ids 24434) (eqb spots 16388) four in
+      let two = left (eqb work 27756 && eqb nameWork 49152) (eqb ids 24434) three in
       record {
         work-room = eqb-true work 27756 (left (eqb work 27756) (eqb nameWork 49152) two);
         name-room = eqb-true nameWork 49152 (right (eqb work 27756) (eqb nameWork 49152) two);
-        ids-room = eqb-true ids 15070 (right (eqb work 27756 && eqb nameWork 49152) (eqb ids 15070) three);
-        spots-room = eqb-true spots 16388 (right (eqb work 27756 && eqb nameWork 49152 && eqb ids 15070) (eqb spots 16388) four);
-        noted-room = eqb-true noted 2913 (right (eqb work 27756 && eqb nameWork 49152 && eqb ids 15070 && eqb spots 16388) (eqb noted 2913) five);
-        ranks-room = eqb-true ranks 2913 (right (eqb work 27756 && eqb nameWork 49152 && eqb ids 15070 && eqb spots 16388 && eqb noted 2913) (eqb ranks 2913) six);
+        ids-room = eqb-true ids 24434 (right (eqb work 27756 && eqb nameWork 49152) (eqb ids 24434) three);
+        spots-room = eqb-true spots 16388 (right (eqb work 27756 && eqb nameWork 49152 && eqb ids 24434) (eqb spots 16388) four);
+        noted-room = eqb-true noted 2913 (right (eqb work 27756 && eqb nameWork 49152 && eqb ids 24434 && eqb spots 16388) (eqb noted 2913) five);
+        ranks-room = eqb-true ranks 2913 (right (eqb work 27756 && eqb nameWork 49152 && eqb ids 24434 && eqb spots 16388 && eqb noted 2913) (eqb ranks 2913) six);
       }
 
   pub places-no : not fit ≡ true → (text place namePlace : List ℕ) (r : Read) → r ≡ refused 199 0 →

@@ -31,7 +31,7 @@ fn are_places(
 {
     (work == 27756)
         & (name_work == 49152)
-        & (ids == 15070)
+        & (ids == 24434)
         & (spots == 16388)
         & (noted == 2913)
         & (ranks == 2913)
@@ -52,7 +52,7 @@ fn read_in(
     ensures { λ r. ⌜ outcomeOf r (now (place .exit)) (now («name_place» .exit)) ≡ callOf (now (text .entry)) (now (place .entry)) (now («name_place» .entry)) ⌝ }
 {
     let mut levels = [0u8; 32768];
-    let mut names = [0u16; 3328];
+    let mut names = [0u16; 4864];
     let mut next = [0u32; 2816];
     let tabled = lay_text(
         text,
@@ -81,7 +81,7 @@ fn read_in(
     }
 }
 
-// The text into the two places, with work places lent: 27,756 numbers and 49,152 bytes for the tables, 15,070 numbers for ids, 16,388 for the spots that tags stand in,
+// The text into the two places, with work places lent: 27,756 numbers and 49,152 bytes for the tables, 24,434 numbers for ids, 16,388 for the spots that tags stand in,
 // 2,913 each for the sources and the numbers of transitions.
 pub fn read_with(
     text: &[u8],
@@ -126,7 +126,7 @@ pub fn read(text: &[u8], place: &mut [u64], name_place: &mut [u8]) -> Read
 {
     let mut work = [0u64; 27756];
     let mut name_work = [0u8; 49152];
-    let mut ids = [0u16; 15070];
+    let mut ids = [0u16; 24434];
     let mut spots = [0u16; 16388];
     let mut noted = [0u16; 2913];
     let mut ranks = [0u16; 2913];

@@ -24,7 +24,7 @@ use Rattle.reader.specs.declared.Judged.the-variants.{Faulty, Well}
 -- the places that the walks work in: a level for each byte, three numbers for each id that a text can have and one for each of 1,024 keys
 pub record Places (levels ids : List ℕ) : Type 0 where
   pub deep : length levels ≡ 32768
-  pub room : length ids ≡ 15070
+  pub room : length ids ≡ 24434
 
 -- the text is of the grammar and has no fault
 pub record WellRead (text levels ids : List ℕ) (n : ℕ) : Type 0 where
@@ -36,7 +36,7 @@ abbrev pub JudgedAs : List ℕ → List ℕ → List ℕ → Judged → Type 0
 JudgedAs text levels ids (Faulty at) = readOf text ≡ faulty at
 JudgedAs text levels ids (Well n) = WellRead text levels ids n
 
-pub judge-begun : (text levels ids : List ℕ) → length text ≤ 32768 → length levels ≡ 32768 → length ids ≡ 15070 → Begun text levels ids
+pub judge-begun : (text levels ids : List ℕ) → length text ≤ 32768 → length levels ≡ 32768 → length ids ≡ 24434 → Begun text levels ids
 judge-begun text levels ids s d r = record { short = s; deep = d; room = r }
 
 module _ (text : List ℕ) where
@@ -44,7 +44,7 @@ module _ (text : List ℕ) where
   abbrev pub head : List ℕ
   head = take (32768 - 0) (drop 0 text)
 
-  pub judge-head : (levels ids : List ℕ) → length levels ≡ 32768 → length ids ≡ 15070 → Begun head levels ids
+  pub judge-head : (levels ids : List ℕ) → length levels ≡ 32768 → length ids ≡ 24434 → Begun head levels ids
   judge-head levels ids d r = record { short = simp length-take (omega arith); deep = d; room = r }
 
   pub judge-long : 32768 < length text → (at : ℕ) (whole : Bool) → Found head at whole → readOf text ≡ faulty at

@@ -21,7 +21,7 @@ use Rattle.slots.specs.First.{fresh-append, fresh-grows, fresh-known, fr
 
 -- at most 768 slots; 769 stands for too many, of which 768 are noted
 pub record Fits (text slots : List ℕ) (n : ℕ) : Type 0 where
-  pub room : length slots ≡ 3328
+  pub room : length slots ≡ 4864
   pub most : n ≤ 769
   pub short : length text ≤ 32768
   pub noted : ℕ

@@ -62,7 +62,7 @@ module _ (text slots : List ℕ) (n : ℕ) (m : Mark) where
 pub record Begun (text levels slots : List ℕ) : Type 0 where
   pub short : length text ≤ 32768
   pub deep : length levels ≡ 32768
-  pub room : length slots ≡ 3328
+  pub room : length slots ≡ 4864
 
 pub record Found (text slots : List ℕ) (n : ℕ) : Type 0 where
   pub few : n ≤ 768

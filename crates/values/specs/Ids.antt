@@ -1,4 +1,4 @@
--- Names as places in a text: two numbers for each, where it begins and how long it is. Behind them the names are chained by their keys (Chains).
+-- Names as places in a text: two numbers for each, where it begins and how long it is. Behind them the names stand in trees by their hashes (Trees).
 use mathlib.Core.Path.{_≡_, refl, sym, ap, _∙_}
 use mathlib.Core.Bool.{Bool, true, false}
 use mathlib.Core.List.{List, [], _∷_, _++_}
@@ -8,7 +8,7 @@ use lib.ListN.{length, getD, take, drop, length-drop}
 use lib.Seq.{getD-take, getD-drop, length-take-le}
 use Rattle.definition.specs.Rows.{same}
 use Rattle.laws.specs.Lists.{same-eq}
-use Rattle.values.specs.Chains.{keys, Chained}
+use Rattle.values.specs.Trees.{keys, tagOf, Grown}
 
 unfoldable pub idAt : List ℕ → List ℕ → ℕ → List ℕ
 idAt text ids k = take (getD ids (k * 2 + 1) 0) (drop (getD ids (k * 2) 0) text)
@@ -42,28 +42,32 @@ ids-snoc text ids (suc n) k =
     shift : (a b : ℕ) → suc a + b ≡ a + suc b
     shift a b = omega arith
 
--- ---- the chains behind them
+-- ---- the trees behind them
 
--- where the numbers of the keys begin; those of the names stand before it
+-- where the numbers of the keys begin; those of the names stand before it, three for each
 abbrev pub endOf : List ℕ → ℕ
 endOf ids = length ids - keys
 
 unfoldable pub headAt : List ℕ → ℕ → ℕ
 headAt ids h = getD ids (endOf ids + h) 0
 
-unfoldable pub nextAt : List ℕ → ℕ → ℕ
-nextAt ids zero = 0
-nextAt ids (suc k) = getD ids (endOf ids - suc k) 0
+unfoldable pub nextAt : List ℕ → ℕ → ℕ → ℕ
+nextAt ids zero s = 0
+nextAt ids (suc k) s = getD ids (endOf ids - suc k * 3 + s) 0
 
--- n names, all chained
+unfoldable pub tagAt : List ℕ → ℕ → ℕ
+tagAt ids k = getD ids (endOf ids - suc k * 3 + 2) 0
+
+-- n names, all in trees
 pub record Index (text ids : List ℕ) (n : ℕ) : Type 0 where
   pub short : length text ≤ 32768
   pub few : n ≤ 32768
-  pub room : n * 3 + 1024 ≤ length ids
+  pub room : n * 5 + 1024 ≤ length ids
   pub inside : (k : ℕ) → k < n → getD ids (k * 2) 0 + getD ids (k * 2 + 1) 0 ≤ length text
-  pub chained : Chained (idAt text ids) (headAt ids) (nextAt ids) n
+  pub tags : (k : ℕ) → k < n → tagAt ids k ≡ tagOf (idAt text ids k)
+  pub grown : Grown (idAt text ids) (headAt ids) (nextAt ids) n
 
--- there are n of them, and each stands in the text; the chains may have more
+-- there are n of them, and each stands in the text; the trees may have more
 pub record Noted (text ids : List ℕ) (n : ℕ) : Type 0 where
   pub short : length text ≤ 32768
   pub few : n ≤ 32768

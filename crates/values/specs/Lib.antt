@@ -1,8 +1,9 @@
 pub mod Plain
 pub mod Decimals
 pub mod Items
-pub mod Chains
+pub mod Trees
 pub mod Ids
 pub mod Places
+pub mod Spots
 pub mod Notes
 pub mod Conditions

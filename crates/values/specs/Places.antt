@@ -1,8 +1,8 @@
--- The place of a name among those noted: its chain is followed.
+-- The place of a name among those noted: its way through a tree is followed.
 use mathlib.Core.Path.{_≡_, refl, sym, ap, _∙_}
 use mathlib.Core.Bool.{Bool, true, false, _||_, cond}
 use mathlib.Core.List.{List, [], _∷_}
-use Prim.Native.Nat.{ℕ, zero, suc, _+_, _*_, _-_, _^_, _≤_, _<_}
+use Prim.Native.Nat.{ℕ, zero, suc, _+_, _*_, _-_, _/_, _%_, _^_, _≤_, _<_}
 use native.Mathlib.Omega.{arith}
 use lib.Dec.{ltb}
 use lib.ListN.{length, getD, take, drop}
@@ -11,9 +11,10 @@ use Rattle.definition.specs.Rows.{same}
 use Rattle.reading.specs.Faults.{isAmong}
 use Rattle.reading.specs.Content.{placeOf}
 use Rattle.laws.specs.Bools.{bool-case, not-so}
+use Rattle.laws.specs.Lists.{same-eq}
 use Rattle.laws.specs.Orders.{lt-case}
-use Rattle.values.specs.Chains.{keyFrom, key-low, Asked, asked-begin, asked-turn, asked-none, asked-first}
-use Rattle.values.specs.Ids.{idAt, idsFrom, ids-length, headAt, nextAt, Noted}
+use Rattle.values.specs.Trees.{hashFrom, keyOf, tagOf, key-low, sideOf, sideAt, side-low, Asked, asked-begin, asked-turn, asked-none, asked-first}
+use Rattle.values.specs.Ids.{idAt, idsFrom, ids-length, headAt, nextAt, tagAt, Noted}
 
 -- ---- the first of those that are the same
 
@@ -119,77 +120,109 @@ module _ (text ids v : List ℕ) (k : ℕ) (r : IdRoom text ids k) (at long : �
       let all : at + long - at ≡ getD ids (k * 2 + 1) 0 = omega arith in
       e ∙ ap (λ (m : ℕ). same v (take m (drop at text))) all ∙ ap (λ (m : ℕ). same v (take (getD ids (k * 2 + 1) 0) (drop m text))) a
 
--- ---- the chain of a name
+-- ---- the way of a name
 
-pub record Looking (text ids name : List ℕ) (n end x : ℕ) : Type 0 where
+-- name x - 1 has its numbers, and among them the tag of its bytes
+pub record NodeRoom (text ids name : List ℕ) (x tag : ℕ) : Type 0 where
+  pub some : 0 < x
+  pub room : IdRoom text ids (x - 1)
+  pub keys : 1024 ≤ length ids
+  pub within : x * 3 ≤ length ids - 1024
+  pub there : length ids - 1024 - x * 3 + 2 < length ids
+  pub tag-is : tag ≡ tagOf name
+  pub tagged : getD ids (length ids - 1024 - x * 3 + 2) 0 ≡ tagOf (idAt text ids (x - 1))
+
+-- names that are the same have one tag
+pub node-other : (text ids name : List ℕ) (x tag there : ℕ) → NodeRoom text ids name x tag → there ≡ getD ids (length ids - 1024 - x * 3 + 2) 0 → (there ≡ tag → ⊥) → false ≡ same name (idAt text ids (x - 1))
+node-other text ids name x tag there w e d =
+    sym (not-so (same name (idAt text ids (x - 1))) (λ s. d (e ∙ w .tagged ∙ ap tagOf (sym (same-eq name (idAt text ids (x - 1)) s)) ∙ sym (w .tag-is))))
+
+pub record Looking (text ids name : List ℕ) (n end hash tag x depth : ℕ) : Type 0 where
   pub noted : Noted text ids n
   pub end-is : end ≡ length ids - 1024
-  pub steps : ℕ
-  pub asked : Asked (idAt text ids) (headAt ids) (nextAt ids) (noted .all) name x steps
+  pub hash-is : hash ≡ hashFrom 0 name
+  pub tag-is : tag ≡ tagOf name
+  pub asked : Asked (idAt text ids) (headAt ids) (nextAt ids) (noted .all) name x depth
 
 module _ (text ids name : List ℕ) (n : ℕ) (w : Noted text ids n) where
   pub look-keys : 1024 ≤ length ids
   look-keys = let r = w .index .room in omega arith
 
-  module _ (end : ℕ) (e : end ≡ length ids - 1024) (key : ℕ) (k : (key ≡ keyFrom 0 name) × (key < 1024)) where
-    pub look-head : end + key < length ids
-    look-head = let r = look-keys in let l = k .1 in omega arith
+  module _ (end : ℕ) (e : end ≡ length ids - 1024) (hash : ℕ) (k : (hash ≡ hashFrom 0 name) × (hash < 281474976710656)) where
+    key-is : hash % 1024 ≡ keyOf name
+    unfolding keyOf
+    key-is = ap (λ (h : ℕ). h % 1024) (k .0)
 
-    pub look-start : (x : ℕ) → x ≡ getD ids (end + key) 0 → Looking text ids name n end x
-    unfolding headAt
+    pub look-head : end + hash % 1024 < length ids
+    look-head = let r = look-keys in let q = key-is in let l = key-low name in omega (arith, q, l)
+
+    pub look-start : (x : ℕ) → x ≡ getD ids (end + hash % 1024) 0 → Looking text ids name n end hash (hash / 4294967296) x 0
+    unfolding headAt tagOf
     look-start x q =
         record {
           noted = w;
           end-is = e;
-          steps = 0;
+          hash-is = k .0;
+          tag-is = ap (λ (h : ℕ). h / 4294967296) (k .0);
           asked =
-              asked-begin (idAt text ids) (headAt ids) (nextAt ids) (w .all) (w .index .chained) name x
-              (q ∙ ap (λ (i : ℕ). getD ids (i + key) 0) e ∙ ap (λ (i : ℕ). getD ids (length ids - 1024 + i) 0) (k .0));
+              asked-begin (idAt text ids) (headAt ids) (nextAt ids) (w .all) (w .index .grown) name x
+              (q ∙ ap (λ (i : ℕ). getD ids (i + hash % 1024) 0) e ∙ ap (λ (i : ℕ). getD ids (length ids - 1024 + i) 0) key-is);
         }
 
-module _ (text ids name : List ℕ) (n end x : ℕ) (w : Looking text ids name n end x) where
-  pub look-room : 0 < x → IdRoom text ids (x - 1)
+module _ (text ids name : List ℕ) (n end hash tag x depth : ℕ) (w : Looking text ids name n end hash tag x depth) where
+  look-room : 0 < x → IdRoom text ids (x - 1)
   look-room p =
       let i = w .noted .index in
       let l = w .asked .link .low in let f = i .few in let r = i .room in
       record { few = omega arith; low = omega arith; high = omega arith; short = i .short; inside = i .inside (x - 1) (omega arith) }
 
-  pub look-within : 0 < x → x ≤ end
-  look-within p = let e = w .end-is in let l = w .asked .link .low in let r = w .noted .index .room in omega arith
+  tag-there : 0 < x → getD ids (length ids - 1024 - x * 3 + 2) 0 ≡ tagOf (idAt text ids (x - 1))
+  unfolding tagAt
+  tag-there p =
+      let l = w .asked .link .low in let q : x ≡ suc (x - 1) = omega arith in
+      ap (λ (y : ℕ). getD ids (length ids - 1024 - y * 3 + 2) 0) q ∙ w .noted .index .tags (x - 1) (omega (arith, l, p))
 
-  pub look-link : 0 < x → end - x < length ids
-  look-link p = let e = w .end-is in let l = w .asked .link .low in let r = w .noted .index .room in omega arith
+  pub look-node : 0 < x → NodeRoom text ids name x tag
+  look-node p =
+      let l = w .asked .link .low in let r = w .noted .index .room in
+      record { some = p; room = look-room p; keys = omega arith; within = omega arith; there = omega arith; tag-is = w .tag-is; tagged = tag-there p }
 
-  next-is : (x' : ℕ) → 0 < x → x' ≡ getD ids (end - x) 0 → x' ≡ nextAt ids x
-  unfolding nextAt
-  next-is x' p q = q ∙ ap (λ (e : ℕ). getD ids (e - x) 0) (w .end-is) ∙ sym (at-next x p)
-    where
-      at-next : (y : ℕ) → 0 < y → nextAt ids y ≡ getD ids (length ids - 1024 - y) 0
-      at-next zero l = absurd (omega arith)
-      at-next (suc k) l = refl
+  pub look-threes : 0 < x → x * 3 ≤ end
+  look-threes p = let e = w .end-is in let l = w .asked .link .low in let r = w .noted .index .room in omega arith
 
-  pub look-less : (x' : ℕ) → 0 < x → x' ≡ getD ids (end - x) 0 → x' < x
-  look-less x' p q =
-      let e = next-is x' p q in
-      let l = w .asked .link .low in
-      let m = w .noted .index .chained .links x p l .low in
-      omega (arith, e, m, p)
+  pub look-deep : depth ≤ 32768
+  look-deep = let d = w .asked .deep in let f = w .noted .index .few in omega arith
 
-  module _ (p : 0 < x) (here : Bool) (e : here ≡ same name (idAt text ids (x - 1))) where
-    pub look-more : here ≡ false → (x' : ℕ) → x' ≡ getD ids (end - x) 0 → Looking text ids name n end x'
-    look-more h x' q =
+  module _ (p : 0 < x) (side : ℕ) (k : (side ≡ sideOf name hash depth) × (side < 2)) where
+    pub look-link : end - x * 3 + side < length ids
+    look-link = let m = k .1 in let e = w .end-is in let l = w .asked .link .low in let r = w .noted .index .room in omega arith
+
+    next-is : (x' : ℕ) → x' ≡ getD ids (end - x * 3 + side) 0 → x' ≡ nextAt ids x (sideAt name depth)
+    unfolding nextAt sideAt
+    next-is x' q =
+        q ∙ ap (λ (e : ℕ). getD ids (e - x * 3 + side) 0) (w .end-is) ∙
+        ap (λ (s : ℕ). getD ids (length ids - 1024 - x * 3 + s) 0) (k .0 ∙ ap (λ (h : ℕ). sideOf name h depth) (w .hash-is)) ∙ sym (at-next x p)
+      where
+        at-next : (y : ℕ) → 0 < y → nextAt ids y (sideOf name (hashFrom 0 name) depth) ≡ getD ids (length ids - 1024 - y * 3 + sideOf name (hashFrom 0 name) depth) 0
+        at-next zero l = absurd (omega arith)
+        at-next (suc k) l = refl
+
+    pub look-more : (here : Bool) → here ≡ same name (idAt text ids (x - 1)) → here ≡ false → (x' : ℕ) → x' ≡ getD ids (end - x * 3 + side) 0 → Looking text ids name n end hash tag x' (depth + 1)
+    look-more here e h x' q =
         record {
           noted = w .noted;
           end-is = w .end-is;
-          steps = w .steps + 1;
-          asked = asked-turn (idAt text ids) (headAt ids) (nextAt ids) (w .noted .all) (w .noted .index .chained) name x (w .steps) (w .asked) x' p (sym e ∙ h) (next-is x' p q);
+          hash-is = w .hash-is;
+          tag-is = w .tag-is;
+          asked = asked-turn (idAt text ids) (headAt ids) (nextAt ids) (w .noted .all) (w .noted .index .grown) name x depth (w .asked) x' p (sym e ∙ h) (next-is x' q);
         }
 
+  module _ (p : 0 < x) (here : Bool) (e : here ≡ same name (idAt text ids (x - 1))) where
     pub look-found : here ≡ true → (r : ℕ) → r ≡ smallerOf (x - 1) n → r ≡ placeOf name (idsFrom text ids n 0)
     look-found h r q = q ∙ lt-case (x - 1) n (λ l. sym (smaller-first (x - 1) n l) ∙ sym (first l)) (λ l. sym (smaller-second (x - 1) n l) ∙ sym (none l))
       where
         earlier : (j : ℕ) → suc j < x → same name (idAt text ids j) ≡ false
-        earlier = asked-first (idAt text ids) (headAt ids) (nextAt ids) (w .noted .all) (w .noted .index .chained) name x (w .steps) (w .asked) (sym e ∙ h)
+        earlier = asked-first (idAt text ids) (headAt ids) (nextAt ids) (w .noted .all) (w .noted .index .grown) name x depth (w .asked) (sym e ∙ h)
 
         from-zero : (j : ℕ) (b : Bool) → same name (idAt text ids j) ≡ b → same name (idAt text ids (0 + j)) ≡ b
         from-zero j b h = let z : 0 + j ≡ j = omega arith in ap (λ (k : ℕ). same name (idAt text ids k)) z ∙ h
@@ -207,4 +240,4 @@ module _ (text ids name : List ℕ) (n end x : ℕ) (w : Looking text ids name n
       missing j l =
           let z : 0 + j ≡ j = omega arith in let b = w .noted .past in
           ap (λ (k : ℕ). same name (idAt text ids k)) z ∙
-          asked-none (idAt text ids) (headAt ids) (nextAt ids) (w .noted .all) (w .noted .index .chained) name x (w .steps) (w .asked) (omega arith) j (omega arith)
+          asked-none (idAt text ids) (headAt ids) (nextAt ids) (w .noted .all) (w .noted .index .grown) name x depth (w .asked) (omega arith) j (omega arith)

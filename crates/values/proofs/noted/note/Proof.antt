@@ -1,73 +1,38 @@
 use borrow.Author.Needs.{needs}
-use Rattle.values.specs.Notes.{note-known, note-new, note-head, note-link, note-link-there, note-keys, note-long}
+use native.Mathlib.Omega.{arith}
+use Rattle.values.specs.Notes.{note-known, note-new, note-planted, note-enter, spot-there, note-spot}
 use Rattle.values.proofs.noted.note.Statement.{statement}
 use Rattle.values.proofs.noted.note.Tie as tie
 
-sub-end : tie.Need-sub-end
-sub-end c = search (needs, note-keys)
+sub-hash-of : tie.Need-sub-hash-of
+sub-hash-of c = search needs
 
-sub-key-of : tie.Need-sub-key-of
-sub-key-of c = search needs
+part-hash-of-start : tie.Need-part-hash-of-start
+part-hash-of-start c = search needs
 
-part-key-of-start : tie.Need-part-key-of-start
-part-key-of-start c = search needs
+part-hash-of-end : tie.Need-part-hash-of-end
+part-hash-of-end c = search needs
 
-part-key-of-end : tie.Need-part-key-of-end
-part-key-of-end c = search needs
+hash-of-requires : tie.Need-hash-of-requires
+hash-of-requires c κs = search needs
 
-key-of-requires : tie.Need-key-of-requires
-key-of-requires c κs = search needs
+sub-spot-of : tie.Need-sub-spot-of
+sub-spot-of c = search needs
 
-add-last : tie.Need-add-last
-add-last c = search needs
+part-spot-of-start : tie.Need-part-spot-of-start
+part-spot-of-start c = search needs
 
-mul-last : tie.Need-mul-last
-mul-last c = search needs
+part-spot-of-end : tie.Need-part-spot-of-end
+part-spot-of-end c = search needs
 
-slice-read-last : tie.Need-slice-read-last
-slice-read-last c = search (needs, note-head)
+spot-of-requires : tie.Need-spot-of-requires
+spot-of-requires c κs = search (needs, note-planted)
 
-narrow-requires : tie.Need-narrow-requires
-narrow-requires c κs = search needs
+sub-enter : tie.Need-sub-enter
+sub-enter c = search needs
 
-mul-ids : tie.Need-mul-ids
-mul-ids c = search needs
-
-mul-ids-2 : tie.Need-mul-ids-2
-mul-ids-2 c = search needs
-
-slice-write-ids : tie.Need-slice-write-ids
-slice-write-ids c = search needs
-
-sub-narrow : tie.Need-sub-narrow
-sub-narrow c = search needs
-
-narrow-requires-2 : tie.Need-narrow-requires-2
-narrow-requires-2 c κs = search needs
-
-mul-ids-3 : tie.Need-mul-ids-3
-mul-ids-3 c = search needs
-
-add-ids : tie.Need-add-ids
-add-ids c = search needs
-
-mul-ids-4 : tie.Need-mul-ids-4
-mul-ids-4 c = search needs
-
-slice-write-ids-2 : tie.Need-slice-write-ids-2
-slice-write-ids-2 c = search (needs, note-long)
-
-add-ids-2 : tie.Need-add-ids-2
-add-ids-2 c = search needs
-
-sub-ids : tie.Need-sub-ids
-sub-ids c = search (needs, note-link)
-
-mul-ids-5 : tie.Need-mul-ids-5
-mul-ids-5 c = search needs
-
-slice-write-ids-3 : tie.Need-slice-write-ids-3
-slice-write-ids-3 c = search (needs, note-link-there)
+enter-requires : tie.Need-enter-requires
+enter-requires c κs = search (needs, note-enter)
 
 add-result : tie.Need-add-result
 add-result c = search needs
@@ -78,32 +43,19 @@ same-length c = search needs
 returns : tie.Need-returns
 returns c = search (needs, note-known)
 
-add-ids-3 : tie.Need-add-ids-3
-add-ids-3 c = search needs
-
-sub-ids-2 : tie.Need-sub-ids-2
-sub-ids-2 c = search (needs, note-link)
-
-mul-ids-6 : tie.Need-mul-ids-6
-mul-ids-6 c = search needs
-
-slice-write-ids-4 : tie.Need-slice-write-ids-4
-slice-write-ids-4 c = search (needs, note-link-there)
-
 add-narrow : tie.Need-add-narrow
 add-narrow c = search needs
 
-narrow-requires-3 : tie.Need-narrow-requires-3
-narrow-requires-3 c κs = search needs
+narrow-requires : tie.Need-narrow-requires
+narrow-requires c κs = search needs
 
-add-ids-4 : tie.Need-add-ids-4
-add-ids-4 c = search needs
+mul-ids : tie.Need-mul-ids
+mul-ids c =
+    let s = c .before .before .before .before .before .before .before .before .before .before .before .before .before in
+    omega (arith, spot-there (s .args .text .now) (s .args .ids .now) (s .args .n) (s .args .at) (s .args .to) (s .args .place) (s .pre) (c .before .before .before .before .before .before .spot-of .result) (c .before .before .before .before .before .before .spot-of .ensures))
 
-mul-ids-7 : tie.Need-mul-ids-7
-mul-ids-7 c = search needs
-
-slice-write-ids-5 : tie.Need-slice-write-ids-5
-slice-write-ids-5 c = search (needs, note-head)
+slice-write-ids : tie.Need-slice-write-ids
+slice-write-ids c = search (needs, note-spot)
 
 add-result-2 : tie.Need-add-result-2
 add-result-2 c = search needs
@@ -118,40 +70,23 @@ pub note-spec : {M : Type 1} → statement M
 note-spec =
     tie.close
     (tie.spec
-    sub-end
-    sub-key-of
-    part-key-of-start
-    part-key-of-end
-    key-of-requires
-    add-last
-    mul-last
-    slice-read-last
-    narrow-requires
-    mul-ids
-    mul-ids-2
-    slice-write-ids
-    sub-narrow
-    narrow-requires-2
-    mul-ids-3
-    add-ids
-    mul-ids-4
-    slice-write-ids-2
-    add-ids-2
-    sub-ids
-    mul-ids-5
-    slice-write-ids-3
+    sub-hash-of
+    part-hash-of-start
+    part-hash-of-end
+    hash-of-requires
+    sub-spot-of
+    part-spot-of-start
+    part-spot-of-end
+    spot-of-requires
+    sub-enter
+    enter-requires
     add-result
     same-length
     returns
-    add-ids-3
-    sub-ids-2
-    mul-ids-6
-    slice-write-ids-4
     add-narrow
-    narrow-requires-3
-    add-ids-4
-    mul-ids-7
-    slice-write-ids-5
+    narrow-requires
+    mul-ids
+    slice-write-ids
     add-result-2
     same-length-2
     returns-2)
