@@ -10,6 +10,7 @@ use grammar::Place;
 use grammar::Step;
 use scan::pick_word;
 
+mod comments;
 pub mod leaps;
 mod runs;
 mod tags;
@@ -33,9 +34,9 @@ pub fn advance(p: Place, t: u8, b: u8) -> Step
         Place::Less => tags::less_step(t, b),
         Place::Bang => tags::only_byte(45, Place::Dash, t, b),
         Place::Dash => tags::only_byte(45, Place::Comment, t, b),
-        Place::Comment => tags::comment_step(Place::CommentDash, t, b),
-        Place::CommentDash => tags::comment_step(Place::CommentEnd, t, b),
-        Place::CommentEnd => tags::only_byte(62, Place::Content, t, b),
+        Place::Comment => comments::inner_step(Place::CommentDash, t, b),
+        Place::CommentDash => comments::inner_step(Place::CommentEnd, t, b),
+        Place::CommentEnd => comments::dashes_step(t, b),
         Place::Name(w, k) => tags::name_step(w, k, t, b),
         Place::Tag(e, x) => tags::tag_step(e, x, t, b),
         Place::Space(e, x) => tags::space_step(e, x, t, b),

@@ -1,10 +1,6 @@
-// The steps of the grammar between tags, in comments and in tags up to a value: each equals the definition's.
+// The steps of the grammar between tags and in tags up to a value: each equals the definition's.
 ghost use mathlib.Core.Path.{_≡_};
-ghost use mathlib.Core.Bool.{cond};
 ghost use Prim.Native.Nat.{_<_};
-ghost use lib.Dec.{eqb};
-ghost use Rattle.grammar.specs.declared.Place.the-variants.{Comment};
-ghost use Rattle.grammar.specs.declared.Step.the-variants.{Go};
 ghost use Rattle.grammar.specs.Grammar.{contentStep, nameAt, lessStep, tagStep, nameStepAt, attributeAt, spaceStep, equalsStep, attributeStep, closeStep, endStep, only};
 use grammar::Place;
 use grammar::Step;
@@ -197,15 +193,4 @@ pub fn only_byte(a: u8, p: Place, t: u8, b: u8) -> Step
         return Step::Go(p, t);
     }
     Step::Fault
-}
-
-// In a comment: a dash leads on.
-pub fn comment_step(p: Place, t: u8, b: u8) -> Step
-    ensures { λ r. ⌜ r ≡ cond (eqb b 45) (Go p t) (Go Comment t) ⌝ }
-{
-    let dash = b == 45;
-    if dash {
-        return Step::Go(p, t);
-    }
-    Step::Go(Place::Comment, t)
 }

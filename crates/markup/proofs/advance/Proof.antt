@@ -30,20 +30,20 @@ only-byte-requires-2 c κs = search needs
 enum-told-5 : tie.Need-enum-told-5
 enum-told-5 c = search needs
 
-comment-step-requires : tie.Need-comment-step-requires
-comment-step-requires c κs = search needs
+inner-step-requires : tie.Need-inner-step-requires
+inner-step-requires c κs = search needs
 
 enum-told-6 : tie.Need-enum-told-6
 enum-told-6 c = search needs
 
-comment-step-requires-2 : tie.Need-comment-step-requires-2
-comment-step-requires-2 c κs = search needs
+inner-step-requires-2 : tie.Need-inner-step-requires-2
+inner-step-requires-2 c κs = search needs
 
 enum-told-7 : tie.Need-enum-told-7
 enum-told-7 c = search needs
 
-only-byte-requires-3 : tie.Need-only-byte-requires-3
-only-byte-requires-3 c κs = search needs
+dashes-step-requires : tie.Need-dashes-step-requires
+dashes-step-requires c κs = search needs
 
 enum-known-p : tie.Need-enum-known-p
 enum-known-p c = search needs
@@ -105,8 +105,8 @@ entity-step-requires c κs = search (needs, fits-entity)
 enum-told-8 : tie.Need-enum-told-8
 enum-told-8 c = search needs
 
-only-byte-requires-4 : tie.Need-only-byte-requires-4
-only-byte-requires-4 c κs = search needs
+only-byte-requires-3 : tie.Need-only-byte-requires-3
+only-byte-requires-3 c κs = search needs
 
 enum-known-p-10 : tie.Need-enum-known-p-10
 enum-known-p-10 c = search needs
@@ -190,11 +190,11 @@ advance-spec =
     enum-told-4
     only-byte-requires-2
     enum-told-5
-    comment-step-requires
+    inner-step-requires
     enum-told-6
-    comment-step-requires-2
+    inner-step-requires-2
     enum-told-7
-    only-byte-requires-3
+    dashes-step-requires
     enum-known-p
     name-step-requires
     enum-known-p-2
@@ -215,7 +215,7 @@ advance-spec =
     enum-known-p-9
     entity-step-requires
     enum-told-8
-    only-byte-requires-4
+    only-byte-requires-3
     enum-known-p-10
     end-step-requires
     enum-told-9
