@@ -578,7 +578,7 @@ static void words(void)
 {
     CHECK(strcmp(auttervil_strstatus(AUTTERVIL_BAD_TEXT), "the text is not of the grammar, lacks an id, or names what does not exist or is too long") == 0);
     CHECK(auttervil_strplace(AUTTERVIL_BAD_TEXT) == NULL && auttervil_strplace(AUTTERVIL_TABLES_OVERLAP) != NULL && auttervil_strplace(294) == NULL);
-    CHECK(AUTTERVIL_MOST_TEXT_CELLS == 27756 && sizeof(auttervil_scratch) == 345768);
+    CHECK(AUTTERVIL_MOST_TEXT_CELLS == 27756 && sizeof(auttervil_scratch) == 364496);
 }
 
 int main(int count, char **arguments)

@@ -23,13 +23,14 @@ const MOST_TIME: Duration = Duration::from_millis(5);
 const MOST_RATIO: f64 = 3.0;
 
 /// Kinds of texts, each with what makes one of at most so many bytes.
-const KINDS: [(&str, fn(usize) -> Vec<u8>); 8] = [
+const KINDS: [(&str, fn(usize) -> Vec<u8>); 9] = [
     ("random spelling", random_spelling),
     ("references to ids that begin alike", references),
     ("references to ids that differ in the middle", middles),
     ("names that begin alike", names),
     ("the last of many names again and again", last_name),
-    ("the first of many names of one key", one_key),
+    ("the last of many names of one key", one_key),
+    ("the lowest of names in one tree", one_way),
     ("actions", actions),
     ("a comment", comment),
 ];
@@ -110,19 +111,51 @@ fn last_name(size: usize) -> Vec<u8> {
     repeated(&begin, size, |_| name(most / 4 * 4 - 1) + " ", "'/></state></scxml>", size)
 }
 
-/// The library's key of a name (`values::noted`), by which it looks names up.
-fn key(name: &str) -> usize {
-    name.bytes().fold(0, |key, byte| (key * 31 + byte as usize) % 1024)
+/// The library's hash of a name (`values::noted`), by which it looks names up: ten bits are the key, the others lead through the key's tree.
+fn hash(name: &[u8]) -> u64 {
+    name.iter().fold(0, |hash, &byte| (hash * 40_503 + u64::from(byte)) % (1 << 48))
 }
 
-/// The same with events that all have one key, length and last byte, and with the first of them repeated: names of one key are followed one by one.
+/// The same with events that all have one key, length and last byte.
 fn one_key(size: usize) -> Vec<u8> {
     let most = (size / 43).min(760);
     let spelled = |k: usize| format!("n{:05x}e", k);
-    let all: Vec<String> = (0..1 << 20).map(spelled).filter(|name| key(name) == 7).take(most).collect();
-    let names: String = all.chunks_exact(4).map(|four| format!("<transition event='{}'/>", four.join(" "))).collect();
+    let all = (0..1 << 20).map(spelled).filter(|name| hash(name.as_bytes()) % 1_024 == 7).take(most).collect();
+    repeating(all, size)
+}
+
+/// The same with events of one key and length, each of which stands below the one before it: their hashes agree in one bit more.
+fn one_way(size: usize) -> Vec<u8> {
+    let half = |k: usize| [15, 10, 5, 0].map(|shift| b"abcdefghijklmnopqrstuvwxyz234567"[(k >> shift) % 32]);
+    let shift = (0..4).fold(1u64, |power, _| power.wrapping_mul(40_503));
+    let mut ends = vec![None; 1 << 20];
+    (0..1 << 20).for_each(|k| ends[hash(&half(k)) as usize % (1 << 20)] = Some(k));
+    let lowest = hash(b"thelast7");
+    // A beginning, and the end that makes the hash agree with the lowest one's in 20 bits or more.
+    let agreeing = |k: usize| {
+        let begin = half(k);
+        let left = lowest.wrapping_sub(hash(&begin).wrapping_mul(shift));
+        let name = [begin, half(ends[left as usize % (1 << 20)]?)].concat();
+        Some(((hash(&name) ^ lowest).trailing_zeros(), name))
+    };
+    let mut all: Vec<_> = (0..1 << 20).filter_map(agreeing).filter(|(_, name)| name != b"thelast7").collect();
+    all.sort();
+    let mut way: Vec<String> = Vec::new();
+    for (bits, name) in all {
+        if bits as usize >= 10 + way.len() {
+            way.push(String::from_utf8(name).unwrap());
+        }
+    }
+    way.push("thelast7".to_string());
+    repeating(way, size)
+}
+
+/// The names, four a transition, and then the last of them again and again in one list.
+fn repeating(mut all: Vec<String>, size: usize) -> Vec<u8> {
+    all.truncate((size / 43).max(4));
+    let names: String = all.chunks(4).map(|four| format!("<transition event='{}'/>", four.join(" "))).collect();
     let begin = format!("<scxml><state id='s'>{names}<transition event='");
-    repeated(&begin, size, |_| all[0].clone() + " ", "'/></state></scxml>", size)
+    repeated(&begin, size, |_| all[all.len() - 1].clone() + " ", "'/></state></scxml>", size)
 }
 
 /// States with full blocks.
