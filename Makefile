@@ -45,6 +45,10 @@ build/libauttervil.a: crates.txt $(shell find crates -name '*.rt' -o -name '*.an
 build/lifecycle: $(LIFECYCLE)/lifecycle.c $(LIFECYCLE)/text.h $(LIFECYCLE)/chart.h include/auttervil.h $(LIB)
 	@$(CC) -std=c99 -O2 -Wall -Wextra -Iinclude $(LIFECYCLE)/lifecycle.c -o build/lifecycle $(LIB)
 
+# A small init on signals and a timer.
+build/init: examples/init/init.c include/auttervil.h $(LIB)
+	@$(CC) -std=c99 -O2 -Wall -Wextra -Iinclude examples/init/init.c -o build/init $(LIB)
+
 lifecycle: build/lifecycle
 	@build/lifecycle $(LIFECYCLE)/lifecycle.scxml < $(LIFECYCLE)/day.txt
 

@@ -121,7 +121,7 @@ class Source:
             self.lines += file.read_text().splitlines()
         text = "\n".join(self.lines)
         self.paths, self.aliases = imports(text, "ghost use")
-        self.paths.update({name: (f"Rattle.{path}.specs.declared.{name}", name) for path, name in re.findall(r"^use (\w+)::(\w+);", text, re.M)})
+        self.paths.update({name: (f"Rattle.{path}.specs.declared.{name}", name) for path, name in re.findall(r"^use (?!crate\b)(\w+)::(\w+);", text, re.M)})
         for at, line in enumerate(self.lines):
             found = self.BEGINS.match(line)
             if found:

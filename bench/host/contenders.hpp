@@ -7,10 +7,10 @@
 // The engine has the header's layouts (engine/src/lib.rs).
 extern "C" {
 uint32_t engine_is_compiled(const auttervil_chart *chart);
-auttervil_started engine_start(auttervil_session *session, const auttervil_chart *chart, uint32_t *trace, size_t room);
+auttervil_started engine_start(auttervil_session *session, auttervil_clock *clock, const auttervil_chart *chart, uint32_t *trace, size_t room);
 uint32_t engine_post(auttervil_session *session, const auttervil_chart *chart, const char *name, size_t length);
-auttervil_ran engine_run(auttervil_session *session, const auttervil_chart *chart, uint32_t rounds, uint32_t *trace, size_t room);
-auttervil_stepped engine_step(auttervil_session *session, const auttervil_chart *chart, const char *name, size_t length, uint32_t rounds, uint32_t *trace,
+auttervil_ran engine_run(auttervil_session *session, auttervil_clock *clock, const auttervil_chart *chart, uint32_t rounds, uint32_t *trace, size_t room);
+auttervil_stepped engine_step(auttervil_session *session, auttervil_clock *clock, const auttervil_chart *chart, const char *name, size_t length, uint32_t rounds, uint32_t *trace,
                               size_t room);
 }
 
@@ -108,14 +108,14 @@ public:
 class Engine : public OnSession
 {
 public:
-    explicit Engine(const Compiled &compiled) : OnSession(compiled) { must(engine_start(&own, chart, trace.data(), trace.size()).answer == AUTTERVIL_DONE); }
+    explicit Engine(const Compiled &compiled) : OnSession(compiled) { must(engine_start(&own, &own.clock, chart, trace.data(), trace.size()).answer == AUTTERVIL_DONE); }
     std::string name() const override { return "engine: post, run"; }
 
     void play(const Events &events, size_t count) override
     {
         each(events, count, [this](const std::string &event) {
             must(engine_post(&own, chart, event.data(), event.size()) == AUTTERVIL_DONE);
-            must(engine_run(&own, chart, MOST_ROUNDS, trace.data(), trace.size()).status == AUTTERVIL_IDLE);
+            must(engine_run(&own, &own.clock, chart, MOST_ROUNDS, trace.data(), trace.size()).status == AUTTERVIL_IDLE);
         });
     }
 };
@@ -129,7 +129,7 @@ public:
     void play(const Events &events, size_t count) override
     {
         each(events, count, [this](const std::string &event) {
-            const auttervil_stepped stepped = engine_step(&own, chart, event.data(), event.size(), MOST_ROUNDS, trace.data(), trace.size());
+            const auttervil_stepped stepped = engine_step(&own, &own.clock, chart, event.data(), event.size(), MOST_ROUNDS, trace.data(), trace.size());
             must(stepped.answer == AUTTERVIL_DONE && stepped.status == AUTTERVIL_IDLE);
         });
     }

@@ -194,7 +194,7 @@ static void print_checks(size_t rows, const Words &words, size_t turns)
     all[1].work = [&](size_t count) { for (; count > 0; count--) sink = auttervil_check(chart); };
     all[2].work = [&](size_t count) { for (; count > 0; count--) sink = engine_is_compiled(chart); };
     all[3].work = [&](size_t count) { for (; count > 0; count--) sink = auttervil_run(&session, chart, 0, trace, AUTTERVIL_MOST_ROOM).status; };
-    all[4].work = [&](size_t count) { for (; count > 0; count--) sink = engine_run(&session, chart, 0, trace, AUTTERVIL_MOST_ROOM).status; };
+    all[4].work = [&](size_t count) { for (; count > 0; count--) sink = engine_run(&session, &session.clock, chart, 0, trace, AUTTERVIL_MOST_ROOM).status; };
     take_turns(all, 1, turns);
     std::printf("| %zu | %zu |", rows, cells + bytes);
     for (const Timed &timed : all)

@@ -2,14 +2,15 @@
 //! the second program: the same answers, sessions and traces on generated charts and call lists,
 //! with every refusal among them.
 
-use crate::bridge::{followed, plain};
-use crate::contenders::Lent;
+use crate::bridge::{held, recorded, timed};
+use crate::contenders::{Held, Lent};
 use crate::engine::answers::*;
 use crate::engine::limits::{BITS, MOST_ROWS, QUEUE_BYTES, WORDS};
 use crate::engine::{verdict, Session};
 use crate::given::{agreed, given, step_given, Step};
 use second::agreement::Trial;
 use second::calls::Call;
+use second::clock_damage;
 use second::compiled::{compile, needed_place, CompiledChart, Places};
 use second::coverage::Coverage;
 use second::encode::{encode, Layout, Spelt};
@@ -26,7 +27,7 @@ const LARGE_CHARTS: &str = "charts of more rows than a word has bits";
 const GREATEST_CHARTS: &str = "charts of as many rows as there may be";
 const REFUSED_LISTS: &str = "call lists with a refusal";
 /// Every call with every answer that it can have.
-const ANSWERS: [&str; 17] = [
+const ANSWERS: [&str; 22] = [
     "start: 0",
     "start: 7",
     "start: 8",
@@ -44,6 +45,11 @@ const ANSWERS: [&str; 17] = [
     "run: 8",
     "run: 9",
     "run: 10",
+    "clock: 0",
+    "clock: 8",
+    "clock: 9",
+    "clock: 11",
+    "clock: 14",
 ];
 
 /// Whether a great run has met enough: every answer of every call, and a refusal in one list of four.
@@ -106,21 +112,21 @@ impl Comparison<'_> {
         self.near_misses(trial)
     }
 
-    /// One call of everyone; the session that it leaves. A post is tried with a run behind it too,
-    /// in one call.
-    fn call(&mut self, call: &Call, session: Session, lent: Lent) -> Result<Session, String> {
+    /// One call of everyone; the session and the record that it leaves. A post is tried with a run behind it
+    /// too, in one call.
+    fn call(&mut self, call: &Call, held: Held, lent: Lent) -> Result<Held, String> {
         if let Call::Post { name } = call {
-            self.step(name, session, lent)?;
+            self.step(name, held, lent)?;
         }
-        let (answer, status, _, _, left, _) = agreed(call, |calls| given(calls, call, session, lent))?;
+        let (answer, status, _, _, left, _) = agreed(call, |calls| given(calls, call, held, lent))?;
         self.count(call, answer.max(status));
         Ok(left)
     }
 
-    fn step(&mut self, name: &[u8], session: Session, lent: Lent) -> Found {
+    fn step(&mut self, name: &[u8], held: Held, lent: Lent) -> Found {
         let room = if self.random.below(4) == 0 { self.random.below(8) } else { 300 };
         let step = Step { name, rounds: self.random.below(12) as u32, room };
-        let (answer, status, ..) = agreed(&step, |calls| step_given(calls, &step, session, lent))?;
+        let (answer, status, ..) = agreed(&step, |calls| step_given(calls, &step, held, lent))?;
         self.coverage.note("steps");
         self.coverage.note_if("steps: refused, but run", answer != DONE && status >= MORE);
         self.coverage.note_if("steps: posted, run refused", answer == DONE && status < MORE);
@@ -128,7 +134,7 @@ impl Comparison<'_> {
     }
 
     fn count(&mut self, call: &Call, answer: u32) {
-        self.refused |= (BAD_NAME..=SESSION_ENDED).contains(&answer);
+        self.refused |= (BAD_NAME..=BAD_TICKS).contains(&answer);
         self.coverage.note("calls");
         self.coverage.note(match (call, answer) {
             (Call::Start { .. }, DONE) => "start: 0",
@@ -141,6 +147,11 @@ impl Comparison<'_> {
             (Call::Post { .. }, BAD_CHART) => "post: 8",
             (Call::Post { .. }, BAD_SESSION) => "post: 9",
             (Call::Post { .. }, _) => "post: 11",
+            (Call::Clock { .. }, DONE) => "clock: 0",
+            (Call::Clock { .. }, BAD_CHART) => "clock: 8",
+            (Call::Clock { .. }, BAD_SESSION) => "clock: 9",
+            (Call::Clock { .. }, SESSION_ENDED) => "clock: 11",
+            (Call::Clock { .. }, _) => "clock: 14",
             (Call::Run { .. }, MORE) => "run: more",
             (Call::Run { .. }, IDLE) => "run: idle",
             (Call::Run { .. }, ENDED) => "run: ended",
@@ -153,9 +164,9 @@ impl Comparison<'_> {
 
     fn call_list(&mut self, places: &Places, calls: &[Call]) -> Found {
         self.refused = false;
-        let mut session = Session::ENDED;
+        let mut held = Held::ENDED;
         for call in calls {
-            session = self.call(call, session, lent(places))?;
+            held = self.call(call, held, lent(places))?;
         }
         self.count_list();
         Ok(())
@@ -166,49 +177,55 @@ impl Comparison<'_> {
         self.coverage.note_if(REFUSED_LISTS, self.refused);
     }
 
-    /// A list in which some calls get a changed chart or a changed session. After a refusal for
-    /// it the list goes on with the session from before.
+    /// A list in which some calls get a changed chart, a changed session or a changed record. After a
+    /// refusal for it the list goes on with what was there before.
     fn disturbed_list(&mut self, places: &Places, compiled: &CompiledChart, calls: &[Call]) -> Found {
         self.refused = false;
         let rows = compiled.chart.rows.len();
-        let mut session = Session::ENDED;
+        let mut held = Held::ENDED;
         for call in calls {
             let mut used = places.clone();
-            let mut handed = session;
-            match self.random.below(8) {
+            let mut handed = held;
+            match self.random.below(10) {
                 0 => self.change_set(&mut used, rows),
-                1 => self.damage(&mut handed, rows),
+                1 => self.damage(&mut handed.session, rows),
+                2 => self.damage_record(&mut handed),
                 _ => {}
             }
             let left = self.call(call, handed, lent(&used))?;
-            let undisturbed = handed == session && used == *places;
-            let goes_on = undisturbed || followed(&left).is_well_formed(compiled);
-            session = if goes_on { left } else { session };
+            let undisturbed = handed == held && used == *places;
+            let goes_on = undisturbed || timed(&left).is_well_formed(compiled);
+            held = if goes_on { left } else { held };
         }
         self.count_list();
         Ok(())
     }
 
-    /// Sessions that no start needs to reach, as they are and damaged.
+    /// Sessions and records that no start needs to reach, as they are and damaged.
     fn made_sessions(&mut self, places: &Places, compiled: &CompiledChart) -> Found {
         for _ in 0..3 {
-            let made = plain(&generate::session(&mut self.random, compiled));
+            let made = held(&generate::timed(&mut self.random, compiled));
             self.short_calls(made, lent(places))?;
             for _ in 0..3 {
                 let mut damaged = made;
-                self.damage(&mut damaged, compiled.chart.rows.len());
+                match self.random.below(3) {
+                    0 => self.damage_record(&mut damaged),
+                    _ => self.damage(&mut damaged.session, compiled.chart.rows.len()),
+                }
                 self.short_calls(damaged, lent(places))?;
             }
         }
         Ok(())
     }
 
-    /// A run, a post and a run behind it.
-    fn short_calls(&mut self, session: Session, lent: Lent) -> Found {
+    /// A run, a post, a clock call and a run behind them.
+    fn short_calls(&mut self, held: Held, lent: Lent) -> Found {
         let room = self.random.between(0, 300);
-        let session = self.call(&Call::Run { rounds: 5, room }, session, lent)?;
-        let session = self.call(&Call::Post { name: b"e".to_vec() }, session, lent)?;
-        self.call(&Call::Run { rounds: 20, room: 300 }, session, lent).map(|_| ())
+        let ticks = generate::later(&mut self.random, held.clock.ticks);
+        let held = self.call(&Call::Run { rounds: 5, room }, held, lent)?;
+        let held = self.call(&Call::Post { name: b"e".to_vec() }, held, lent)?;
+        let held = self.call(&Call::Clock { ticks }, held, lent)?;
+        self.call(&Call::Run { rounds: 20, room: 300 }, held, lent).map(|_| ())
     }
 
     /// Compiled charts with something changed: in the sets, in the tables, or in the names. A
@@ -238,11 +255,12 @@ impl Comparison<'_> {
             let calls = [
                 Call::Start { room: 300 },
                 Call::Post { name: b"e".to_vec() },
+                Call::Clock { ticks: 5 },
                 Call::Run { rounds: 10, room: 300 },
             ];
-            let mut session = Session::ENDED;
+            let mut held = Held::ENDED;
             for call in calls {
-                session = self.call(&call, session, lent(&changed))?;
+                held = self.call(&call, held, lent(&changed))?;
             }
         }
         Ok(())
@@ -271,7 +289,7 @@ impl Comparison<'_> {
             self.same_verdict(&numbers, &names, lent_wrong.place)?;
             numbers.resize(lent_wrong.place.numbers.max(HEADER_CELLS), 0);
             let call = Call::Run { rounds: 1, room: 10 };
-            self.call(&call, Session::ENDED, Lent { numbers: &numbers, names: &names })?;
+            self.call(&call, Held::ENDED, Lent { numbers: &numbers, names: &names })?;
         }
         Ok(())
     }
@@ -308,6 +326,15 @@ impl Comparison<'_> {
         let transitions = ROW_SET_WORDS * places.numbers[1] as usize;
         let cell = end - transitions - sets + self.random.below(sets + transitions);
         places.numbers[cell] ^= 1 << self.random.below(64);
+    }
+
+    /// One number or byte of the record, or a record with sends for an ended session.
+    fn damage_record(&mut self, held: &mut Held) {
+        let part = clock_damage::any(&mut self.random);
+        match clock_damage::damaged(&timed(held).clock, part, &mut self.random) {
+            Some(clock) => held.clock = recorded(&clock),
+            None => held.clock.due[self.random.below(32)] ^= 1,
+        }
     }
 
     fn damage(&mut self, session: &mut Session, rows: usize) {

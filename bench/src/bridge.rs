@@ -1,11 +1,14 @@
-//! Sessions of the engine as sessions of the second program, and back. Nothing is lost on the way,
-//! whether a session is well formed or not.
+//! Sessions and clock records of the engine as those of the second program, and back. Nothing is lost on the
+//! way, whether they are well formed or not.
 
-use crate::engine::Session;
+use crate::contenders::Held;
+use crate::engine::{Clock, Session};
+use second::clock::Clock as Record;
 use second::limits::{HISTORY_PLACES, QUEUE_NAMES, ROW_SET_WORDS, SLOT_BYTES};
 use second::names::EMPTY_SLOT;
 use second::row_set::RowSet;
 use second::session::{Queue, Session as Followed};
+use second::timed::Timed;
 
 fn queue_from(bytes: &[u8], count: u64) -> Queue {
     let mut slots = [EMPTY_SLOT; QUEUE_NAMES];
@@ -43,4 +46,18 @@ pub fn plain(followed: &Followed) -> Session {
         place.copy_from_slice(slot);
     }
     session
+}
+
+pub fn timed(held: &Held) -> Timed {
+    let Clock { ticks, count, due, events, ids } = held.clock;
+    Timed { session: followed(&held.session), clock: Record { ticks, count, due, events, ids } }
+}
+
+pub fn recorded(record: &Record) -> Clock {
+    let &Record { ticks, count, due, events, ids } = record;
+    Clock { ticks, count, due, events, ids }
+}
+
+pub fn held(timed: &Timed) -> Held {
+    Held { session: plain(&timed.session), clock: recorded(&timed.clock) }
 }

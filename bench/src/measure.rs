@@ -2,9 +2,9 @@
 
 use crate::charts::Case;
 use crate::clock;
-use crate::contenders::Calls;
+use crate::contenders::{Calls, Held};
 use crate::engine::answers::{DONE, MORE};
-use crate::engine::{Ran, Session};
+use crate::engine::Ran;
 use std::hint::black_box;
 
 /// No round of the charts measured here writes more.
@@ -72,48 +72,48 @@ impl<'a> Bench<'a> {
     }
 
     fn time_run(&mut self, case: &Case, calls: &dyn Calls) -> f64 {
-        let mut session = ready(case, calls, &mut self.trace);
+        let mut held = ready(case, calls, &mut self.trace);
         let begun = clock::now();
-        let ran = calls.run(black_box(&mut session), case.lent(), self.rounds, black_box(&mut self.trace));
+        let ran = calls.run(black_box(&mut held), case.lent(), self.rounds, black_box(&mut self.trace));
         let time = clock::now() - begun;
         assert_eq!((ran.status, ran.rounds), (MORE, self.rounds), "{} stops early", calls.name());
         time
     }
 
     fn time_calls(&mut self, case: &Case, calls: &dyn Calls, count: u32) -> f64 {
-        let mut session = ready(case, calls, &mut self.trace);
+        let mut held = ready(case, calls, &mut self.trace);
         let begun = clock::now();
         for _ in 0..count {
-            black_box(calls.run(black_box(&mut session), case.lent(), 0, black_box(&mut self.trace)));
+            black_box(calls.run(black_box(&mut held), case.lent(), 0, black_box(&mut self.trace)));
         }
         clock::now() - begun
     }
 
     /// Both contenders do the same on this chart; the count of entries.
     fn agreed(&mut self, case: &Case) -> usize {
-        let (session, ran) = self.run_by(case, self.first);
+        let (held, ran) = self.run_by(case, self.first);
         let Ran { status, rounds, count } = ran;
         assert_eq!((status, rounds), (MORE, self.rounds), "{} rests on {}", self.first.name(), case.about);
         let trace = self.trace[..count].to_vec();
-        let same = (session, ran) == self.run_by(case, self.engine) && trace == self.trace[..count];
+        let same = (held, ran) == self.run_by(case, self.engine) && trace == self.trace[..count];
         assert!(same, "{} and {} differ on {}", self.first.name(), self.engine.name(), case.about);
         count
     }
 
-    fn run_by(&mut self, case: &Case, calls: &dyn Calls) -> (Session, Ran) {
-        let mut session = ready(case, calls, &mut self.trace);
-        let ran = calls.run(&mut session, case.lent(), self.rounds, &mut self.trace);
-        (session, ran)
+    fn run_by(&mut self, case: &Case, calls: &dyn Calls) -> (Held, Ran) {
+        let mut held = ready(case, calls, &mut self.trace);
+        let ran = calls.run(&mut held, case.lent(), self.rounds, &mut self.trace);
+        (held, ran)
     }
 }
 
 /// A started session with the event that sets it going.
-fn ready(case: &Case, calls: &dyn Calls, trace: &mut [u32]) -> Session {
-    let mut session = Session::ENDED;
-    let started = calls.start(&mut session, case.lent(), trace).answer;
-    let posted = calls.post(&mut session, case.lent(), case.event.as_bytes());
+fn ready(case: &Case, calls: &dyn Calls, trace: &mut [u32]) -> Held {
+    let mut held = Held::ENDED;
+    let started = calls.start(&mut held, case.lent(), trace).answer;
+    let posted = calls.post(&mut held.session, case.lent(), case.event.as_bytes());
     assert_eq!((started, posted), (DONE, DONE), "{} begins {}", calls.name(), case.about);
-    session
+    held
 }
 
 fn point(pairs: &[(f64, f64)], each: f64, entries: f64) -> Point {

@@ -2,8 +2,8 @@
 
 #![allow(unsafe_code)]
 
-use crate::contenders::{Calls, Lent};
-use crate::engine::{Ran, Session, Started, Stepped};
+use crate::contenders::{Calls, Held, Lent};
+use crate::engine::{Clock, Ran, Session, Started, Stepped};
 
 /// auttervil_chart.
 #[repr(C)]
@@ -14,12 +14,20 @@ struct Chart {
     bytes: usize,
 }
 
-// src/wrappers.c; a session is changed in place, and the results have the layouts of the engine's.
+// src/wrappers.c; session and clock record are changed in place, and the results have the layouts of the engine's.
 unsafe extern "C" {
-    fn wrapped_start(session: *mut Session, chart: *const Chart, trace: *mut u32, room: usize) -> Started;
+    fn wrapped_start(
+        session: *mut Session,
+        clock: *mut Clock,
+        chart: *const Chart,
+        trace: *mut u32,
+        room: usize,
+    ) -> Started;
     fn wrapped_post(session: *mut Session, chart: *const Chart, name: *const u8, length: usize) -> u32;
+    fn wrapped_clock(session: *mut Session, clock: *mut Clock, chart: *const Chart, ticks: u64) -> u32;
     fn wrapped_run(
         session: *mut Session,
+        clock: *mut Clock,
         chart: *const Chart,
         rounds: u32,
         trace: *mut u32,
@@ -27,6 +35,7 @@ unsafe extern "C" {
     ) -> Ran;
     fn wrapped_step(
         session: *mut Session,
+        clock: *mut Clock,
         chart: *const Chart,
         name: *const u8,
         length: usize,
@@ -43,33 +52,34 @@ fn chart(lent: Lent) -> Chart {
 
 pub struct Wrappers;
 
-// Safety, of all four: places are there and as long as is said; the wrappers test the rest.
+// Safety, of all five: places are there and as long as is said; the wrappers test the rest.
 impl Calls for Wrappers {
     fn name(&self) -> &'static str {
         "wrappers"
     }
 
-    fn start(&self, session: &mut Session, lent: Lent, trace: &mut [u32]) -> Started {
-        unsafe { wrapped_start(session, &chart(lent), trace.as_mut_ptr(), trace.len()) }
+    fn start(&self, held: &mut Held, lent: Lent, trace: &mut [u32]) -> Started {
+        let Held { session, clock } = held;
+        unsafe { wrapped_start(session, clock, &chart(lent), trace.as_mut_ptr(), trace.len()) }
     }
 
     fn post(&self, session: &mut Session, lent: Lent, name: &[u8]) -> u32 {
         unsafe { wrapped_post(session, &chart(lent), name.as_ptr(), name.len()) }
     }
 
-    fn run(&self, session: &mut Session, lent: Lent, rounds: u32, trace: &mut [u32]) -> Ran {
-        unsafe { wrapped_run(session, &chart(lent), rounds, trace.as_mut_ptr(), trace.len()) }
+    fn run(&self, held: &mut Held, lent: Lent, rounds: u32, trace: &mut [u32]) -> Ran {
+        let Held { session, clock } = held;
+        unsafe { wrapped_run(session, clock, &chart(lent), rounds, trace.as_mut_ptr(), trace.len()) }
     }
 
-    fn step(
-        &self,
-        session: &mut Session,
-        lent: Lent,
-        name: &[u8],
-        rounds: u32,
-        trace: &mut [u32],
-    ) -> Stepped {
+    fn clock(&self, held: &mut Held, lent: Lent, ticks: u64) -> u32 {
+        unsafe { wrapped_clock(&mut held.session, &mut held.clock, &chart(lent), ticks) }
+    }
+
+    fn step(&self, held: &mut Held, lent: Lent, name: &[u8], rounds: u32, trace: &mut [u32]) -> Stepped {
+        let Held { session, clock } = held;
         let (text, length) = (name.as_ptr(), name.len());
-        unsafe { wrapped_step(session, &chart(lent), text, length, rounds, trace.as_mut_ptr(), trace.len()) }
+        let (entries, room) = (trace.as_mut_ptr(), trace.len());
+        unsafe { wrapped_step(session, clock, &chart(lent), text, length, rounds, entries, room) }
     }
 }

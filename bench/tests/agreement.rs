@@ -12,7 +12,9 @@ fn generated_charts_agree() {
     for seed in 50_000..50_400 {
         try_seed(seed, &mut coverage).unwrap_or_else(|what| panic!("{what}"));
     }
-    for refusal in ["run: 7", "run: 8", "run: 9", "run: 10", "start: 8", "start: 10", "post: 6", "post: 7"] {
+    let runs_and_starts = ["run: 7", "run: 8", "run: 9", "run: 10", "start: 8", "start: 10"];
+    let others = ["post: 6", "post: 7", "clock: 8", "clock: 9", "clock: 11", "clock: 14"];
+    for refusal in runs_and_starts.into_iter().chain(others) {
         assert!(coverage.get(refusal) > 0, "no {refusal} among the calls");
     }
 }

@@ -40,9 +40,8 @@ elements = {
 }
 attributes = "xmlns version id initial type event cond target label delay sendid".split()
 entities = "amp lt gt quot apos".split()
-SENDING = False  # are send and cancel read: R-9 makes it True
 row = [1, 2, 3, 4, 6, 7, 8]
-block = [9, 10, 12] + [15, 16] * SENDING + [13, 14]
+block = [9, 10, 12, 15, 16, 13, 14]
 # number: the element that the level is in, its children, may it end. Level 0 is before the root, 1 behind it, 4 a state that may still have an
 # initial element, 3 one that may not; 8 an initial element before its transition, 9 behind it.
 levels = {

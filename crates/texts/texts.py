@@ -28,10 +28,12 @@ FAULTS = {
     "text-between-tags": ("<scxml>x</scxml>", 7),
     "entity-in-name": ("<scxml><state id='&apos;'/></scxml>", 18),
     "other-entity": ("<scxml version='&lx;'/>", 18),
-    "send-in-block": ("<scxml><state id='s'><onentry><send id='k' event='x' delay='5'/></onentry></state></scxml>", 31),
-    "cancel-in-block": ("<scxml><state id='s'><onentry><cancel sendid='k'/></onentry></state></scxml>", 31),
     "send-in-row": ("<scxml><send event='x'/></scxml>", 9),
     "raise-in-row": ("<scxml><raise event='a'/></scxml>", 8),
+    "send-without-event": ("<scxml><state id='a'><onentry><send id='k'/>", 42),
+    "cancel-without-sendid": ("<scxml><state id='a'><onentry><cancel/>", 37),
+    "sendid-of-a-send": ("<scxml><state id='a'><onentry><send sendid='k'", 36),
+    "descriptor-sent": ("<scxml><state id='a'><onentry><send event='a.*'", 45),
     "initial-twice": ("<scxml><state id='a' initial='b'><initial>", 34),
     "initial-without-transition": ("<scxml><state id='a'><initial></", 31),
     "initial-empty-tag": ("<scxml><state id='a'><initial/>", 29),
@@ -48,6 +50,18 @@ FAULTS = {
     "other-version": ("<scxml version='1.1'><state id='a'/></scxml>", 16),
     "label-too-large": ("<scxml><state id='a'><onentry><log label='70000'/></onentry></state></scxml>", 42),
     "empty-label": ("<scxml><state id='a'><onentry><log label=''/></onentry></state></scxml>", 42),
+    "delay-too-large": ("<scxml><state id='a'><onentry><send event='x' delay='4294967296'/></onentry></state></scxml>", 53),
+    "empty-delay": ("<scxml><state id='a'><onentry><send event='x' delay=''/></onentry></state></scxml>", 53),
+    "delay-in-seconds": ("<scxml><state id='a'><onentry><send event='x' delay='5s'/></onentry></state></scxml>", 53),
+    "send-id-is-no-row": (
+        "<scxml><state id='a'><onentry><send id='k' event='x'/></onentry><transition event='x' target='k'/></state></scxml>",
+        94,
+    ),
+    "sendid-of-64": (
+        "<scxml><state id='a'><onentry><cancel sendid='aaaaaaaaaaaaaaaaaaaaaaaaaaaaaaaaaaaaaaaaaaaaaaaaaaaaaaaaaaaaaaaa'/></onentry>"
+        "</state></scxml>",
+        46,
+    ),
     "cond-without-quotes": ("<scxml><state id='s'/><state id='t'><transition cond='In(s)'/></state></scxml>", 54),
     "cond-with-blanks": ('<scxml><state id=\'s\'/><state id=\'t\'><transition cond="In( \'s\' )"/></state></scxml>', 54),
     "cond-unknown": ('<scxml><state id=\'s\'/><state id=\'t\'><transition cond="In(\'nix\')"/></state></scxml>', 58),
@@ -153,6 +167,25 @@ CHARTS = {
         ["s", "t", "x"],
         '><state id="s"/><state id="t"><onentry><if cond="In(\'s\')"><raise event="x"/><elseif cond="In(\'t\')"/>'
         '<log label="2"/><else/><if cond="In(\'s\')"/></if></onentry></state></scxml>',
+    ),
+    "send-and-cancel": (
+        "<scxml><state id='s'/><state id='t'><onentry><send id='k' event='x' delay='5'/><cancel sendid='k'/></onentry>"
+        "</state></scxml>",
+        [3, 0, 0, 0, 2, 4, 0, 65535, 65535, 0, 0, 0, 0, 0, 0, 0, 0, 1, 0, 0, 0, 0, 0, 0, 0, 0, 0, 0, 1, 0, 1, 0, 2, 2, 0, 0, 0, 2, 0, 6, 3,
+         5, 2, 7, 2, 0, 0],
+        ["s", "t", "k", "x"],
+        '><state id="s"/><state id="t"><onentry><send id="k" event="x" delay="5"/><cancel sendid="k"/></onentry>'
+        "</state></scxml>",
+    ),
+    # ids of sends are no row's: one begins with a digit, and t is cancelled, which no send has; no delay and a delay of 0 are the same
+    "sends": (
+        "<scxml><state id='t'><onexit><send event='x'/><send delay='004294967295' event='t'/>"
+        "<send event='x' delay='0' id='9'/><send id='9' event='9'></send><cancel sendid='t'></cancel></onexit></state></scxml>",
+        [2, 0, 0, 0, 5, 3, 0, 65535, 65535, 0, 0, 0, 0, 0, 0, 0, 0, 1, 0, 0, 0, 0, 0, 5, 0, 0, 5, 0, 6, 1, 0, 65535, 6, 0, 4294967295, 65535,
+         6, 1, 0, 2, 6, 2, 0, 2, 7, 0, 0, 0],
+        ["t", "x", "9"],
+        '><state id="t"><onexit><send event="x"/><send event="t" delay="4294967295"/><send id="9" event="x"/>'
+        '<send id="9" event="9"/><cancel sendid="t"/></onexit></state></scxml>',
     ),
     "delete-byte": (
         "<scxml><!--\x7f--><state id='a'/></scxml>",

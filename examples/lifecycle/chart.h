@@ -25,11 +25,12 @@ enum host_action {
     SEND_TERM,
     SEND_KILL,
     SEND_HUP,
-    START_TIMER,
-    STOP_TIMER,
     LOG_CRASH,
     REMOVE_CONTAINER
 };
+
+/* How many ticks, which are milliseconds, a process has from SIGTERM to SIGKILL. */
+#define PATIENCE 10000
 
 /* Rows, transitions, references, descriptors, actions, names. */
 AUTTERVIL_PLACES(lifecycle, 24, 28, 40, 40, 24, 64);
@@ -109,9 +110,9 @@ static void add_stop(auttervil_builder *b)
 {
     auttervil_add_entry(b, "terminating");
     auttervil_add_host(b, SEND_TERM);
-    auttervil_add_host(b, START_TIMER);
+    auttervil_add_send(b, "timeout", PATIENCE, "patience");
     auttervil_add_exit(b, "terminating");
-    auttervil_add_host(b, STOP_TIMER);
+    auttervil_add_cancel(b, "patience");
     auttervil_add_entry(b, "killing");
     auttervil_add_host(b, SEND_KILL);
     auttervil_add_transition(b, "active", "stop", "stopping");

@@ -1,7 +1,7 @@
 /* Plays an init that drives a container's life cycle: reads event names from standard input, one to a line, hands each to the session by one call, and prints
  * the trace in words. A real one would perform each host action where this one prints it.
  *
- * The line 'new' starts another container, an empty one or one that begins with # does nothing.
+ * The line 'new' starts another container, '+' and a number lets so many milliseconds pass, an empty one or one that begins with # does nothing.
  *
  *     lifecycle lifecycle.scxml < day.txt              the chart from its text; the trace in words
  *     lifecycle < day.txt                              the same chart, built by calls
@@ -9,6 +9,7 @@
  *     lifecycle --tables [lifecycle.scxml] < day.txt   nothing but the chart and the active rows at the end, for second's picture
  */
 #include <stdio.h>
+#include <stdlib.h>
 #include <string.h>
 
 #include "text.h"
@@ -24,7 +25,7 @@ static const char *host_words(uint32_t action)
 {
     static const char *const words[] = {"?",
         "mount the volumes", "unmount the volumes", "exec the process", "freeze the process", "thaw the process", "send SIGTERM", "send SIGKILL",
-        "send SIGHUP", "start the timer", "stop the timer", "log a crash", "remove the container"};
+        "send SIGHUP", "log a crash", "remove the container"};
     return action < sizeof words / sizeof words[0] ? words[action] : words[0];
 }
 
@@ -58,6 +59,8 @@ static void print_entry(const auttervil_chart *chart, uint32_t entry)
     case AUTTERVIL_TRACE_RAISED: printf("    raise %s\n", text(auttervil_name(chart, index))); break;
     case AUTTERVIL_TRACE_DONE: printf("    done.state.%s\n", text(auttervil_row_id(chart, index))); break;
     case AUTTERVIL_TRACE_CHOSEN: printf("        chosen by %s\n", text(auttervil_row_id(chart, index))); break;
+    case AUTTERVIL_TRACE_SENT: printf("    send %s later\n", text(auttervil_name(chart, index))); break;
+    case AUTTERVIL_TRACE_CANCELLED: printf("    cancel %s\n", text(auttervil_name(chart, index))); break;
     default: printf("    entry %u\n", (unsigned)entry);
     }
 }
@@ -77,6 +80,9 @@ static void print_active(const auttervil_chart *chart)
         if (auttervil_is_active(&session, row))
             printf(" %s", text(auttervil_row_id(chart, row)));
     printf(" ]\n");
+    if (auttervil_next_due(&session) != AUTTERVIL_NEVER)
+        printf("    %s is due at %lu, and it is %lu\n", text(auttervil_pending_event(&session, 0)), (unsigned long)auttervil_next_due(&session),
+               (unsigned long)session.clock.ticks);
 }
 
 /* The chart from its text, where there is one, else built; with this id for the state of mounted volumes. The builder tells an id that is too long at once. */
@@ -163,6 +169,15 @@ static int handle(const auttervil_chart *chart, const char *event, int quiet)
     return stepped.answer != AUTTERVIL_DONE || run_on(chart, ran, quiet);
 }
 
+/* So many milliseconds later: what is due by then joins the events that wait, and the rounds that it leads to are done. */
+static int let_pass(const auttervil_chart *chart, uint64_t milliseconds, int quiet)
+{
+    const uint32_t answer = auttervil_advance(&session, chart, session.clock.ticks + milliseconds);
+    if (!quiet)
+        printf("%lu milliseconds later: %s\n", (unsigned long)milliseconds, auttervil_strstatus(answer));
+    return answer != AUTTERVIL_DONE || run_on(chart, auttervil_run(&session, chart, ROUNDS, trace, ROOM), quiet);
+}
+
 static void print_tables(const auttervil_tables *tables, const auttervil_chart *chart)
 {
     size_t i;
@@ -233,7 +248,7 @@ static int play(const auttervil_chart *chart, int quiet)
                 return 0;
             continue;
         }
-        if (!handle(chart, line, quiet))
+        if (line[0] == '+' ? !let_pass(chart, strtoul(line + 1, NULL, 10), quiet) : !handle(chart, line, quiet))
             return 0;
     }
     return 1;

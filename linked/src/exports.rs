@@ -52,8 +52,8 @@ const _: () = assert!(size_of::<Started>() == 16 && size_of::<Ran>() == 16 && si
 const _: () = assert!(size_of::<Read>() == 32 && size_of::<Written>() == 16);
 
 extern "C" {
-    pub fn auttervil_raw2_version() -> c_uint;
-    pub fn auttervil_raw2_read(
+    pub fn auttervil_raw3_version() -> c_uint;
+    pub fn auttervil_raw3_read(
         text: *const u8,
         text_count: usize,
         numbers: *mut u64,
@@ -61,7 +61,7 @@ extern "C" {
         names: *mut u8,
         names_count: usize,
     ) -> Read;
-    pub fn auttervil_raw2_read_with(
+    pub fn auttervil_raw3_read_with(
         text: *const u8,
         text_count: usize,
         numbers: *mut u64,
@@ -81,7 +81,7 @@ extern "C" {
         ranks: *mut u16,
         ranks_count: usize,
     ) -> Read;
-    pub fn auttervil_raw2_write(
+    pub fn auttervil_raw3_write(
         numbers: *const u64,
         numbers_count: usize,
         names: *const u8,
@@ -89,9 +89,9 @@ extern "C" {
         buffer: *mut u8,
         buffer_count: usize,
     ) -> Written;
-    pub fn auttervil_raw2_numbers_size(numbers: *const u64, numbers_count: usize) -> usize;
-    pub fn auttervil_raw2_names_size(numbers: *const u64, numbers_count: usize) -> usize;
-    pub fn auttervil_raw2_compile(
+    pub fn auttervil_raw3_numbers_size(numbers: *const u64, numbers_count: usize) -> usize;
+    pub fn auttervil_raw3_names_size(numbers: *const u64, numbers_count: usize) -> usize;
+    pub fn auttervil_raw3_compile(
         numbers: *const u64,
         numbers_count: usize,
         names: *const u8,
@@ -101,31 +101,33 @@ extern "C" {
         name_place: *mut u8,
         name_place_count: usize,
     ) -> c_uint;
-    pub fn auttervil_raw2_check(
+    pub fn auttervil_raw3_check(
         chart: *const u64,
         chart_count: usize,
         names: *const u8,
         names_count: usize,
     ) -> c_uint;
-    pub fn auttervil_raw2_room(
+    pub fn auttervil_raw3_room(
         chart: *const u64,
         chart_count: usize,
         names: *const u8,
         names_count: usize,
     ) -> usize;
-    pub fn auttervil_raw2_fingerprint(
+    pub fn auttervil_raw3_fingerprint(
         chart: *const u64,
         chart_count: usize,
         names: *const u8,
         names_count: usize,
     ) -> u64;
-    pub fn auttervil_raw2_start(
+    pub fn auttervil_raw3_start(
         numbers: *mut u64,
         numbers_count: usize,
         internal: *mut u8,
         internal_count: usize,
         external: *mut u8,
         external_count: usize,
+        clock: *mut u8,
+        clock_count: usize,
         chart: *const u64,
         chart_count: usize,
         names: *const u8,
@@ -133,7 +135,7 @@ extern "C" {
         trace: *mut u32,
         trace_count: usize,
     ) -> Started;
-    pub fn auttervil_raw2_post(
+    pub fn auttervil_raw3_post(
         numbers: *mut u64,
         numbers_count: usize,
         internal: *const u8,
@@ -147,13 +149,15 @@ extern "C" {
         name: *const u8,
         name_count: usize,
     ) -> c_uint;
-    pub fn auttervil_raw2_run(
+    pub fn auttervil_raw3_run(
         numbers: *mut u64,
         numbers_count: usize,
         internal: *mut u8,
         internal_count: usize,
         external: *mut u8,
         external_count: usize,
+        clock: *mut u8,
+        clock_count: usize,
         chart: *const u64,
         chart_count: usize,
         names: *const u8,
@@ -162,13 +166,30 @@ extern "C" {
         trace: *mut u32,
         trace_count: usize,
     ) -> Ran;
-    pub fn auttervil_raw2_step(
+    pub fn auttervil_raw3_advance(
+        numbers: *mut u64,
+        numbers_count: usize,
+        internal: *const u8,
+        internal_count: usize,
+        external: *mut u8,
+        external_count: usize,
+        clock: *mut u8,
+        clock_count: usize,
+        chart: *const u64,
+        chart_count: usize,
+        names: *const u8,
+        names_count: usize,
+        ticks: u64,
+    ) -> c_uint;
+    pub fn auttervil_raw3_step(
         numbers: *mut u64,
         numbers_count: usize,
         internal: *mut u8,
         internal_count: usize,
         external: *mut u8,
         external_count: usize,
+        clock: *mut u8,
+        clock_count: usize,
         chart: *const u64,
         chart_count: usize,
         names: *const u8,
@@ -179,23 +200,23 @@ extern "C" {
         trace: *mut u32,
         trace_count: usize,
     ) -> Stepped;
-    pub fn auttervil_raw2_perform(
+    pub fn auttervil_raw3_perform(
         numbers: *mut u64,
         numbers_count: usize,
         internal: *mut u8,
         internal_count: usize,
         external: *mut u8,
         external_count: usize,
+        clock: *mut u8,
+        clock_count: usize,
         chart: *const u64,
         chart_count: usize,
         names: *const u8,
         names_count: usize,
-        calls: *const u64,
+        calls: *mut u64,
         calls_count: usize,
         text: *const u8,
         text_count: usize,
-        results: *mut u64,
-        results_count: usize,
         trace: *mut u32,
         trace_count: usize,
     ) -> usize;

@@ -2,6 +2,7 @@
 //! aligned and apart, which is all that the library asks.
 
 use crate::exports::*;
+use second::clock::CLOCK_BYTES;
 use second::limits::{HISTORY_PLACES, QUEUE_NAMES, ROW_SET_WORDS, SLOT_BYTES};
 use std::ops::Range;
 
@@ -23,18 +24,35 @@ pub struct Session {
     pub external: [u8; QUEUE_BYTES],
 }
 
-const _: () = assert!(size_of::<Session>() == 12_344);
+const _: () = assert!(size_of::<Session>() == 12_344 && CLOCK_BYTES == 4_368);
 
-/// The three places that a session is lent in, of whatever lengths.
+/// A session with its clock record, 4,368 bytes more.
+#[repr(C)]
+#[derive(Clone, PartialEq, Eq, Debug)]
+pub struct Timed {
+    pub session: Session,
+    pub clock: [u8; CLOCK_BYTES],
+}
+
+/// The three places that a session is lent in and that of the clock record, of whatever lengths.
 pub struct Parts<'a> {
     pub numbers: &'a mut [u64],
     pub internal: &'a mut [u8],
     pub external: &'a mut [u8],
+    pub clock: &'a mut [u8],
 }
 
 impl Session {
+    /// For a post, which takes no clock record.
     pub fn lend(&mut self) -> Parts<'_> {
-        Parts { numbers: &mut self.numbers, internal: &mut self.internal, external: &mut self.external }
+        let Session { numbers, internal, external } = self;
+        Parts { numbers, internal, external, clock: &mut [] }
+    }
+}
+
+impl Timed {
+    pub fn lend(&mut self) -> Parts<'_> {
+        Parts { clock: &mut self.clock, ..self.session.lend() }
     }
 }
 
@@ -46,13 +64,13 @@ pub struct Compiled<'a> {
 }
 
 pub fn version() -> u32 {
-    unsafe { auttervil_raw2_version() }
+    unsafe { auttervil_raw3_version() }
 }
 
 /// Reads a text; the tables stand at the beginning of both places.
 pub fn read(text: &[u8], numbers: &mut [u64], names: &mut [u8]) -> Read {
     unsafe {
-        auttervil_raw2_read(
+        auttervil_raw3_read(
             text.as_ptr(),
             text.len(),
             numbers.as_mut_ptr(),
@@ -87,7 +105,7 @@ impl Scratch {
 
     pub fn read(&mut self, text: &[u8], numbers: &mut [u64], names: &mut [u8]) -> Read {
         unsafe {
-            auttervil_raw2_read_with(
+            auttervil_raw3_read_with(
                 text.as_ptr(),
                 text.len(),
                 numbers.as_mut_ptr(),
@@ -114,7 +132,7 @@ impl Scratch {
 /// Writes a chart; the text stands at the beginning of the buffer.
 pub fn write(numbers: &[u64], names: &[u8], buffer: &mut [u8]) -> Written {
     unsafe {
-        auttervil_raw2_write(
+        auttervil_raw3_write(
             numbers.as_ptr(),
             numbers.len(),
             names.as_ptr(),
@@ -126,16 +144,16 @@ pub fn write(numbers: &[u64], names: &[u8], buffer: &mut [u8]) -> Written {
 }
 
 pub fn numbers_size(numbers: &[u64]) -> usize {
-    unsafe { auttervil_raw2_numbers_size(numbers.as_ptr(), numbers.len()) }
+    unsafe { auttervil_raw3_numbers_size(numbers.as_ptr(), numbers.len()) }
 }
 
 pub fn names_size(numbers: &[u64]) -> usize {
-    unsafe { auttervil_raw2_names_size(numbers.as_ptr(), numbers.len()) }
+    unsafe { auttervil_raw3_names_size(numbers.as_ptr(), numbers.len()) }
 }
 
 pub fn compile(numbers: &[u64], names: &[u8], place: &mut [u64], name_place: &mut [u8]) -> u64 {
     let answer = unsafe {
-        auttervil_raw2_compile(
+        auttervil_raw3_compile(
             numbers.as_ptr(),
             numbers.len(),
             names.as_ptr(),
@@ -153,32 +171,34 @@ impl Compiled<'_> {
     pub fn check(self) -> u64 {
         let Compiled { numbers, names } = self;
         let answer =
-            unsafe { auttervil_raw2_check(numbers.as_ptr(), numbers.len(), names.as_ptr(), names.len()) };
+            unsafe { auttervil_raw3_check(numbers.as_ptr(), numbers.len(), names.as_ptr(), names.len()) };
         u64::from(answer)
     }
 
     pub fn room(self) -> usize {
         let Compiled { numbers, names } = self;
-        unsafe { auttervil_raw2_room(numbers.as_ptr(), numbers.len(), names.as_ptr(), names.len()) }
+        unsafe { auttervil_raw3_room(numbers.as_ptr(), numbers.len(), names.as_ptr(), names.len()) }
     }
 
     pub fn fingerprint(self) -> u64 {
         let Compiled { numbers, names } = self;
-        unsafe { auttervil_raw2_fingerprint(numbers.as_ptr(), numbers.len(), names.as_ptr(), names.len()) }
+        unsafe { auttervil_raw3_fingerprint(numbers.as_ptr(), numbers.len(), names.as_ptr(), names.len()) }
     }
 }
 
-/// The session is changed where it lies.
+/// The session and the record are changed where they lie.
 impl Parts<'_> {
     pub fn start(self, chart: Compiled, trace: &mut [u32]) -> Started {
         unsafe {
-            auttervil_raw2_start(
+            auttervil_raw3_start(
                 self.numbers.as_mut_ptr(),
                 self.numbers.len(),
                 self.internal.as_mut_ptr(),
                 self.internal.len(),
                 self.external.as_mut_ptr(),
                 self.external.len(),
+                self.clock.as_mut_ptr(),
+                self.clock.len(),
                 chart.numbers.as_ptr(),
                 chart.numbers.len(),
                 chart.names.as_ptr(),
@@ -191,7 +211,7 @@ impl Parts<'_> {
 
     pub fn post(self, chart: Compiled, name: &[u8]) -> u32 {
         unsafe {
-            auttervil_raw2_post(
+            auttervil_raw3_post(
                 self.numbers.as_mut_ptr(),
                 self.numbers.len(),
                 self.internal.as_ptr(),
@@ -210,13 +230,15 @@ impl Parts<'_> {
 
     pub fn run(self, chart: Compiled, rounds: u32, trace: &mut [u32]) -> Ran {
         unsafe {
-            auttervil_raw2_run(
+            auttervil_raw3_run(
                 self.numbers.as_mut_ptr(),
                 self.numbers.len(),
                 self.internal.as_mut_ptr(),
                 self.internal.len(),
                 self.external.as_mut_ptr(),
                 self.external.len(),
+                self.clock.as_mut_ptr(),
+                self.clock.len(),
                 chart.numbers.as_ptr(),
                 chart.numbers.len(),
                 chart.names.as_ptr(),
@@ -228,15 +250,37 @@ impl Parts<'_> {
         }
     }
 
+    pub fn clock(self, chart: Compiled, ticks: u64) -> u32 {
+        unsafe {
+            auttervil_raw3_advance(
+                self.numbers.as_mut_ptr(),
+                self.numbers.len(),
+                self.internal.as_ptr(),
+                self.internal.len(),
+                self.external.as_mut_ptr(),
+                self.external.len(),
+                self.clock.as_mut_ptr(),
+                self.clock.len(),
+                chart.numbers.as_ptr(),
+                chart.numbers.len(),
+                chart.names.as_ptr(),
+                chart.names.len(),
+                ticks,
+            )
+        }
+    }
+
     pub fn step(self, chart: Compiled, name: &[u8], rounds: u32, trace: &mut [u32]) -> Stepped {
         unsafe {
-            auttervil_raw2_step(
+            auttervil_raw3_step(
                 self.numbers.as_mut_ptr(),
                 self.numbers.len(),
                 self.internal.as_mut_ptr(),
                 self.internal.len(),
                 self.external.as_mut_ptr(),
                 self.external.len(),
+                self.clock.as_mut_ptr(),
+                self.clock.len(),
                 chart.numbers.as_ptr(),
                 chart.numbers.len(),
                 chart.names.as_ptr(),
@@ -250,33 +294,26 @@ impl Parts<'_> {
         }
     }
 
-    /// How many of the calls were performed.
-    pub fn perform(
-        self,
-        chart: Compiled,
-        calls: &[u64],
-        text: &[u8],
-        results: &mut [u64],
-        trace: &mut [u32],
-    ) -> usize {
+    /// How many of the calls were performed; each has written what it gave behind its own four numbers.
+    pub fn perform(self, chart: Compiled, calls: &mut [u64], text: &[u8], trace: &mut [u32]) -> usize {
         unsafe {
-            auttervil_raw2_perform(
+            auttervil_raw3_perform(
                 self.numbers.as_mut_ptr(),
                 self.numbers.len(),
                 self.internal.as_mut_ptr(),
                 self.internal.len(),
                 self.external.as_mut_ptr(),
                 self.external.len(),
+                self.clock.as_mut_ptr(),
+                self.clock.len(),
                 chart.numbers.as_ptr(),
                 chart.numbers.len(),
                 chart.names.as_ptr(),
                 chart.names.len(),
-                calls.as_ptr(),
+                calls.as_mut_ptr(),
                 calls.len(),
                 text.as_ptr(),
                 text.len(),
-                results.as_mut_ptr(),
-                results.len(),
                 trace.as_mut_ptr(),
                 trace.len(),
             )

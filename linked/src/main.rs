@@ -137,12 +137,13 @@ fn compare_posts(seeds: Range<u64>, outcome: &mut Outcome) {
     outcome.add(count, failures, demands);
 }
 
-/// Starts, runs, steps and lists of calls: every answer and status that each can have.
+/// Starts, runs, steps, clock calls and lists of calls: every answer and status that each can have, and of every
+/// kind of place of a clock record a change that is refused.
 fn compare_calls(seeds: Range<u64>, outcome: &mut Outcome) {
     let kinds = calls::Kinds::all();
     let try_seed = |seed: u64, counts: &mut calls::Counts| calls::try_seed(seed, &kinds, counts);
     let count = seeds.end - seeds.start;
-    let (counts, failures) = try_all(seeds, calls::Counts::none(), try_seed);
+    let (counts, failures) = try_all(seeds, calls::Counts::none(&kinds), try_seed);
     let mut demands = Vec::new();
     let mut demand = |what: &str, numbers: &[usize], counts: &[u64; 103]| {
         for &number in numbers {
@@ -150,10 +151,16 @@ fn compare_calls(seeds: Range<u64>, outcome: &mut Outcome) {
             demands.push((format!("{what} {number}"), counts[number] >= OFTEN));
         }
     };
-    demand("starts with answer", &[0, 8, 10], &counts.starts);
+    demand("starts with answer", &[0, 7, 8, 10], &counts.starts);
+    demand("clock calls with answer", &[0, 8, 9, 11, 14], &counts.clocks);
     demand("runs with status", &[100, 101, 102, 7, 8, 9, 10], &counts.runs);
     demand("steps with answer", &[0, 6, 7, 8, 9, 11], &counts.step_answers);
     demand("steps with status", &[100, 101, 102, 7, 8, 9, 10], &counts.step_statuses);
+    for (part, [_, refused]) in kinds.records.iter().zip(&counts.records) {
+        demands.push((format!("a clock record, {part}"), *refused >= OFTEN));
+    }
+    let [damaged, refused] = counts.records.iter().fold([0; 2], |[a, b], [c, d]| [a + c, b + d]);
+    println!("{damaged:>10}  clock records with a change, {refused} of them refused");
     let [whole, part] = counts.lists;
     println!("{whole:>10}  lists of calls to their end\n{part:>10}  lists that end before it");
     demands.push(("whole lists of calls, and lists that end early".to_string(), whole.min(part) >= OFTEN));
@@ -189,7 +196,8 @@ fn compare_written(seeds: Range<u64>, outcome: &mut Outcome) {
         println!("{:>10}  charts written with answer {answer}", counts.answers[answer]);
         demands.push((format!("a chart written with answer {answer}"), counts.answers[answer] >= OFTEN));
     }
-    for (what, count) in ["an if", "a listed history", "more than 32,768 bytes"].iter().zip(counts.kinds) {
+    let kinds = ["an if", "a send", "a listed history", "more than 32,768 bytes"];
+    for (what, count) in kinds.iter().zip(counts.kinds) {
         println!("{count:>10}  charts written that have {what}");
         demands.push((format!("a written chart that has {what}"), count >= OFTEN));
     }
@@ -199,5 +207,5 @@ fn compare_written(seeds: Range<u64>, outcome: &mut Outcome) {
 
 /// The archive is the one that these declarations are for.
 fn is_of_this_number() -> Result<(), String> {
-    compare::ensure(library::version() == 2, || format!("the library's number is {}", library::version()))
+    compare::ensure(library::version() == 3, || format!("the library's number is {}", library::version()))
 }

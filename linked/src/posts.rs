@@ -13,9 +13,10 @@ use second::generate::{self, bad_names, CallMaker, Flavour};
 use second::limits::MAX_NAME_BYTES;
 use second::near_misses::Lent;
 use second::random::Random;
-use second::session::{watch_nothing, Session, BAD_SESSION};
+use second::session::{Session, BAD_SESSION};
 use second::session_damage::{self, SessionPart};
 use second::tables::Chart;
+use second::timed::{watch_nothing, Timed};
 
 /// How many sessions with one cell changed, and with many, each seed makes.
 const DAMAGED: usize = 8;
@@ -108,15 +109,15 @@ pub fn some_name(chart: &Chart, random: &mut Random) -> Vec<u8> {
     }
 }
 
-/// The session that a list of calls leaves, at times an ended one.
-pub fn reached(chart: &Chart, compiled: &CompiledChart, random: &mut Random) -> Session {
+/// The session and the clock record that a list of calls leaves, at times an ended one.
+pub fn reached(chart: &Chart, compiled: &CompiledChart, random: &mut Random) -> Timed {
     let mut calls = CallMaker::new(random, chart).calls(2);
     calls.truncate(random.between(1, 8));
-    let mut session = Session::ended();
+    let mut timed = Timed::ended();
     for call in &calls {
-        session = Call::done_on(call, session, Some(compiled), &mut watch_nothing).session;
+        timed = Call::done_on(call, timed, Some(compiled), &mut watch_nothing).timed();
     }
-    session
+    timed
 }
 
 /// Compares all that a seed makes.
@@ -130,7 +131,7 @@ pub fn try_seed(seed: u64, kinds: &Kinds, counts: &mut Counts) -> Result<(), Str
     let compiled = CompiledChart::open(&places.numbers, &places.names).ok_or("a compiled chart opens")?;
     let stage = Stage { places: &places, opened: Some(&compiled) };
     let made = generate::session(&mut random, &compiled);
-    let reached = reached(&chart, &compiled, &mut random);
+    let reached = reached(&chart, &compiled, &mut random).session;
     for session in [&made, &reached] {
         let name = some_name(&chart, &mut random);
         let answer = stage.post(session, &name, counts)?;

@@ -1,4 +1,4 @@
-//! Sessions of the second program as the library takes them.
+//! Sessions and clock records of the second program as the library takes them.
 
 use crate::compare::ensure;
 use crate::library::{self, Compiled, CONFIGURATION, EXTERNAL_COUNT, HISTORY, INTERNAL_COUNT};
@@ -7,6 +7,7 @@ use second::compiled::Places;
 use second::limits::{QUEUE_NAMES, ROW_SET_WORDS};
 use second::names::Slot;
 use second::session::Session;
+use second::timed::Timed;
 
 impl From<&Session> for library::Session {
     fn from(session: &Session) -> library::Session {
@@ -23,6 +24,13 @@ impl From<&Session> for library::Session {
             internal: bytes(&session.internal.slots),
             external: bytes(&session.external.slots),
         }
+    }
+}
+
+impl From<&Timed> for library::Timed {
+    fn from(timed: &Timed) -> library::Timed {
+        let clock = timed.clock.bytes().try_into().expect("a record has so many bytes");
+        library::Timed { session: (&timed.session).into(), clock }
     }
 }
 
@@ -52,4 +60,12 @@ pub fn alike(given: &library::Session, own: &Session) -> Result<(), String> {
         ensure(same, || format!("the {part} left is another"))?;
     }
     Ok(())
+}
+
+/// The same of the session and the clock record.
+pub fn timed_alike(given: &library::Timed, own: &Timed) -> Result<(), String> {
+    alike(&given.session, &own.session)?;
+    let bytes = own.clock.bytes();
+    let other = given.clock.iter().zip(&bytes).position(|(given, own)| given != own);
+    ensure(other.is_none(), || format!("byte {} of the clock record left is another", other.unwrap_or(0)))
 }

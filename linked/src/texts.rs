@@ -8,12 +8,12 @@ use crate::seeds::Tally;
 use second::generate::{self, Flavour};
 use second::random::Random;
 use second::text::damage::{damaged, words, BYTES};
-use second::text::elements::{Name, KNOWN};
+use second::text::elements::Name;
 use second::text::faults::tags;
 use second::text::plant::planted;
 use second::text::read::{meaning, read_into, Refusal};
 use second::text::recogniser::{Recogniser, Ways};
-use second::text::samples::{BRANCHES, EVERYTHING};
+use second::text::samples::{BRANCHES, EVERYTHING, TIMERS};
 use second::text::scan::scan;
 use second::text::spell::spell;
 
@@ -27,7 +27,7 @@ const DAMAGED: usize = 6;
 const ROWS: [&str; 4] = ["state", "parallel", "final", "history"];
 
 /// The texts of which every byte is changed.
-const TEXTS: [&str; 2] = [EVERYTHING, BRANCHES];
+const TEXTS: [&str; 3] = [EVERYTHING, BRANCHES, TIMERS];
 
 /// Texts by their answers.
 #[derive(Clone, Default)]
@@ -106,7 +106,7 @@ fn is_name_byte(byte: Option<&u8>) -> bool {
 
 /// The text with a digit in front of one id, wherever it stands.
 fn renamed(text: &[u8], random: &mut Random) -> Vec<u8> {
-    let marks = scan(text, KNOWN).unwrap_or_default();
+    let marks = scan(text).unwrap_or_default();
     let ids: Vec<_> = tags(&marks).filter_map(|tag| tag.attribute(Name::Id)).collect();
     if ids.is_empty() {
         return text.to_vec();
@@ -170,10 +170,11 @@ pub fn places() -> u64 {
 /// out, and swapped with the next. The recogniser is taken up at the place.
 pub fn try_place(place: u64, counts: &mut Counts) -> Result<(), String> {
     let mut place = place as usize;
-    let mut text = TEXTS[0].as_bytes();
-    if place >= text.len() {
+    let mut texts = TEXTS.iter().map(|text| text.as_bytes());
+    let mut text = texts.next().unwrap_or_default();
+    while place >= text.len() {
         place -= text.len();
-        text = TEXTS[1].as_bytes();
+        text = texts.next().expect("there are no more places than the texts have");
     }
     let mut recogniser = Recogniser::default();
     let mut ways = recogniser.start();

@@ -26,8 +26,8 @@ const CHANGED: usize = 4;
 #[derive(Clone, Default)]
 pub struct Counts {
     pub answers: [u64; LONG_TEXT + 1],
-    /// Charts with an if, with an initial list that names a history, and of more bytes than are read.
-    pub kinds: [u64; 3],
+    /// Charts with an if, with a send, with an initial list that names a history, and of more bytes than are read.
+    pub kinds: [u64; 4],
 }
 
 impl Tally for Counts {
@@ -147,7 +147,10 @@ pub fn try_seed(seed: u64, kinds: &Kinds, counts: &mut Counts) -> Result<(), Str
         chart = filled(chart, random);
     }
     let long = text_of(&chart).len() > MAX_TEXT;
-    add(&mut counts.kinds, &[has_if(&chart), lists_history(&chart), long].map(u64::from));
+    add(
+        &mut counts.kinds,
+        &[has_if(&chart), generate::has_sends(&chart), lists_history(&chart), long].map(u64::from),
+    );
     in_buffers(&chart, random, counts)?;
     let kind = &kinds.near_misses[seed as usize % kinds.near_misses.len()];
     if let Some(lent) = kind.of(&chart, random, seed % 2 == 1) {

@@ -4,19 +4,21 @@
 use crate::branches::conditions;
 use crate::brute;
 use crate::calls::Call;
+use crate::clock_damage;
 use crate::compiled::{compile, needed_place, CompiledChart, Places};
 use crate::coverage::Coverage;
 use crate::encode::{encode, Layout, Spelt};
 use crate::generate::{self, CallMaker, Flavour, LARGE};
 use crate::invariants::{ensure, run_splits, Found, Seen};
 use crate::legal::{can_be_stored, is_legal};
-use crate::limits::{HISTORY_PLACES, QUEUE_NAMES, ROW_SET_ROWS};
+use crate::limits::{HISTORY_PLACES, MAX_TICKS, QUEUE_NAMES, ROW_SET_ROWS};
 use crate::numbers::RowNumber;
 use crate::random::Random;
 use crate::row_set::RowSet;
 use crate::rules::verdict;
 use crate::session::*;
-use crate::tables::Chart;
+use crate::tables::{Action, Chart};
+use crate::timed::{watch_nothing, Timed};
 
 /// More legal configurations than this are not enumerated.
 const SMALL: usize = 400;
@@ -99,20 +101,22 @@ impl Trial {
         for block in blocks.filter(|block| !block.is_empty()) {
             coverage.note("blocks");
             coverage.note_if("blocks with an if", conditions(block).next().is_some());
+            let timing = |action: &Action| matches!(action, Action::Send { .. } | Action::Cancel(_));
+            coverage.note_if("blocks with a send or cancel", block.iter().any(timing));
         }
     }
 
     fn calls_agree(&self, compiled: &CompiledChart, random: &mut Random, coverage: &mut Coverage) -> Found {
-        let mut session = Session::ended();
+        let mut timed = Timed::ended();
         for call in &self.calls {
-            let before = session.clone();
-            let answer = watched(compiled, call, session, random, coverage)?;
+            let before = timed.clone();
+            let answer = watched(compiled, call, timed, random, coverage)?;
             answer_is_right(compiled, call, &before, &answer)?;
-            count_answer(call, &answer, coverage);
+            count_answer(call, &before, &answer, coverage);
             if let Call::Run { rounds, room } = *call {
                 run_splits(compiled, &before, rounds, room, &answer, random)?;
             }
-            session = answer.session;
+            timed = answer.timed();
         }
         Ok(())
     }
@@ -179,12 +183,12 @@ fn change_anything(spelt: &mut Spelt, random: &mut Random) {
 fn watched(
     compiled: &CompiledChart,
     call: &Call,
-    session: Session,
+    timed: Timed,
     random: &mut Random,
     coverage: &mut Coverage,
 ) -> Result<Answer, String> {
     let mut found: Found = Ok(());
-    let answer = call.done_on(session, Some(compiled), &mut |before, record, after| {
+    let answer = call.done_on(timed, Some(compiled), &mut |before, record, after| {
         let seen = Seen { compiled, before, record, after };
         seen.count(coverage);
         if found.is_ok() {
@@ -197,36 +201,62 @@ fn watched(
 /// What a list of calls shows, from an ended session.
 pub fn covered_by(compiled: &CompiledChart, calls: &[Call]) -> Coverage {
     let mut coverage = Coverage::default();
-    let mut session = Session::ended();
+    let mut timed = Timed::ended();
     for call in calls {
-        let answer = call.done_on(session, Some(compiled), &mut |before, record, after| {
+        let before = timed.clone();
+        let answer = call.done_on(timed, Some(compiled), &mut |before, record, after| {
             Seen { compiled, before, record, after }.count(&mut coverage);
         });
-        count_answer(call, &answer, &mut coverage);
-        session = answer.session;
+        count_answer(call, &before, &answer, &mut coverage);
+        timed = answer.timed();
     }
     coverage
 }
 
 /// What holds of every answer, whatever the call.
-fn answer_is_right(compiled: &CompiledChart, call: &Call, before: &Session, answer: &Answer) -> Found {
-    ensure(answer.session.is_well_formed(compiled), "sessions stay well formed")?;
+fn answer_is_right(compiled: &CompiledChart, call: &Call, before: &Timed, answer: &Answer) -> Found {
+    ensure(answer.clone().timed().is_well_formed(compiled), "sessions and records stay well formed")?;
     match call {
         Call::Start { room } => {
             ensure(answer.trace.len() <= *room && answer.rounds == 0, "a start fits its room")?;
             let refused = answer.number != ACCEPTED;
             ensure(
-                !refused || answer.session == Session::ended() && answer.trace.is_empty(),
-                "a refused start hands back an ended session",
+                !refused || answer.clone().timed() == Timed::ended() && answer.trace.is_empty(),
+                "a refused start hands back an ended session and a new record",
             )
         }
         Call::Post { .. } => {
             ensure(answer.trace.is_empty() && answer.rounds == 0, "a post writes nothing")?;
             let accepted = answer.number == ACCEPTED;
-            ensure(accepted != (answer.session == *before), "a refused post changes nothing")
+            ensure(accepted != (answer.session == before.session), "a refused post changes nothing")?;
+            ensure(answer.clock == before.clock, "a post leaves the clock record")
         }
+        Call::Clock { ticks } => clock_answer_is_right(*ticks, before, answer),
         Call::Run { rounds, room } => run_answer_is_right(compiled, *rounds, *room, answer),
     }
+}
+
+/// The names that joined are the due ones in the order in which a search for the next finds them, and what
+/// is pending then has not moved.
+fn clock_answer_is_right(ticks: u64, before: &Timed, answer: &Answer) -> Found {
+    ensure(answer.trace.is_empty() && answer.rounds == 0, "a clock call writes nothing")?;
+    if answer.number != ACCEPTED {
+        let expected = if before.session.mode == ENDED { SESSION_ENDED } else { BAD_TICKS };
+        ensure(answer.number == expected, "11 before 14")?;
+        return ensure(answer.clone().timed() == *before, "a refused clock call changes nothing");
+    }
+    ensure((before.clock.ticks..=MAX_TICKS).contains(&ticks), "14 for an earlier or too late clock")?;
+    let mut left = before.clock.pending();
+    let mut names = before.session.external.names();
+    while names.len() < QUEUE_NAMES {
+        let earliest = left.iter().map(|send| send.due).min().filter(|&due| due <= ticks);
+        let Some(place) = left.iter().position(|send| Some(send.due) == earliest) else { break };
+        names.push(left.remove(place).event);
+    }
+    ensure(answer.clock.ticks == ticks && answer.clock.pending() == left, "the rest stays pending")?;
+    ensure(answer.session.external.names() == names, "what is due joins by due time, then by order")?;
+    let moved = Session { external: answer.session.external.clone(), ..before.session.clone() };
+    ensure(moved == answer.session, "a clock call moves the external queue alone")
 }
 
 fn run_answer_is_right(compiled: &CompiledChart, rounds: u32, room: usize, answer: &Answer) -> Found {
@@ -243,8 +273,11 @@ fn run_answer_is_right(compiled: &CompiledChart, rounds: u32, room: usize, answe
     ensure(fits, "the status of a run is right")
 }
 
-fn count_answer(call: &Call, answer: &Answer, coverage: &mut Coverage) {
+fn count_answer(call: &Call, before: &Timed, answer: &Answer, coverage: &mut Coverage) {
     let what = match (call, answer.number) {
+        (Call::Clock { .. }, ACCEPTED) => "clock calls accepted",
+        (Call::Clock { .. }, BAD_TICKS) => "clock calls refused with 14",
+        (Call::Clock { .. }, _) => "clock calls refused with 11",
         (Call::Start { .. }, ACCEPTED) => "starts accepted",
         (Call::Start { .. }, _) => "starts refused",
         (Call::Post { .. }, ACCEPTED) => "posts accepted",
@@ -258,10 +291,27 @@ fn count_answer(call: &Call, answer: &Answer, coverage: &mut Coverage) {
         (Call::Run { .. }, _) => "runs that say 10",
     };
     coverage.note(what);
+    if let (Call::Clock { ticks }, ACCEPTED) = (call, answer.number) {
+        count_joined(*ticks, before, answer, coverage);
+    }
     if let Call::Run { .. } = call {
         let taken = answer.trace.iter().any(|entry| entry / 65_536 == 2);
         coverage.note_if("runs that take a transition", taken);
     }
+}
+
+fn count_joined(ticks: u64, before: &Timed, answer: &Answer, coverage: &mut Coverage) {
+    let due: Vec<u64> =
+        before.clock.pending().iter().map(|send| send.due).filter(|&due| due <= ticks).collect();
+    let joined = answer.session.external.count - before.session.external.count;
+    coverage.add("due sends that join", joined);
+    coverage.note_if("clock calls that leave due sends pending", joined < due.len() as u64);
+    coverage.note_if("clock calls that join out of order of sending", joined > 1 && !due.is_sorted());
+    let ties = due.iter().enumerate().any(|(place, one)| due[..place].contains(one));
+    coverage.note_if("clock calls with equal due times", ties && joined > 1);
+    coverage.note_if("clock calls that stand still", ticks == before.clock.ticks);
+    coverage.note_if("clock calls that stand still and join", ticks == before.clock.ticks && joined > 0);
+    coverage.note_if("clock calls at 2^62", ticks == MAX_TICKS);
 }
 
 /// Legality and stored sets, quick against slow, on a chart with few legal configurations.
@@ -314,13 +364,14 @@ fn session_agrees(
     random: &mut Random,
     coverage: &mut Coverage,
 ) -> Found {
-    let session = generate::session(random, compiled);
-    ensure(session.is_well_formed(compiled), "a made session is well formed")?;
+    let timed = generate::timed(random, compiled);
+    ensure(timed.is_well_formed(compiled), "a made session is well formed, and so is its record")?;
     let call = Call::Run { rounds: 8, room: 300 };
-    let answer = watched(compiled, &call, session.clone(), random, coverage)?;
+    let answer = watched(compiled, &call, timed.clone(), random, coverage)?;
     run_answer_is_right(compiled, 8, 300, &answer)?;
-    run_splits(compiled, &session, 8, 300, &answer, random)?;
-    let mut damaged = session;
+    run_splits(compiled, &timed, 8, 300, &answer, random)?;
+    record_agrees(compiled, &timed, random, coverage)?;
+    let mut damaged = timed.session;
     damage(&mut damaged, compiled.chart.rows.len(), random);
     let well_formed = damaged.is_well_formed(compiled);
     coverage.note(if well_formed { "damaged sessions still well formed" } else { "damaged sessions" });
@@ -334,6 +385,41 @@ fn session_agrees(
     ensure((run.number == BAD_SESSION) != well_formed, "9 exactly if not well formed")?;
     let untouched = posted.session == damaged && run.session == damaged && run.trace.is_empty();
     ensure(well_formed || untouched && run.rounds == 0, "9 leaves all")
+}
+
+/// A clock call moves a made record as it should; a damaged record gives 9 in runs and clock calls exactly
+/// if it is not well formed, and none of a start's or a post's business.
+fn record_agrees(
+    compiled: &CompiledChart,
+    timed: &Timed,
+    random: &mut Random,
+    coverage: &mut Coverage,
+) -> Found {
+    let ticks = generate::later(random, timed.clock.ticks);
+    let call = Call::Clock { ticks };
+    let answer = timed.clone().clock(Some(compiled), ticks);
+    answer_is_right(compiled, &call, timed, &answer)?;
+    count_answer(&call, timed, &answer, coverage);
+    let clock = clock_damage::damaged(&timed.clock, clock_damage::any(random), random);
+    let damaged =
+        Timed { clock: clock.unwrap_or_else(|| timed.clock.clone()), session: timed.session.clone() };
+    let well_formed = damaged.clock.is_well_formed(damaged.session.mode);
+    coverage.note(if well_formed { "damaged records still well formed" } else { "damaged records" });
+    ensure(
+        well_formed == clock_damage::is_spelt(&damaged.clock),
+        "well formed exactly if some sends spell it",
+    )?;
+    let clocked = damaged.clone().clock(Some(compiled), ticks);
+    let run = damaged.clone().run(Some(compiled), 1, 300, &mut watch_nothing);
+    ensure((clocked.number == BAD_SESSION) != well_formed, "9 exactly if not well formed")?;
+    ensure((run.number == BAD_SESSION) != well_formed, "9 exactly if not well formed")?;
+    let untouched = run.rounds == 0 && run.trace.is_empty() && run.timed() == damaged;
+    ensure(well_formed || untouched && clocked.timed() == damaged, "9 leaves all")?;
+    let started = damaged.clone().start(Some(compiled), 300, &mut watch_nothing);
+    let clean = Timed::ended().start(Some(compiled), 300, &mut watch_nothing);
+    ensure(started == clean, "a start looks at no record")?;
+    let posted = damaged.clone().post(Some(compiled), b"e");
+    ensure(posted.number != BAD_SESSION && posted.clock == damaged.clock, "posts take no clock record")
 }
 
 fn damage(session: &mut Session, rows: usize, random: &mut Random) {

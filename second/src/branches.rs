@@ -7,7 +7,7 @@ use crate::tables::Action;
 
 #[derive(Clone, PartialEq, Eq, Debug)]
 pub enum Statement {
-    /// A raise or a host action.
+    /// A raise, a host action, a send or a cancel.
     Act(Action),
     If(Vec<Branch>),
 }
@@ -43,7 +43,7 @@ impl<I: Iterator<Item = Action>> Parser<I> {
                     self.left.next();
                     statements.push(self.branches(row, open + 1)?);
                 }
-                Action::Raise(_) | Action::Host(_) => {
+                Action::Raise(_) | Action::Host(_) | Action::Send { .. } | Action::Cancel(_) => {
                     self.left.next();
                     statements.push(Statement::Act(action));
                 }

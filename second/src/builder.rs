@@ -18,6 +18,9 @@ pub enum Do<'a> {
     ElseIf(&'a str),
     Else,
     End,
+    /// The event, the delay, the send id; "" for none.
+    Send(&'a str, u32, &'a str),
+    Cancel(&'a str),
 }
 
 pub fn empty_row(kind: Kind, parent: Option<RowNumber>, id: Option<NameNumber>) -> Row {
@@ -70,6 +73,12 @@ impl Builder {
                 Do::ElseIf(id) => Action::ElseIf(self.row(id)),
                 Do::Else => Action::Else,
                 Do::End => Action::End,
+                Do::Send(event, delay, id) => Action::Send {
+                    event: self.name(event),
+                    delay: *delay,
+                    id: (!id.is_empty()).then(|| self.name(id)),
+                },
+                Do::Cancel(id) => Action::Cancel(self.name(id)),
             })
             .collect()
     }

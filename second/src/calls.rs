@@ -1,29 +1,33 @@
 //! Lists of calls, and what a whole list gives.
 
+use crate::clock::Clock;
 use crate::compiled::CompiledChart;
 use crate::limits::HISTORY_PLACES;
 use crate::numbers::RowNumber;
-use crate::session::{Answer, Session, Watcher};
+use crate::session::{Answer, Session};
+use crate::timed::{watch_nothing, Timed, Watcher};
 
 #[derive(Clone, PartialEq, Eq, Debug)]
 pub enum Call {
     Start { room: usize },
     Post { name: Vec<u8> },
+    Clock { ticks: u64 },
     Run { rounds: u32, room: usize },
 }
 
 impl Call {
-    /// Does the call on a session, under the eyes of a watcher.
-    pub fn done_on(&self, session: Session, lent: Option<&CompiledChart>, watcher: Watcher) -> Answer {
+    /// Does the call on a session with its clock record, under the eyes of a watcher.
+    pub fn done_on(&self, timed: Timed, lent: Option<&CompiledChart>, watcher: Watcher) -> Answer {
         match self {
-            Call::Start { room } => session.start_watched(lent, *room, watcher),
-            Call::Post { name } => session.post(lent, name),
-            Call::Run { rounds, room } => session.run_watched(lent, *rounds, *room, watcher),
+            Call::Start { room } => timed.start(lent, *room, watcher),
+            Call::Post { name } => timed.post(lent, name),
+            Call::Clock { ticks } => timed.clock(lent, *ticks),
+            Call::Run { rounds, room } => timed.run(lent, *rounds, *room, watcher),
         }
     }
 }
 
-/// What one call gave, as seven lists of numbers.
+/// What one call gave, as eight lists of numbers.
 #[derive(Clone, PartialEq, Eq, Debug)]
 pub struct Dump {
     pub answer_and_rounds: Vec<u64>,
@@ -33,6 +37,7 @@ pub struct Dump {
     pub internal: Vec<u64>,
     pub external: Vec<u64>,
     pub mode: Vec<u64>,
+    pub clock: Vec<u64>,
 }
 
 impl Dump {
@@ -46,10 +51,11 @@ impl Dump {
             internal: flatten_names(&session.internal.names()),
             external: flatten_names(&session.external.names()),
             mode: vec![session.mode],
+            clock: flatten_clock(&answer.clock),
         }
     }
 
-    pub fn lists(&self) -> [&Vec<u64>; 7] {
+    pub fn lists(&self) -> [&Vec<u64>; 8] {
         [
             &self.answer_and_rounds,
             &self.trace,
@@ -58,6 +64,7 @@ impl Dump {
             &self.internal,
             &self.external,
             &self.mode,
+            &self.clock,
         ]
     }
 }
@@ -85,14 +92,24 @@ fn flatten_names(names: &[Vec<u8>]) -> Vec<u64> {
     flat
 }
 
+/// The ticks, then for each pending send: its due time, its event, its id; no id has no bytes.
+fn flatten_clock(clock: &Clock) -> Vec<u64> {
+    let mut flat = vec![clock.ticks];
+    for send in clock.pending() {
+        flat.push(send.due);
+        flat.extend(flatten_names(&[send.event, send.id.unwrap_or_default()]));
+    }
+    flat
+}
+
 /// The dumps of a list of calls, from an ended session.
 pub fn dumps(compiled: &CompiledChart, calls: &[Call]) -> Vec<Dump> {
-    let mut session = Session::ended();
+    let mut timed = Timed::ended();
     let mut dumps = Vec::new();
     for call in calls {
-        let answer = call.done_on(session, Some(compiled), &mut crate::session::watch_nothing);
+        let answer = call.done_on(timed, Some(compiled), &mut watch_nothing);
         dumps.push(Dump::of(&answer));
-        session = answer.session;
+        timed = answer.timed();
     }
     dumps
 }

@@ -9,6 +9,7 @@ use crate::show;
 mod answers;
 mod by_hand;
 mod cases;
+mod clocks;
 mod input;
 mod names;
 mod near_misses;
@@ -40,6 +41,7 @@ pub fn small() -> Vec<Check> {
     checks.extend(names::checks());
     checks.extend(input::checks());
     checks.extend(answers::checks());
+    checks.extend(clocks::checks());
     checks.extend(runs::checks());
     checks.extend(readings::checks());
     checks.extend(near_misses::checks());
@@ -62,18 +64,29 @@ pub fn agreement() -> Vec<Check> {
 }
 
 /// What a great run must have met, lest it prove little.
-const MUST_HAPPEN: [&str; 35] = [
+const MUST_HAPPEN: [&str; 50] = [
     "blocks that no active row would decide otherwise",
     "blocks that the configuration after the round would decide otherwise",
     "blocks that the configuration before the round would decide otherwise",
+    "cancels",
     "candidates removed by conflicts",
     "charts of more rows than a word has bits",
+    "clock calls at 2^62",
+    "clock calls refused with 11",
+    "clock calls refused with 14",
+    "clock calls that join out of order of sending",
+    "clock calls that leave due sends pending",
+    "clock calls that stand still and join",
+    "clock calls with equal due times",
     "closing rounds",
+    "closing rounds with sends or cancels",
+    "damaged records",
     "deep histories restored",
     "default blocks not run, parent not entered",
     "default blocks run",
     "done events of parallels",
     "done events of states",
+    "full tables that a later cancel would empty",
     "histories that fell to their default lists",
     "internal transitions that stay inside",
     "listed histories restored, of a row below",
@@ -86,10 +99,14 @@ const MUST_HAPPEN: [&str; 35] = [
     "posts refused with 7",
     "rounds or starts refused with 10",
     "rounds or starts refused with 7",
+    "rounds or starts refused with 7 for the table alone",
     "rounds where Appendix D enters above the domain",
     "rounds where selection order is not number order",
     "rounds whose entry reads history of the same round",
     "rounds with several transitions",
+    "sends that a later round cancels",
+    "sends that their own round cancels",
+    "sessions that end with pending sends",
     "shallow histories restored",
     "small charts compared with brute force",
     "stored sets found right",

@@ -128,6 +128,10 @@ fn action_cells(action: Action) -> [u64; ACTION_CELLS] {
         Action::ElseIf(row) => [3, row.0 as u64, 0, 0],
         Action::Else => [4, 0, 0, 0],
         Action::End => [5, 0, 0, 0],
+        Action::Send { event, delay, id } => {
+            [6, event.0 as u64, u64::from(delay), id.map_or(NONE, |name| name.0 as u64)]
+        }
+        Action::Cancel(id) => [7, id.0 as u64, 0, 0],
     }
 }
 

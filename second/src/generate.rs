@@ -15,6 +15,10 @@ use crate::session::{Queue, Session, CLOSING, RUNNING};
 use crate::tables::{Action, Chart, Kind, Transition, TransitionType};
 use crate::tree::Tree;
 
+mod timers;
+
+pub use timers::{clock, has_sends, later, timed};
+
 /// What a chart shall be like. The percentages say how often.
 #[derive(Clone, Debug)]
 pub struct Flavour {
@@ -25,6 +29,8 @@ pub struct Flavour {
     pub blocks: usize,
     /// Blocks with many raises, for full queues.
     pub many_raises: bool,
+    /// Blocks with many sends, for full tables.
+    pub many_sends: bool,
     /// Eventless transitions without a condition, for runs that never idle.
     pub spins: bool,
     pub shape: Shape,
@@ -88,6 +94,7 @@ impl Flavour {
             finals: random.between(5, 50),
             blocks: random.between(0, 50),
             many_raises: random.chance(6),
+            many_sends: random.chance(5),
             spins: random.chance(8),
             shape: Shape::Some,
             more_transitions: 0,
@@ -104,6 +111,8 @@ const HISTORY_TRIES: usize = 6;
 /// How often a block has an if, and how many actions one with many raises has.
 const BLOCKS_WITH_IF: usize = 25;
 const MANY_RAISES: usize = 8;
+/// How often a block may hold sends and cancels, which some of these then do not.
+const BLOCKS_WITH_SENDS: usize = 30;
 
 /// The events of a generated chart are few, so that transitions meet them.
 const EVENTS: [&str; 9] = ["e", "f", "g", "e.x", "e.x.y", "f.z", "tick", "a-b_c.9", "7.up"];
@@ -113,6 +122,8 @@ pub struct Generator {
     flavour: Flavour,
     chart: Chart,
     events: Vec<&'static str>,
+    /// Whether the block that is made may hold sends and cancels.
+    sends: bool,
 }
 
 /// A well-formed chart of at least two rows and at most the flavour's.
@@ -125,6 +136,7 @@ pub fn chart(random: &mut Random, flavour: Flavour) -> Chart {
         flavour,
         chart: Chart { rows: vec![empty_row(Kind::Root, None, None)], ..Chart::default() },
         events,
+        sends: false,
     };
     generator.generate()
 }
@@ -446,10 +458,11 @@ impl Generator {
         if !allowed || !self.random.chance(self.flavour.blocks) {
             return Vec::new();
         }
+        self.sends = self.flavour.many_sends || self.random.chance(BLOCKS_WITH_SENDS);
         if self.random.chance(BLOCKS_WITH_IF) {
             return self.block_with_if(row);
         }
-        let count = match self.flavour.many_raises {
+        let count = match self.flavour.many_raises || self.flavour.many_sends {
             true => self.random.between(3, MANY_RAISES),
             false => self.random.between(1, 2),
         };
@@ -517,6 +530,9 @@ impl Generator {
     }
 
     fn action(&mut self) -> Action {
+        if let Some(timing) = self.timing() {
+            return timing;
+        }
         let raises = if self.flavour.many_raises { 80 } else { 35 };
         if self.random.chance(raises) {
             return Action::Raise(self.event());
@@ -657,16 +673,20 @@ pub struct CallMaker<'a> {
     events: Vec<Vec<u8>>,
     /// A large chart is given so many times the room.
     rooms: usize,
+    /// Whether the chart has sends, and the last clock.
+    sends: bool,
+    ticks: u64,
     calls: Vec<Call>,
 }
 
 impl<'a> CallMaker<'a> {
     pub fn new(random: &'a mut Random, chart: &Chart) -> CallMaker<'a> {
         let rooms = chart.rows.len().div_ceil(LARGE);
-        CallMaker { random, events: known_events(chart), rooms, calls: Vec::new() }
+        let (events, sends) = (known_events(chart), has_sends(chart));
+        CallMaker { random, events, rooms, sends, ticks: 0, calls: Vec::new() }
     }
 
-    /// A list of calls that mostly starts, posts and runs.
+    /// A list of calls that mostly starts, posts and runs; where the chart has sends, clock calls as well.
     pub fn calls(mut self, steps: usize) -> Vec<Call> {
         if self.random.chance(10) {
             self.step();
@@ -691,6 +711,7 @@ impl<'a> CallMaker<'a> {
             true => self.random.between(0, 6),
             false => 300 * self.rooms,
         };
+        self.ticks = 0;
         self.calls.push(Call::Start { room });
     }
 
@@ -731,11 +752,17 @@ impl<'a> CallMaker<'a> {
             2 => (0..QUEUE_NAMES + 1).for_each(|_| self.post()),
             3..=6 => self.post(),
             7..=10 => self.run(),
+            11 => self.clock(),
+            12 => self.clock_beside_full_queue(),
             _ => {
                 for _ in 0..self.random.between(1, 4) {
                     self.post();
                 }
                 self.run();
+                while self.sends && self.random.chance(60) {
+                    self.clock();
+                    self.run();
+                }
             }
         }
     }

@@ -17,6 +17,8 @@ use crate::row_set::RowSet;
 use crate::selection::{domain_for, effective_targets, Moment, Selected, StoredHistory};
 use crate::session::*;
 use crate::tables::Kind;
+use crate::timed::{watch_nothing, RoundRecord, Timed};
+use crate::timers::Timers;
 
 /// Nothing, or what was found broken.
 pub type Found = Result<(), String>;
@@ -29,12 +31,12 @@ pub fn ensure(holds: bool, what: &str) -> Found {
     }
 }
 
-/// One worked out round, with the session before it and what became of it.
+/// One worked out round, with session and clock record before it and what became of them.
 pub struct Seen<'a> {
     pub compiled: &'a CompiledChart,
-    pub before: &'a Session,
+    pub before: &'a Timed,
     pub record: &'a RoundRecord,
-    pub after: Result<&'a Session, u64>,
+    pub after: Result<&'a Timed, u64>,
 }
 
 impl Seen<'_> {
@@ -81,7 +83,8 @@ impl Seen<'_> {
 
     /// The states whose climbs end at a transition, all of them.
     fn choosers(&self, transition: TransitionNumber) -> Vec<RowNumber> {
-        let (configuration, stored) = (&self.before.configuration, StoredHistory(&self.before.stored));
+        let (configuration, stored) =
+            (&self.before.session.configuration, StoredHistory(&self.before.session.stored));
         let moment = Moment { compiled: self.compiled, configuration, stored };
         let event = match &self.record.trigger {
             Trigger::Internal(name) | Trigger::External(name) => Some(&name[..]),
@@ -113,7 +116,7 @@ impl Seen<'_> {
     }
 
     fn domain_is_right(&self, selected: &Selected, domain: RowNumber) -> Found {
-        let active = domain == ROOT || self.before.configuration.contains(domain);
+        let active = domain == ROOT || self.before.session.configuration.contains(domain);
         ensure(active, "a domain is active")?;
         ensure(!self.step().exited.contains(domain), "a domain is not exited")?;
         ensure(!selected.exit_set.is_empty(), "an exit set is not empty")?;
@@ -150,8 +153,8 @@ impl Seen<'_> {
                 && tree.is_history(row)
                 && self.step().exited.contains(tree.anchor(row));
             let expected = match owner_exited && !closing {
-                true => set_to_store(tree, &self.before.configuration, row),
-                false => self.before.stored[row.0],
+                true => set_to_store(tree, &self.before.session.configuration, row),
+                false => self.before.session.stored[row.0],
             };
             ensure(*stored == expected, "just the exited owners of histories store")?;
             ensure(!owner_exited || closing || !stored.is_empty(), "a stored set is not empty")?;
@@ -162,7 +165,7 @@ impl Seen<'_> {
     fn entries_are_right(&self) -> Found {
         let tree = &self.compiled.tree;
         let step = self.step();
-        let left = self.before.configuration.minus(&step.exited);
+        let left = self.before.session.configuration.minus(&step.exited);
         ensure(!step.entry.rows.meets(&left), "no active row is entered")?;
         ensure(step.configuration == left.union(&step.entry.rows), "exits and entries alone move")?;
         for row in step.entry.rows.rows() {
@@ -231,13 +234,13 @@ impl Seen<'_> {
         ensure(followed, "who chose a transition comes directly after it")?;
         let expected = self.moments().trace(self.kept());
         ensure(step.trace == expected, "every block reads the configuration of its moment")?;
-        let silent = step.trace.is_empty() && step.queued.is_empty();
+        let silent = step.trace.is_empty() && step.queued.is_empty() && step.timings.is_empty();
         ensure(!self.kept().is_empty() || self.is_special() || silent, "a drop is silent")?;
         self.queued_is_right()
     }
 
     fn moments(&self) -> Moments<'_> {
-        Moments { compiled: self.compiled, before: &self.before.configuration, step: self.step() }
+        Moments { compiled: self.compiled, before: &self.before.session.configuration, step: self.step() }
     }
 
     /// A done event comes at most once a row; every raise and done event is queued, in order.
@@ -265,20 +268,25 @@ impl Seen<'_> {
 
     fn internal_length_after(&self) -> usize {
         let taken = usize::from(matches!(self.record.trigger, Trigger::Internal(_)));
-        self.before.internal.count as usize - taken + self.step().queued.len()
+        self.before.session.internal.count as usize - taken + self.step().queued.len()
     }
 
     fn overflows(&self) -> bool {
-        self.record.trigger != Trigger::Closing && self.internal_length_after() > QUEUE_NAMES
+        let closing = self.record.trigger == Trigger::Closing;
+        !closing && (self.internal_length_after() > QUEUE_NAMES || self.timers().is_full())
+    }
+
+    fn timers(&self) -> Timers<'_> {
+        Timers { chart: &self.compiled.chart, before: &self.before.clock, step: self.step() }
     }
 
     /// 7 before 10, whatever the trace room.
     fn judged_right(&self) -> Found {
         match self.after {
-            Err(QUEUE_FULL) => ensure(self.overflows(), "7 is given for a full queue alone"),
+            Err(QUEUE_FULL) => ensure(self.overflows(), "7 is given for a full queue or table alone"),
             Err(NO_TRACE_ROOM) => ensure(!self.overflows(), "7 comes before 10"),
             Err(_) => Err("a round is refused with 7 or 10 alone".to_string()),
-            Ok(_) => ensure(!self.overflows(), "a full queue is refused"),
+            Ok(_) => ensure(!self.overflows(), "a full queue or table is refused"),
         }
     }
 
@@ -286,12 +294,14 @@ impl Seen<'_> {
         let tree = &self.compiled.tree;
         let configuration = &self.step().configuration;
         if self.record.trigger == Trigger::Closing {
-            ensure(self.before.configuration.len() == 1, "a closing session has one active row")?;
+            ensure(self.before.session.configuration.len() == 1, "a closing session has one active row")?;
         } else {
             ensure(is_legal(tree, configuration), "legality is preserved")?;
         }
         let Ok(after) = self.after else { return Ok(()) };
-        ensure(after.is_well_formed(self.compiled), "the session stays well formed")?;
+        ensure(after.is_well_formed(self.compiled), "session and record stay well formed")?;
+        self.timers().left_right(self.record.trigger == Trigger::Closing, &after.clock)?;
+        let after = &after.session;
         let done = after.configuration.rows().any(|row| tree.is_final_under_root(row));
         ensure((after.mode == CLOSING) == done, "closing exactly if a final under root is active")?;
         ensure((after.mode == ENDED) == after.configuration.is_empty(), "ended exactly if nothing is active")
@@ -306,7 +316,7 @@ impl Seen<'_> {
         let mut order: Vec<&Selected> = self.kept().iter().collect();
         for _ in 0..if order.len() > 1 { 3 } else { 1 } {
             random.shuffle(&mut order);
-            let (configuration, stored) = apply_one_by_one(self.compiled, self.before, &order);
+            let (configuration, stored) = apply_one_by_one(self.compiled, &self.before.session, &order);
             let same = configuration == self.step().configuration && stored == self.step().stored;
             ensure(same, "one by one in any order gives the round's result")?;
         }
@@ -321,11 +331,12 @@ impl Seen<'_> {
         self.count_listed_histories(coverage);
         self.count_entries(coverage);
         self.count_blocks(coverage);
+        self.timers().count(self.record.trigger == Trigger::Closing, coverage);
     }
 
     /// Blocks with conditions, and those that another moment would decide otherwise.
     fn count_blocks(&self, coverage: &mut Coverage) {
-        let (before, after) = (&self.before.configuration, &self.step().configuration);
+        let (before, after) = (&self.before.session.configuration, &self.step().configuration);
         for (block, active) in self.moments().blocks(self.kept()) {
             coverage.note_if("blocks run", !block.is_empty());
             if conditions(block).next().is_none() {
@@ -358,6 +369,9 @@ impl Seen<'_> {
         let entered_closing = self.step().closing && self.after.is_ok();
         coverage.note_if("rounds or starts that set closing", entered_closing);
         coverage.note_if("rounds that set closing refused with 7", self.step().closing && self.overflows());
+        let for_table = self.after == Err(QUEUE_FULL) && self.timers().is_full();
+        let no_queue = self.internal_length_after() <= QUEUE_NAMES;
+        coverage.note_if("rounds or starts refused with 7 for the table alone", for_table && no_queue);
     }
 
     fn count_selection(&self, coverage: &mut Coverage) {
@@ -436,7 +450,7 @@ impl Seen<'_> {
                     (false, true) => "listed histories restored, of the owner",
                     (false, false) => "listed histories restored, of a row below",
                 });
-                let moved = self.before.stored[history.0] != step.stored[history.0];
+                let moved = self.before.session.stored[history.0] != step.stored[history.0];
                 coverage.note_if("listed histories that the same round stored", moved);
             }
         }
@@ -453,7 +467,7 @@ impl Seen<'_> {
                 });
             }
         }
-        let late = plan_entries(self.compiled, StoredHistory(&self.before.stored), self.kept());
+        let late = plan_entries(self.compiled, StoredHistory(&self.before.session.stored), self.kept());
         let moved = !self.is_special() && late.rows != self.step().entry.rows;
         coverage.note_if("rounds whose entry reads history of the same round", moved);
     }
@@ -506,7 +520,7 @@ fn apply_one_by_one(
 /// "a run of a and then of b (b at least 1) is a run of a + b", with the trace room passed on.
 pub fn run_splits(
     compiled: &CompiledChart,
-    session: &Session,
+    timed: &Timed,
     rounds: u32,
     room: usize,
     whole: &Answer,
@@ -517,10 +531,11 @@ pub fn run_splits(
     }
     let most = rounds.min(whole.rounds.saturating_add(2));
     let first = random.below(most as usize) as u32;
-    let begun = session.clone().run(Some(compiled), first, room);
+    let begun = timed.clone().run(Some(compiled), first, room, &mut watch_nothing);
     let left = room - begun.trace.len();
-    let rest = begun.session.clone().run(Some(compiled), rounds - first, left);
+    let rest = begun.clone().timed().run(Some(compiled), rounds - first, left, &mut watch_nothing);
     let same = rest.session == whole.session
+        && rest.clock == whole.clock
         && rest.number == whole.number
         && begun.rounds + rest.rounds == whole.rounds
         && [begun.trace, rest.trace].concat() == whole.trace;

@@ -1,5 +1,5 @@
 //! Every limit, in one place, so that a larger chart is a change of this file. Document 01 has them but
-//! for the first three, which are request R-8's, and those of blocks, which are R-5's.
+//! for the first three, which are request R-8's, those of blocks, which are R-5's, and the clock's, which are R-9's.
 
 /// "Raise rows to 256, transitions to 512 and name slots to 768."
 pub const MAX_ROWS: u64 = 256;
@@ -31,10 +31,12 @@ pub const REFERENCE_CELLS: usize = 1;
 pub const DESCRIPTOR_CELLS: usize = 1;
 pub const ACTION_CELLS: usize = 4;
 
-/// Spells "none" in the columns parent, id and condition.
+/// Spells "none" in the columns parent, id, condition and send id.
 pub const NONE: u64 = 65_535;
 /// "host action 0 to 65,535".
 pub const MAX_HOST_ACTION: u64 = 65_535;
+/// "delay 0 to 4,294,967,295 ticks".
+pub const MAX_DELAY: u64 = 4_294_967_295;
 
 /// "name slots of 64 bytes. A name has 1 to 63 bytes".
 pub const SLOT_BYTES: usize = 64;
@@ -65,5 +67,9 @@ pub const MAX_COMPILED: usize = MAX_NUMBERS
 
 /// "an internal and an external queue of at most 32 names each".
 pub const QUEUE_NAMES: usize = 32;
+/// "At most 32 are pending."
+pub const MAX_PENDING: usize = 32;
+/// "The host gives the clock, ticks up to 2^62".
+pub const MAX_TICKS: u64 = 1 << 62;
 /// A session keeps a place for stored history for as many rows as a row set can hold.
 pub const HISTORY_PLACES: usize = ROW_SET_ROWS;

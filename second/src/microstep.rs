@@ -2,13 +2,14 @@
 //! refuses; the round is worked out to its end and judged by the session afterwards.
 
 use crate::branches::{done, parse};
+use crate::clock::Timing;
 use crate::compiled::CompiledChart;
 use crate::legal::set_to_store;
 use crate::names::done_name;
 use crate::numbers::{NameNumber, RowNumber, TransitionNumber, ROOT};
 use crate::row_set::RowSet;
 use crate::selection::{effective_targets, Remembered, Selected, StoredHistory};
-use crate::tables::{Action, Kind};
+use crate::tables::{Action, Chart, Kind};
 
 /// "Trace entries are 32-bit numbers, kind × 65,536 + index".
 #[derive(Clone, Copy, PartialEq, Eq, Debug)]
@@ -20,6 +21,8 @@ pub enum TraceEntry {
     Raised(NameNumber),
     Done(RowNumber),
     Chooser(RowNumber),
+    Sent(NameNumber),
+    Cancelled(NameNumber),
 }
 
 impl TraceEntry {
@@ -32,6 +35,8 @@ impl TraceEntry {
             TraceEntry::Raised(name) => (5, name.0 as u32),
             TraceEntry::Done(row) => (6, row.0 as u32),
             TraceEntry::Chooser(row) => (7, row.0 as u32),
+            TraceEntry::Sent(event) => (8, event.0 as u32),
+            TraceEntry::Cancelled(id) => (9, id.0 as u32),
         }
     }
 
@@ -58,6 +63,8 @@ pub struct Step {
     pub stored: Vec<RowSet>,
     /// Names that join the internal queue, oldest first.
     pub queued: Vec<Vec<u8>>,
+    /// Sends and cancels, in the order in which their blocks ran.
+    pub timings: Vec<Timing>,
     pub trace: Vec<TraceEntry>,
     pub closing: bool,
     pub exited: RowSet,
@@ -70,6 +77,7 @@ impl Step {
             configuration,
             stored: stored.to_vec(),
             queued: Vec::new(),
+            timings: Vec::new(),
             trace: Vec::new(),
             closing: false,
             exited: RowSet::EMPTY,
@@ -142,9 +150,24 @@ impl Step {
                     self.queued.push(compiled.chart.name(name).to_vec());
                 }
                 Action::Host(number) => self.trace.push(TraceEntry::Host(number)),
-                _ => unreachable!("only raises and host actions are done"),
+                Action::Send { event, delay, id } => self.send(&compiled.chart, event, delay, id),
+                Action::Cancel(id) => {
+                    self.trace.push(TraceEntry::Cancelled(id));
+                    self.timings.push(Timing::Cancel { id: compiled.chart.name(id).to_vec() });
+                }
+                _ => unreachable!("no part of an if is done"),
             }
         }
+    }
+
+    /// "The trace shows a send as kind 8 and a cancel as kind 9, each with its name's number" (R-9).
+    fn send(&mut self, chart: &Chart, event: NameNumber, delay: u32, id: Option<NameNumber>) {
+        self.trace.push(TraceEntry::Sent(event));
+        self.timings.push(Timing::Send {
+            event: chart.name(event).to_vec(),
+            delay: u64::from(delay),
+            id: id.map(|id| chart.name(id).to_vec()),
+        });
     }
 
     /// "Entry in document order: entry block; initial block, if its child came by default; default

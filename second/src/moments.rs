@@ -40,7 +40,9 @@ fn entries(block: &[Action], configuration: &RowSet) -> Vec<TraceEntry> {
             Action::End => drop(open.pop()),
             Action::Raise(name) if outside => shown.push(TraceEntry::Raised(name)),
             Action::Host(number) if outside => shown.push(TraceEntry::Host(number)),
-            Action::Raise(_) | Action::Host(_) => {}
+            Action::Send { event, .. } if outside => shown.push(TraceEntry::Sent(event)),
+            Action::Cancel(id) if outside => shown.push(TraceEntry::Cancelled(id)),
+            Action::Raise(_) | Action::Host(_) | Action::Send { .. } | Action::Cancel(_) => {}
         }
     }
     shown

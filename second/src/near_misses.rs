@@ -271,6 +271,7 @@ macro_rules! chart {
 mod branches;
 mod listed_histories;
 mod spinning;
+mod timers;
 
 /// Every kind of near miss that is refused.
 pub fn all() -> Vec<NearMiss> {
@@ -280,12 +281,13 @@ pub fn all() -> Vec<NearMiss> {
     kinds.extend(spinning::refused());
     kinds.extend(listed_histories::refused());
     kinds.extend(branches::refused());
+    kinds.extend(timers::refused());
     kinds
 }
 
 /// Every kind that comes next to a refused one and is accepted.
 pub fn accepted() -> Vec<NearMiss> {
-    [spinning::accepted(), listed_histories::accepted(), branches::accepted()].concat()
+    [spinning::accepted(), listed_histories::accepted(), branches::accepted(), timers::accepted()].concat()
 }
 
 fn sizes() -> Vec<NearMiss> {
@@ -505,7 +507,6 @@ fn numbers_out_of_range() -> Vec<NearMiss> {
             let lines = lent.counts().descriptors as u64 + 1;
             lent.lengthen(Table::Descriptors, lines, &[slots])
         }),
-        tables!("action 6", 1, |lent, random| lent.set_in_some(random, Table::Actions, 0, 6)),
         tables!("unused raise past the slots", 1, |lent, _| {
             let slots = lent.counts().slots as u64;
             let lines = lent.counts().actions as u64 + 1;
@@ -518,9 +519,6 @@ fn numbers_out_of_range() -> Vec<NearMiss> {
         tables!("action argument past all", 1, |lent, random| {
             lent.set_in_some(random, Table::Actions, 1, 65_536)
         }),
-        tables!("delay 1", 1, |lent, random| lent.set_in_some(random, Table::Actions, 2, 1)),
-        tables!("send id 1", 1, |lent, random| lent.set_in_some(random, Table::Actions, 3, 1)),
-        tables!("send id none", 1, |lent, random| lent.set_in_some(random, Table::Actions, 3, NONE)),
     ]
 }
 

@@ -20,6 +20,10 @@ pub fn post(name: &str) -> Call {
     Call::Post { name: name.as_bytes().to_vec() }
 }
 
+pub fn clock(ticks: u64) -> Call {
+    Call::Clock { ticks }
+}
+
 pub fn run(rounds: u32) -> Call {
     Call::Run { rounds, room: ROOM }
 }

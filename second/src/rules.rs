@@ -4,7 +4,7 @@
 use crate::branches::{conditions, parse};
 use crate::limits::*;
 use crate::names::{slot_holds_descriptor, slot_holds_id, slot_holds_name};
-use crate::numbers::{RowNumber, ROOT};
+use crate::numbers::{NameNumber, RowNumber, ROOT};
 use crate::tables::{Action, Chart, Kind, RawAction, RawRow, RawTransition, Span, Tables};
 use crate::tree::Tree;
 use std::collections::HashSet;
@@ -92,31 +92,38 @@ fn transition_is_sized(tables: &Tables, transition: RawTransition) -> bool {
         && block_is_sized(tables, transition.block)
 }
 
-/// The delay and the send id are kept for a later action and are 0 until then.
+/// The delay and the send id are 0 but in a send (R-9), which may have no send id.
 fn action_is_sized(tables: &Tables, action: RawAction) -> bool {
     let argument_fits = match action.what {
         0 => action.argument < tables.counts.slots as u64,
         1 => action.argument <= MAX_HOST_ACTION,
         2 | 3 => action.argument < tables.counts.rows as u64,
         4 | 5 => action.argument == 0,
+        6 | 7 => action.argument < tables.counts.slots as u64,
         _ => false,
     };
-    argument_fits && action.delay == 0 && action.send_id == 0
+    let others_fit = match action.what {
+        6 => action.delay <= MAX_DELAY && is_none_or_below(action.send_id, tables.counts.slots),
+        _ => action.delay == 0 && action.send_id == 0,
+    };
+    argument_fits && others_fit
 }
 
 // Rule 2
 
-/// "every slot, used or not, a name or descriptor, ids and raises names." A raise counts whether
-/// a block holds it or not.
+/// "every slot, used or not, a name or descriptor, ids and raises names." Of sends and cancels "their
+/// events and send ids are names, as raises are" (R-9). An action counts whether a block holds it or not.
 fn names_are_good(tables: &Tables, chart: &Chart) -> bool {
     chart.names.iter().all(|slot| slot_holds_descriptor(slot))
-        && (0..tables.counts.actions).all(|action| raise_is_good(chart, tables.decode_action(action)))
+        && (0..tables.counts.actions).all(|action| action_is_named(chart, tables.decode_action(action)))
         && ids_are_good(chart)
 }
 
-fn raise_is_good(chart: &Chart, action: Action) -> bool {
+fn action_is_named(chart: &Chart, action: Action) -> bool {
+    let is_named = |name: NameNumber| slot_holds_name(&chart.names[name.0]);
     match action {
-        Action::Raise(name) => slot_holds_name(&chart.names[name.0]),
+        Action::Raise(name) | Action::Cancel(name) => is_named(name),
+        Action::Send { event, id, .. } => is_named(event) && id.is_none_or(is_named),
         _ => true,
     }
 }

@@ -1,13 +1,14 @@
-//! A session and its calls: start, post and run, with the answers of "Calls and answers".
+//! A session, what is chosen for its next round, and posts, with the answers of "Calls and answers".
 
+use crate::clock::Clock;
 use crate::compiled::CompiledChart;
 use crate::legal::{can_be_stored, is_legal};
 use crate::limits::{HISTORY_PLACES, QUEUE_NAMES};
-use crate::microstep::{Step, TraceEntry};
 use crate::names::{is_name, slot_holds_name, slot_of, text_of, Slot, EMPTY_SLOT};
 use crate::numbers::RowNumber;
 use crate::row_set::RowSet;
 use crate::selection::{Moment, Selection, StoredHistory};
+use crate::timed::{watch_nothing, RoundRecord, Timed};
 
 pub const ENDED: u64 = 0;
 pub const RUNNING: u64 = 1;
@@ -20,6 +21,7 @@ pub const BAD_COMPILED_CHART: u64 = 8;
 pub const BAD_SESSION: u64 = 9;
 pub const NO_TRACE_ROOM: u64 = 10;
 pub const SESSION_ENDED: u64 = 11;
+pub const BAD_TICKS: u64 = 14;
 
 pub const STATUS_MORE: u64 = 100;
 pub const STATUS_IDLE: u64 = 101;
@@ -73,11 +75,13 @@ pub struct Session {
     pub mode: u64,
 }
 
-/// A session after a call, with what the call answered and wrote.
+/// A session and a clock record after a call, with what the call answered and wrote. "posts take no clock
+/// record" (R-9): a new one stands here for theirs.
 #[derive(Clone, PartialEq, Eq, Debug)]
 pub struct Answer {
     pub session: Session,
-    /// The answer of a start or a post, the status of a run.
+    pub clock: Clock,
+    /// The answer of a start, a post or a clock call, the status of a run.
     pub number: u64,
     pub rounds: u32,
     pub trace: Vec<u32>,
@@ -92,20 +96,6 @@ pub enum Trigger {
     Closing,
     Start,
 }
-
-/// All that one round did, before it was judged, for whoever watches.
-#[derive(Clone, PartialEq, Eq, Debug)]
-pub struct RoundRecord {
-    pub trigger: Trigger,
-    pub selection: Selection,
-    pub step: Step,
-}
-
-/// Sees each worked out round: the session before, what was done, and the session after or the
-/// refusal.
-pub type Watcher<'a> = &'a mut dyn FnMut(&Session, &RoundRecord, Result<&Session, u64>);
-
-pub fn watch_nothing(_: &Session, _: &RoundRecord, _: Result<&Session, u64>) {}
 
 impl Session {
     /// An ended session that stores nothing, spelt with zeros throughout.
@@ -148,28 +138,17 @@ impl Session {
     }
 
     fn answer(self, number: u64) -> Answer {
-        Answer { session: self, number, rounds: 0, trace: Vec::new() }
+        Answer { session: self, clock: Clock::NEW, number, rounds: 0, trace: Vec::new() }
     }
 
-    /// Start. It "ignores its session". "Whatever the table says of the session, a refused start
-    /// (7, 8, 10) hands back an ended session with no stored history and an unchanged trace."
+    /// Start, which "ignores its session" and its clock record.
     pub fn start(self, lent: Option<&CompiledChart>, room: usize) -> Answer {
-        self.start_watched(lent, room, &mut watch_nothing)
+        Timed::of(self).start(lent, room, &mut watch_nothing)
     }
 
-    pub fn start_watched(self, lent: Option<&CompiledChart>, room: usize, watcher: Watcher) -> Answer {
-        let Some(compiled) = lent else {
-            return Session::ended().answer(BAD_COMPILED_CHART);
-        };
-        let empty = Session { mode: RUNNING, ..Session::ended() };
-        let step = Step::from(empty.configuration, &empty.stored).start(compiled);
-        let record = RoundRecord { trigger: Trigger::Start, selection: Selection::default(), step };
-        let judged = empty.judge(&record, room);
-        watcher(&empty, &record, judged.as_ref().map_err(|&refusal| refusal));
-        match judged {
-            Ok(session) => Answer { trace: numbers_of(&record.step.trace), ..session.answer(ACCEPTED) },
-            Err(refusal) => Session::ended().answer(refusal),
-        }
+    /// Run, beside a new clock record.
+    pub fn run(self, lent: Option<&CompiledChart>, rounds: u32, room: usize) -> Answer {
+        Timed::of(self).run(lent, rounds, room, &mut watch_nothing)
     }
 
     /// Post. "Order: 8, 9, 6, 11, 7, 10."
@@ -194,55 +173,6 @@ impl Session {
         }
     }
 
-    /// Run. "It stops when that number is done, or earlier at idle, ended or a refused round."
-    pub fn run(self, lent: Option<&CompiledChart>, rounds: u32, room: usize) -> Answer {
-        self.run_watched(lent, rounds, room, &mut watch_nothing)
-    }
-
-    pub fn run_watched(
-        self,
-        lent: Option<&CompiledChart>,
-        rounds: u32,
-        room: usize,
-        watcher: Watcher,
-    ) -> Answer {
-        let Some(compiled) = lent else {
-            return self.answer(BAD_COMPILED_CHART);
-        };
-        if !self.is_well_formed(compiled) {
-            return self.answer(BAD_SESSION);
-        }
-        let mut answer = self.answer(ACCEPTED);
-        let mut refusal = None;
-        while answer.rounds < rounds && refusal.is_none() {
-            let Some(record) = answer.session.work_out_round(compiled) else { break };
-            let judged = answer.session.judge(&record, room - answer.trace.len());
-            watcher(&answer.session, &record, judged.as_ref().map_err(|&refusal| refusal));
-            match judged {
-                Ok(session) => {
-                    answer.session = session;
-                    answer.rounds += 1;
-                    answer.trace.extend(numbers_of(&record.step.trace));
-                }
-                Err(number) => refusal = Some(number),
-            }
-        }
-        answer.number = answer.session.status(compiled, refusal);
-        answer
-    }
-
-    /// "Its status: ... ended; else idle if running with nothing left to choose; else the refusal,
-    /// if fewer were done than asked; else more."
-    fn status(&self, compiled: &CompiledChart, refusal: Option<u64>) -> u64 {
-        if self.mode == ENDED {
-            STATUS_ENDED
-        } else if self.is_idle(compiled) {
-            STATUS_IDLE
-        } else {
-            refusal.unwrap_or(STATUS_MORE)
-        }
-    }
-
     /// A closing session is never idle: it still has its last round.
     pub fn is_idle(&self, compiled: &CompiledChart) -> bool {
         self.mode == RUNNING && self.choose(compiled).is_none()
@@ -254,7 +184,7 @@ impl Session {
 
     /// "eventless transitions (no descriptor) first. If none is selected, the oldest internal
     /// event; if there is none, the oldest external event; if there is none, the session is idle."
-    fn choose(&self, compiled: &CompiledChart) -> Option<(Trigger, Selection)> {
+    pub fn choose(&self, compiled: &CompiledChart) -> Option<(Trigger, Selection)> {
         let moment = self.moment(compiled);
         let eventless = moment.select(None);
         if !eventless.kept.is_empty() {
@@ -268,38 +198,8 @@ impl Session {
         Some((Trigger::External(name.clone()), moment.select(Some(name))))
     }
 
-    /// The next round, worked out to its end; nothing if the session is ended or idle.
-    fn work_out_round(&self, compiled: &CompiledChart) -> Option<RoundRecord> {
-        let step = Step::from(self.configuration, &self.stored);
-        match self.mode {
-            RUNNING => {
-                let (trigger, selection) = self.choose(compiled)?;
-                let step = step.take(compiled, &selection.kept);
-                Some(RoundRecord { trigger, selection, step })
-            }
-            CLOSING => Some(RoundRecord {
-                trigger: Trigger::Closing,
-                selection: Selection::default(),
-                step: step.close(compiled),
-            }),
-            _ => None,
-        }
-    }
-
-    /// The session after the round, or its refusal. A full queue is told before a full trace.
-    fn judge(&self, record: &RoundRecord, room: usize) -> Result<Session, u64> {
-        let session = match record.trigger {
-            Trigger::Closing => Session { stored: self.stored.clone(), ..Session::ended() },
-            _ => self.after(record).ok_or(QUEUE_FULL)?,
-        };
-        if record.step.trace.len() > room {
-            return Err(NO_TRACE_ROOM);
-        }
-        Ok(session)
-    }
-
     /// "A taken event leaves the internal queue before new ones join."
-    fn after(&self, record: &RoundRecord) -> Option<Session> {
+    pub fn after(&self, record: &RoundRecord) -> Option<Session> {
         let mut internal = self.internal.names();
         let mut external = self.external.names();
         match record.trigger {
@@ -316,8 +216,4 @@ impl Session {
             mode: if record.step.closing { CLOSING } else { RUNNING },
         })
     }
-}
-
-fn numbers_of(trace: &[TraceEntry]) -> Vec<u32> {
-    trace.iter().map(|entry| entry.number()).collect()
 }

@@ -20,6 +20,11 @@ fn block(chart: &Chart, actions: &[Action]) -> String {
         Action::ElseIf(row) => format!("elseif In({})", row.0),
         Action::Else => "else".to_string(),
         Action::End => "end".to_string(),
+        Action::Send { event, delay, id } => {
+            let id = id.map_or(String::new(), |id| format!(" as {}", text(chart.name(id))));
+            format!("send {} in {delay}{id}", text(chart.name(*event)))
+        }
+        Action::Cancel(id) => format!("cancel {}", text(chart.name(*id))),
     };
     actions.iter().map(one).collect::<Vec<_>>().join(", ")
 }
@@ -73,6 +78,7 @@ pub fn calls(calls: &[Call]) -> String {
     let one = |call: &Call| match call {
         Call::Start { room } => format!("start in {room}"),
         Call::Post { name } => format!("post {:?}", text(name)),
+        Call::Clock { ticks } => format!("clock {ticks}"),
         Call::Run { rounds, room } => format!("run {rounds} in {room}"),
     };
     calls.iter().map(one).collect::<Vec<_>>().join("; ")

@@ -37,8 +37,9 @@ pub enum TransitionType {
     Internal,
 }
 
-/// "raise a named event, or host action 0 to 65,535", and those of R-5: if and elseif "with In as the
-/// condition", else, and the end of an if.
+/// "raise a named event, or host action 0 to 65,535"; those of R-5: if and elseif "with In as the
+/// condition", else, and the end of an if; those of R-9: "send (event, delay 0 to 4,294,967,295 ticks,
+/// optional send id) and cancel (send id)".
 #[derive(Clone, Copy, PartialEq, Eq, Debug)]
 pub enum Action {
     Raise(NameNumber),
@@ -47,6 +48,15 @@ pub enum Action {
     ElseIf(RowNumber),
     Else,
     End,
+    Send { event: NameNumber, delay: u32, id: Option<NameNumber> },
+    Cancel(NameNumber),
+}
+
+impl Action {
+    /// Whether it stands for itself, and not for a part of an if.
+    pub fn is_plain(self) -> bool {
+        matches!(self, Action::Raise(_) | Action::Host(_) | Action::Send { .. } | Action::Cancel(_))
+    }
 }
 
 #[derive(Clone, PartialEq, Eq, Debug)]
@@ -324,7 +334,7 @@ impl<'a> Tables<'a> {
         Row {
             kind: Kind::from_number(raw.kind).expect("rule 1 bounds the kind"),
             parent: some_row(raw.parent),
-            id: (raw.id != NONE).then_some(NameNumber(raw.id as usize)),
+            id: some_name(raw.id),
             entry: self.decode_block(raw.entry),
             exit: self.decode_block(raw.exit),
             list: self.decode_rows(raw.list),
@@ -364,7 +374,13 @@ impl<'a> Tables<'a> {
             2 => Action::If(RowNumber(raw.argument as usize)),
             3 => Action::ElseIf(RowNumber(raw.argument as usize)),
             4 => Action::Else,
-            _ => Action::End,
+            5 => Action::End,
+            6 => Action::Send {
+                event: NameNumber(raw.argument as usize),
+                delay: raw.delay as u32,
+                id: some_name(raw.send_id),
+            },
+            _ => Action::Cancel(NameNumber(raw.argument as usize)),
         }
     }
 
@@ -381,4 +397,8 @@ fn range(span: Span) -> std::ops::Range<usize> {
 
 fn some_row(number: u64) -> Option<RowNumber> {
     (number != NONE).then_some(RowNumber(number as usize))
+}
+
+fn some_name(number: u64) -> Option<NameNumber> {
+    (number != NONE).then_some(NameNumber(number as usize))
 }

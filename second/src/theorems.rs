@@ -15,6 +15,7 @@ use crate::near_misses::sample;
 use crate::places::{self, LentPlaces, Opened};
 use crate::random::Random;
 use crate::readings;
+use crate::records::{self, RecordExample};
 use crate::rules::Place;
 use crate::session::{CLOSING, ENDED};
 use crate::worked;
@@ -35,9 +36,10 @@ use Rattle.definition.specs.declared.Mode.{Mode}
 use Rattle.definition.specs.declared.Mode.the-variants.{Running, Closing, Ended}
 use Rattle.definition.specs.Tables.{slotOf}
 use Rattle.follower.specs.Follower.{Follower}
-use Rattle.follower.specs.Calls.{starts, posts, runs}
+use Rattle.follower.specs.Clock.{Timer, Clock}
+use Rattle.follower.specs.Calls.{starts, posts, clocks, runs}
 use Rattle.follower.specs.Open.{everything}
-use Rattle.examples.specs.Play.{joined, historyShown, queueShown, shown, playedIf, played, judged, countsKept, compiledSets, opens, fits, alike}
+use Rattle.examples.specs.Play.{joined, historyShown, queueShown, pendingShown, shown, playedIf, played, judged, countsKept, compiledSets, opens, fits, timer, recordFits, alike}
 ";
 
 /// How many played charts are written, and how many to a module.
@@ -69,6 +71,7 @@ pub fn modules() -> Vec<Module> {
     modules.push(sets_module());
     modules.push(places_module());
     modules.push(sessions_module());
+    modules.push(records_module());
     modules
 }
 
@@ -194,6 +197,13 @@ fn sessions_module() -> Module {
     module("Sessions", "Sessions that are well formed, and such that are not.", &theorems)
 }
 
+fn records_module() -> Module {
+    let records = records::examples();
+    let theorems: Vec<String> =
+        records.iter().enumerate().map(|(place, example)| record_theorem(place + 1, example)).collect();
+    module("Records", "Clock records that are well formed, and such that are not.", &theorems)
+}
+
 fn places_module() -> Module {
     let chart = places::small_chart();
     let mut theorems =
@@ -262,6 +272,7 @@ fn call(call: &Call) -> String {
     match call {
         Call::Start { room } => format!("starts {room}"),
         Call::Post { name } => format!("posts {}", bracketed(name)),
+        Call::Clock { ticks } => format!("clocks {ticks}"),
         Call::Run { rounds, room } => format!("runs {rounds} {room}"),
     }
 }
@@ -276,7 +287,7 @@ fn played(number: usize, example: &Example) -> String {
     let calls = in_brackets(&list(example.calls.iter().map(call)));
     format!(
         "-- {}\n{}\n{}\nexample-{number:03} : alike (played numbers-{number:03} names-{number:03} {calls}) ({}) ≡ true\n\
-         unfolding everything joined historyShown queueShown shown playedIf played alike\n\
+         unfolding everything joined historyShown queueShown pendingShown shown playedIf played alike\n\
          example-{number:03} = refl\n",
         example.about,
         numbers_definition(number, &example.spelt),
@@ -327,13 +338,17 @@ fn opens(number: usize, example: &Opened) -> String {
     )
 }
 
-fn session_theorem(number: usize, chart: usize, example: &SessionExample) -> String {
-    let session = &example.session;
-    let mode = match session.mode {
+fn mode_word(mode: u64) -> &'static str {
+    match mode {
         ENDED => "Ended",
         CLOSING => "Closing",
         _ => "Running",
-    };
+    }
+}
+
+fn session_theorem(number: usize, chart: usize, example: &SessionExample) -> String {
+    let session = &example.session;
+    let mode = mode_word(session.mode);
     let names = |queue: &[Vec<u8>]| list(queue.iter().map(bracketed));
     let record = format!(
         "record {{\n  configuration = {};\n  history = {};\n  internal = {};\n  external = {};\n  mode = {mode};\n}}",
@@ -346,5 +361,20 @@ fn session_theorem(number: usize, chart: usize, example: &SessionExample) -> Str
         "-- {}\nsession-{number:03} : fits numbers-{chart:03} ({record}) ≡ {}\n\
          unfolding everything fits\nsession-{number:03} = refl\n",
         example.about, example.fits,
+    )
+}
+
+fn record_theorem(number: usize, example: &RecordExample) -> String {
+    let send = |send: &records::ListedSend| {
+        format!("timer {} {} {}", send.due, bracketed(&send.event), bracketed(&send.id))
+    };
+    let pending = bracketed(example.record.pending.iter().map(send));
+    format!(
+        "-- {}\nrecord-{number:03} : recordFits {} {} {pending} ≡ {}\n\
+         unfolding everything recordFits\nrecord-{number:03} = refl\n",
+        example.about,
+        mode_word(example.mode),
+        example.record.ticks,
+        example.fits,
     )
 }

@@ -8,7 +8,6 @@ static uint8_t name_place[AUTTERVIL_NAMES_BYTES(3)];
 static auttervil_session session;
 static uint32_t trace[32];
 static auttervil_call calls[1];
-static auttervil_result results[1];
 static const char text[] = "<scxml><state id='off'/></scxml>";
 static char message[AUTTERVIL_MESSAGE_BYTES];
 static auttervil_scratch scratch;
@@ -44,6 +43,8 @@ uint64_t play(void)
     (void)auttervil_post_text(&session, &compiled.chart, "push");
     (void)auttervil_run(&session, &compiled.chart, 10, trace, 32);
     calls[0] = auttervil_call_start(32);
-    (void)auttervil_perform(&session, &compiled.chart, calls, 1, NULL, 0, results, trace, 32);
+    (void)auttervil_perform(&session, &compiled.chart, calls, 1, NULL, 0, trace, 32);
+    if (auttervil_next_due(&session) != AUTTERVIL_NEVER)
+        (void)auttervil_advance(&session, &compiled.chart, auttervil_next_due(&session));
     return auttervil_find_row(&compiled.chart, "on") + (uint64_t)auttervil_is_active(&session, 2);
 }

@@ -250,7 +250,7 @@ static void endless_loop(void)
 
 static void versions(void)
 {
-    CHECK(AUTTERVIL_ABI_VERSION == 2 && auttervil_raw2_version() == AUTTERVIL_ABI_VERSION && auttervil_is_compatible());
+    CHECK(AUTTERVIL_ABI_VERSION == 3 && auttervil_raw3_version() == AUTTERVIL_ABI_VERSION && auttervil_is_compatible());
 }
 
 /* Equal for equal bytes, wherever they lie; another chart has another, here at least. */
@@ -355,8 +355,8 @@ static void reading(void)
             unknown++;
         else
             CHECK(number < 200 || auttervil_strstatus(number) == auttervil_strplace(number));
-    /* 0 to 13 and three statuses; 40 of lent places. */
-    CHECK(unknown == 400 - 17 - 40);
+    /* 0 to 14 and three statuses; 36 of lent places. */
+    CHECK(unknown == 400 - 18 - 36);
     CHECK(auttervil_strplace(199) == NULL && auttervil_strplace(AUTTERVIL_NO_ROOM) == NULL);
     CHECK(strcmp(auttervil_strstatus(AUTTERVIL_SESSION_MISALIGNED), "the session is misaligned") == 0);
     CHECK(strcmp(auttervil_strstatus(AUTTERVIL_TRACE_OVERLAP), "the trace overlaps another lent place") == 0);

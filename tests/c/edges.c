@@ -16,7 +16,7 @@ typedef struct fenced {
 enum side { IN_FRONT, BEHIND };
 
 static lent a, door;
-static fenced numbers, names, place, name_place, trace, text, session_place, internal, external, work;
+static fenced numbers, names, place, name_place, trace, text, session_place, internal, external, record, work;
 
 static fenced make_fenced(void)
 {
@@ -121,20 +121,21 @@ static void playing(const lent *l, enum side side, const char *const *events, si
     CHECK(same);
 }
 
-/* A session in the three places that the library's functions take, each against a fence, and each event by one call; a post may not write the internal queue. */
-static void in_three_places(const lent *l, enum side side, const char *const *events, size_t count)
+/* A session in the four places that the library's functions take, each against a fence, and each event by one call; a post may not write the internal queue, and is not lent the clock record. */
+static void in_four_places(const lent *l, enum side side, const char *const *events, size_t count)
 {
     const auttervil_chart c = fenced_chart(l, l->chart.cells, l->chart.bytes, side);
     uint64_t *own = (uint64_t *)(void *)at_fence(session_place, 8 * AUTTERVIL_SESSION_NUMBERS, side);
     uint8_t *inner = at_fence(internal, 2048, side);
     uint8_t *outer = at_fence(external, 2048, side);
+    uint8_t *clock = at_fence(record, sizeof(auttervil_clock), side);
     static auttervil_session one;
     static uint32_t plain[24];
     size_t i, room;
     int same = 1;
     for (room = 0; room <= 24; room++) {
         auttervil_started p = auttervil_start(&one, &l->chart, plain, 24);
-        auttervil_started q = auttervil_raw2_start(own, AUTTERVIL_SESSION_NUMBERS, inner, 2048, outer, 2048, c.numbers, c.cells, c.names, c.bytes, fenced_trace(24, side), 24);
+        auttervil_started q = auttervil_raw3_start(own, AUTTERVIL_SESSION_NUMBERS, inner, 2048, outer, 2048, clock, 4368, c.numbers, c.cells, c.names, c.bytes, fenced_trace(24, side), 24);
         same = same && p.answer == q.answer && p.count == q.count;
         for (i = 0; i < count; i++) {
             size_t length = strlen(events[i]);
@@ -142,13 +143,15 @@ static void in_three_places(const lent *l, enum side side, const char *const *ev
             auttervil_stepped r, s;
             set_writable(internal, 0);
             same = same && auttervil_post(&one, &l->chart, events[i], length)
-                    == auttervil_raw2_post(own, AUTTERVIL_SESSION_NUMBERS, inner, 2048, outer, 2048, c.numbers, c.cells, c.names, c.bytes, name, length);
+                    == auttervil_raw3_post(own, AUTTERVIL_SESSION_NUMBERS, inner, 2048, outer, 2048, c.numbers, c.cells, c.names, c.bytes, name, length);
             set_writable(internal, 1);
             r = auttervil_step(&one, &l->chart, events[i], length, 10, plain, room);
-            s = auttervil_raw2_step(own, AUTTERVIL_SESSION_NUMBERS, inner, 2048, outer, 2048, c.numbers, c.cells, c.names, c.bytes, name, length, 10, fenced_trace(room, side), room);
+            s = auttervil_raw3_step(own, AUTTERVIL_SESSION_NUMBERS, inner, 2048, outer, 2048, clock, 4368, c.numbers, c.cells, c.names, c.bytes, name, length, 10, fenced_trace(room, side), room);
             same = same && r.answer == s.answer && r.status == s.status && r.rounds == s.rounds && r.count == s.count;
             same = same && memcmp(plain, fenced_trace(room, side), 4 * r.count) == 0 && memcmp(&one, own, 8 * AUTTERVIL_SESSION_NUMBERS) == 0;
-            same = same && memcmp(one.internal, inner, 2048) == 0 && memcmp(one.external, outer, 2048) == 0;
+            same = same && auttervil_advance(&one, &l->chart, 3 * i)
+                    == auttervil_raw3_advance(own, AUTTERVIL_SESSION_NUMBERS, inner, 2048, outer, 2048, clock, 4368, c.numbers, c.cells, c.names, c.bytes, 3 * i);
+            same = same && memcmp(one.internal, inner, 2048) == 0 && memcmp(one.external, outer, 2048) == 0 && memcmp(&one.clock, clock, 4368) == 0;
         }
     }
     CHECK(same);
@@ -208,7 +211,7 @@ static void changed(const lent *l, enum side side, size_t times)
     CHECK(listed);
 }
 
-/* A list of calls: its cells and text may not be written, results and trace end or begin at a fence. */
+/* A list of calls: its text may not be written, calls and trace end or begin at a fence. */
 static void performing(const lent *l, enum side side)
 {
     static const char events[] = "e4close";
@@ -216,7 +219,6 @@ static void performing(const lent *l, enum side side)
     const char *lent_text = (const char *)copy_at_fence(text, events, 7, side);
     auttervil_call list[5], ends;
     auttervil_call *calls;
-    auttervil_result *results;
     static auttervil_session session;
     size_t count;
     int listed = 1;
@@ -227,18 +229,17 @@ static void performing(const lent *l, enum side side)
     list[4] = auttervil_call_run(0, 0);
     ends = auttervil_call_post(7, 1);
     for (count = 0; count <= 5; count++) {
-        set_writable(names, 1);
         calls = (auttervil_call *)(void *)copy_at_fence(numbers, list, count * sizeof list[0], side);
-        results = (auttervil_result *)(void *)at_fence(names, count * sizeof *results, side);
+        set_writable(numbers, 1);
         auttervil_clear(&session);
-        listed = listed && auttervil_perform(&session, &chart, calls, count, lent_text, 7, results, fenced_trace(24, side), 24).performed == count;
-        listed = listed && auttervil_perform(&session, &chart, calls, count, lent_text, 7, results, fenced_trace(7, side), 7).performed == 0;
-        listed = listed && (count == 0 || results[0].number == AUTTERVIL_DONE);
+        listed = listed && auttervil_perform(&session, &chart, calls, count, lent_text, 7, fenced_trace(24, side), 24).performed == count;
+        listed = listed && auttervil_perform(&session, &chart, calls, count, lent_text, 7, fenced_trace(7, side), 7).performed == 0;
+        listed = listed && (count == 0 || calls[0].number == AUTTERVIL_DONE);
     }
     list[1] = ends;
     calls = (auttervil_call *)(void *)copy_at_fence(numbers, list, sizeof list, side);
-    results = (auttervil_result *)(void *)at_fence(names, 5 * sizeof *results, side);
-    listed = listed && auttervil_perform(&session, &chart, calls, 5, lent_text, 7, results, fenced_trace(24, side), 24).performed == 1;
+    set_writable(numbers, 1);
+    listed = listed && auttervil_perform(&session, &chart, calls, 5, lent_text, 7, fenced_trace(24, side), 24).performed == 1;
     CHECK(listed);
 }
 
@@ -317,14 +318,15 @@ int main(void)
     session_place = make_fenced();
     internal = make_fenced();
     external = make_fenced();
+    record = make_fenced();
     work = make_fenced();
     for (side = IN_FRONT; side <= BEHIND; side++) {
         compiling(&a, (enum side)side);
         compiling(&door, (enum side)side);
         playing(&a, (enum side)side, of_a, COUNT(of_a));
         playing(&door, (enum side)side, of_door, COUNT(of_door));
-        in_three_places(&a, (enum side)side, of_a, COUNT(of_a));
-        in_three_places(&door, (enum side)side, of_door, COUNT(of_door));
+        in_four_places(&a, (enum side)side, of_a, COUNT(of_a));
+        in_four_places(&door, (enum side)side, of_door, COUNT(of_door));
         cut_short(&a, (enum side)side);
         cut_short(&door, (enum side)side);
         changed(&a, (enum side)side, 5000);

@@ -17,7 +17,6 @@ enum { RETURNED = 10, IN_GUARD = 11, ELSEWHERE = 12 };
 
 static lent a;
 static auttervil_call calls[3];
-static auttervil_result results[3];
 static const char scxml[] = "<scxml><state id='a'><onentry><raise event='e'/></onentry><transition event='e' target='a'/></state></scxml>";
 AUTTERVIL_PLACES(from_text, 4, 4, 4, 4, 4, 4);
 static auttervil_scratch scratch;
@@ -84,6 +83,11 @@ static void run(void)
     (void)auttervil_run(&a.session, &a.chart, 10, a.trace, COUNT(a.trace));
 }
 
+static void advance(void)
+{
+    (void)auttervil_advance(&a.session, &a.chart, 10);
+}
+
 static void step(void)
 {
     (void)auttervil_step(&a.session, &a.chart, "e4", 2, 10, a.trace, COUNT(a.trace));
@@ -91,7 +95,7 @@ static void step(void)
 
 static void perform(void)
 {
-    (void)auttervil_perform(&a.session, &a.chart, calls, 3, "e4", 2, results, a.trace, COUNT(a.trace));
+    (void)auttervil_perform(&a.session, &a.chart, calls, 3, "e4", 2, a.trace, COUNT(a.trace));
 }
 
 static void write_byte(uint8_t *at)
@@ -165,7 +169,7 @@ int main(void)
         const char *name;
         void (*call)(void);
     } all[] = {{"read", read_text}, {"read_with", read_with}, {"write", write_back}, {"sizes", sizes}, {"compile", compile}, {"check", check_chart}, {"room", room}, {"fingerprint", fingerprint}, {"start", start},
-               {"post", post}, {"run", run}, {"step", step}, {"perform", perform}};
+               {"post", post}, {"run", run}, {"advance", advance}, {"step", step}, {"perform", perform}};
     /* A page more than the calls may take, for what the process takes at the top of its stack and for the linker. A read works on its stack. */
     const size_t enough = MOST_STACK + PAGE;
     size_t i, stack;

@@ -27,12 +27,13 @@ static int fences_stand(void)
     return 1;
 }
 
-/* Posts to and runs a session; whether the answers are those that a chart known to be good or bad allows. */
+/* Posts to a session, runs it and tells it the time; whether the answers are those that a chart known to be good or bad allows. A post does not look at the clock record, so that a run may be refused
+ * with 9 behind a post that was not. */
 static int is_handled(auttervil_session *session, const auttervil_chart *chart, size_t room)
 {
     static auttervil_session before;
     uint32_t checked = auttervil_check(chart);
-    uint32_t posted;
+    uint32_t posted, told;
     auttervil_ran ran;
     before = *session;
     memset(&fenced, 0x5a, sizeof fenced);
@@ -43,11 +44,17 @@ static int is_handled(auttervil_session *session, const auttervil_chart *chart, 
         return 0;
     before = *session;
     ran = auttervil_run(session, chart, 5, fenced.trace, room);
-    if ((ran.status == 8) != (checked != 0) || (ran.status == 9) != (posted == 9) || ran.count > room || ran.rounds > 5 || !fences_stand())
+    if ((ran.status == 8) != (checked != 0) || (posted == 9 && ran.status != 9) || ran.count > room || ran.rounds > 5 || !fences_stand())
         return 0;
     if (ran.count < room && fenced.trace[ran.count] != 0x5a5a5a5a)
         return 0;
     if ((ran.status == 8 || ran.status == 9) && (ran.rounds != 0 || ran.count != 0 || memcmp(&before, session, sizeof before) != 0))
+        return 0;
+    before = *session;
+    told = auttervil_advance(session, chart, before.clock.ticks);
+    if ((told == 8) != (checked != 0) || (told == 9) != (ran.status == 9) || (told != 0 && memcmp(&before, session, sizeof before) != 0))
+        return 0;
+    if (told != 0 && told != 8 && told != 9 && told != 11)
         return 0;
     return ran.status == 7 || ran.status == 8 || ran.status == 9 || ran.status == 10 || (ran.status >= 100 && ran.status <= 102);
 }

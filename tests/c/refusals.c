@@ -109,8 +109,12 @@ static void bad_tags(void)
     IS_BAD(IN("<onentry><log ></log></onentry>"), "label is missing");
     IS_BAD(IN("<onentry><if></if></onentry>"), "cond is missing");
     IS_BAD(IN("<onentry><elseif/></onentry>"), "cond is missing");
-    IS_BAD(IN("<onentry><send event='e'/></onentry>"), "<send> is not read: docs/grammar.md has what of SCXML is left out");
-    IS_BAD(IN("<onexit><cancel sendid='e'/></onexit>"), "<cancel> is not read: docs/grammar.md has what of SCXML is left out");
+    IS_BAD(IN("<onentry><send id='e' delay='5'/></onentry>"), "event is missing");
+    IS_BAD(IN("<onexit><cancel/></onexit>"), "sendid is missing");
+    IS_BAD(IN("<onentry><send event='e' delay='5s'/></onentry>"), "delay is a number of ticks of at most 4,294,967,295, without a unit");
+    IS_BAD(IN("<onentry><send event='e' delay='4294967296'/></onentry>"), "delay is a number of ticks of at most 4,294,967,295, without a unit");
+    IS_BAD(IN("<onentry><send event='e' delayexpr='x'/></onentry>"), "the attribute delayexpr may not stand in this <send>");
+    IS_BAD(IN("<onexit><foreach array='e'/></onexit>"), "<foreach> is not read: docs/grammar.md has what of SCXML is left out");
     IS_BAD(IN("<initial><transition/></initial>"), "target is missing: an initial transition has one");
     IS_BAD(IN("<initial/>"), "an <initial> holds a transition");
     /* Attributes that may not stand there. */

@@ -107,6 +107,13 @@ static void *run(void *m)
     return m;
 }
 
+static void *advance(void *m)
+{
+    lent *l = ((made *)m)->l;
+    (void)auttervil_advance(&l->session, &l->chart, 10);
+    return m;
+}
+
 static void *step(void *m)
 {
     lent *l = ((made *)m)->l;
@@ -119,11 +126,10 @@ static void *perform(void *m)
     lent *l = ((made *)m)->l;
     const char *name = ((made *)m)->name;
     auttervil_call calls[3];
-    auttervil_result results[3];
     calls[0] = auttervil_call_start(16);
     calls[1] = auttervil_call_post(0, strlen(name));
     calls[2] = auttervil_call_run(10, 48);
-    (void)auttervil_perform(&l->session, &l->chart, calls, 3, name, strlen(name), results, l->trace, COUNT(l->trace));
+    (void)auttervil_perform(&l->session, &l->chart, calls, 3, name, strlen(name), l->trace, COUNT(l->trace));
     return m;
 }
 
@@ -151,7 +157,7 @@ int main(void)
         const char *name;
         void *(*call)(void *);
     } calls[] = {{"auttervil_read", read_text}, {"auttervil_read_with", read_with}, {"auttervil_write", write_back}, {"auttervil_sizes", sizes}, {"auttervil_compile", compile}, {"auttervil_check", check_chart}, {"auttervil_room", room},
-                 {"auttervil_fingerprint", fingerprint}, {"auttervil_start", start}, {"auttervil_step", step}, {"auttervil_perform", perform},
+                 {"auttervil_fingerprint", fingerprint}, {"auttervil_start", start}, {"auttervil_advance", advance}, {"auttervil_step", step}, {"auttervil_perform", perform},
                  {"auttervil_post", post}, {"auttervil_run", run},
     };
     static const char *const events[2][8] = {{"e4", "e1", "e2", "nothing"}, {"close", "open", "close", "key", "any", "reset", "quit", "."}};

@@ -88,18 +88,19 @@ static void all_came_up(void)
         CHECK(ran_on[i] > 0);
 }
 
-/* Three places that are those of a session but for their lengths: 9 of a good chart, 8 of a bad one but for a start, and nothing is changed. */
-static void lengths(size_t numbers, size_t internal, size_t external)
+/* Four places that are those of a session but for their lengths: 9 of a good chart, 8 of a bad one but for a start, and nothing is changed. A post is not lent the last, so that it is done beside a
+ * clock record of another length, as the post of a step is. */
+static void lengths(size_t numbers, size_t internal, size_t external, size_t clock)
 {
     static uint64_t cells[1032];
-    static uint8_t inner[2049], outer[2049];
+    static uint8_t inner[2049], outer[2049], record[4369];
     static struct {
         uint64_t cells[1032];
-        uint8_t inner[2049], outer[2049];
+        uint8_t inner[2049], outer[2049], record[4369];
     } before;
+    const int posts = numbers == 1031 && internal == 2048 && external == 2048;
     static const uint8_t name[] = {'e', '4'};
-    uint64_t calls[8] = {AUTTERVIL_CALL_START, 8, 0, 0, AUTTERVIL_CALL_RUN, 8, 1, 0};
-    uint64_t results[6] = {9, 9, 9, 9, 9, 9};
+    uint64_t calls[14] = {AUTTERVIL_CALL_START, 8, 0, 0, 9, 9, 9, AUTTERVIL_CALL_RUN, 8, 1, 0, 9, 9, 9};
     auttervil_chart charts[2];
     size_t i;
     charts[0] = charts[1] = a.chart;
@@ -107,25 +108,35 @@ static void lengths(size_t numbers, size_t internal, size_t external)
     memcpy(cells, &a.session, 8 * AUTTERVIL_SESSION_NUMBERS);
     memcpy(inner, a.session.internal, sizeof a.session.internal);
     memcpy(outer, a.session.external, sizeof a.session.external);
+    memcpy(record, &a.session.clock, sizeof a.session.clock);
     memcpy(before.cells, cells, sizeof cells);
     memcpy(before.inner, inner, sizeof inner);
     memcpy(before.outer, outer, sizeof outer);
+    memcpy(before.record, record, sizeof record);
     memset(of_whole, 0x5a, sizeof of_whole);
     for (i = 0; i < 2; i++) {
         const auttervil_chart *c = &charts[i];
         const uint32_t refusal = i == 0 ? AUTTERVIL_BAD_SESSION : AUTTERVIL_BAD_CHART;
-        auttervil_started started = auttervil_raw2_start(cells, numbers, inner, internal, outer, external, c->numbers, c->cells, c->names, c->bytes, of_whole, 64);
-        auttervil_ran ran = auttervil_raw2_run(cells, numbers, inner, internal, outer, external, c->numbers, c->cells, c->names, c->bytes, 5, of_whole, 64);
-        auttervil_stepped stepped = auttervil_raw2_step(cells, numbers, inner, internal, outer, external, c->numbers, c->cells, c->names, c->bytes, name, 2, 5, of_whole, 64);
+        auttervil_started started = auttervil_raw3_start(cells, numbers, inner, internal, outer, external, record, clock, c->numbers, c->cells, c->names, c->bytes, of_whole, 64);
+        auttervil_ran ran = auttervil_raw3_run(cells, numbers, inner, internal, outer, external, record, clock, c->numbers, c->cells, c->names, c->bytes, 5, of_whole, 64);
+        auttervil_stepped stepped = auttervil_raw3_step(cells, numbers, inner, internal, outer, external, record, clock, c->numbers, c->cells, c->names, c->bytes, name, 2, 5, of_whole, 64);
+        const uint32_t answer = i == 0 && posts ? AUTTERVIL_DONE : refusal;
+        if (posts && i == 0) {
+            CHECK(cells[1029] == before.cells[1029] + 1);
+            cells[1029]--;
+            memcpy(outer, before.outer, sizeof outer);
+        }
         CHECK(started.answer == AUTTERVIL_BAD_SESSION && started.count == 0);
         CHECK(ran.status == refusal && ran.rounds == 0 && ran.count == 0);
-        CHECK(stepped.answer == refusal && stepped.status == refusal && stepped.rounds == 0 && stepped.count == 0);
-        CHECK(auttervil_raw2_post(cells, numbers, inner, internal, outer, external, c->numbers, c->cells, c->names, c->bytes, name, 2) == refusal);
-        CHECK(auttervil_raw2_perform(cells, numbers, inner, internal, outer, external, c->numbers, c->cells, c->names, c->bytes, calls, 8, name, 2, results, 6, of_whole, 64) == 0);
+        CHECK(stepped.answer == answer && stepped.status == refusal && stepped.rounds == 0 && stepped.count == 0);
+        CHECK(auttervil_raw3_advance(cells, numbers, inner, internal, outer, external, record, clock, c->numbers, c->cells, c->names, c->bytes, 7) == refusal);
+        CHECK(posts || auttervil_raw3_post(cells, numbers, inner, internal, outer, external, c->numbers, c->cells, c->names, c->bytes, name, 2) == refusal);
+        CHECK(auttervil_raw3_perform(cells, numbers, inner, internal, outer, external, record, clock, c->numbers, c->cells, c->names, c->bytes, calls, 14, name, 2, of_whole, 64) == 0);
     }
+    CHECK(memcmp(before.record, record, sizeof record) == 0);
     CHECK(memcmp(before.cells, cells, sizeof cells) == 0 && memcmp(before.inner, inner, sizeof inner) == 0 && memcmp(before.outer, outer, sizeof outer) == 0);
     for (i = 0; i < 64; i++)
-        CHECK(of_whole[i] == 0x5a5a5a5a && results[i % 6] == 9);
+        CHECK(of_whole[i] == 0x5a5a5a5a && calls[i % 2 * 7 + 4 + i % 3] == 9);
 }
 
 int main(int count, char **arguments)
@@ -135,16 +146,19 @@ int main(int count, char **arguments)
     CHECK(auttervil_start(&a.session, &a.chart, a.trace, COUNT(a.trace)).answer == AUTTERVIL_DONE);
     random_calls(count > 1 ? (size_t)strtoul(arguments[1], NULL, 10) : 100000);
     all_came_up();
-    lengths(1030, 2048, 2048);
-    lengths(1032, 2048, 2048);
-    lengths(4, 2048, 2048);
-    lengths(0, 2048, 2048);
-    lengths(1031, 2047, 2048);
-    lengths(1031, 2049, 2048);
-    lengths(1031, 0, 2048);
-    lengths(1031, 2048, 2047);
-    lengths(1031, 2048, 2049);
-    lengths(1031, 2048, 0);
-    lengths(0, 0, 0);
+    lengths(1030, 2048, 2048, 4368);
+    lengths(1032, 2048, 2048, 4368);
+    lengths(4, 2048, 2048, 4368);
+    lengths(0, 2048, 2048, 4368);
+    lengths(1031, 2047, 2048, 4368);
+    lengths(1031, 2049, 2048, 4368);
+    lengths(1031, 0, 2048, 4368);
+    lengths(1031, 2048, 2047, 4368);
+    lengths(1031, 2048, 2049, 4368);
+    lengths(1031, 2048, 0, 4368);
+    lengths(0, 0, 0, 4368);
+    lengths(1031, 2048, 2048, 4367);
+    lengths(1031, 2048, 2048, 4369);
+    lengths(1031, 2048, 2048, 0);
     return report();
 }

@@ -266,7 +266,7 @@ static void other_lengths(void)
     for (i = 0; i < COUNT(most); i++) {
         auttervil_raw_reading raw;
         most[i]--;
-        raw = auttervil_raw2_read_with(auttervil_lend_bytes(TEXT(small)), sizeof small - 1, numbers, CELLS, names, BYTES, scratch.cells, most[0], scratch.bytes, most[1], scratch.ids, most[2],
+        raw = auttervil_raw3_read_with(auttervil_lend_bytes(TEXT(small)), sizeof small - 1, numbers, CELLS, names, BYTES, scratch.cells, most[0], scratch.bytes, most[1], scratch.ids, most[2],
                                        scratch.spots, most[3], scratch.sources, most[4], scratch.ranks, most[5]);
         most[i]++;
         CHECK(raw.answer == 199 && raw.offset == 0 && raw.cells == 0 && raw.bytes == 0);
@@ -313,7 +313,8 @@ static int are_same_actions(const auttervil_chart *a, const uint64_t *p, const a
     const uint64_t *in_b = b->numbers + references_of(b) + b->numbers[2] + b->numbers[3] + 4 * q[0];
     uint64_t i;
     for (i = 0; p[1] == q[1] && i < 4 * p[1]; i += 4)
-        if (in_a[i] != in_b[i] || !(in_a[i] == 0 ? is_same_name(a, in_a[i + 1], b, in_b[i + 1]) : in_a[i + 1] == in_b[i + 1]))
+        if (in_a[i] != in_b[i] || !(in_a[i] == 0 || in_a[i] >= 6 ? is_same_name(a, in_a[i + 1], b, in_b[i + 1]) : in_a[i + 1] == in_b[i + 1])
+            || in_a[i + 2] != in_b[i + 2] || !(in_a[i] == 6 ? is_same_name(a, in_a[i + 3], b, in_b[i + 3]) : in_a[i + 3] == in_b[i + 3]))
             return 0;
     return p[1] == q[1];
 }
@@ -350,7 +351,7 @@ static void the_text_is_the_built_chart(void)
     CHECK(built.answer == AUTTERVIL_DONE && reading.answer == AUTTERVIL_DONE && compiled.answer == AUTTERVIL_DONE);
     CHECK(reading.tables.cells == tables.cells && reading.tables.bytes == tables.bytes && compiled.chart.cells == built.chart.cells);
     CHECK(are_same_charts(&compiled.chart, &built.chart));
-    replace(&changed, &lifecycle_text, "label=\"11\"", "label=\"12\"");
+    replace(&changed, &lifecycle_text, "label=\"9\"", "label=\"8\"");
     reading = AUTTERVIL_READ(changed.bytes, changed.length, any);
     compiled = AUTTERVIL_COMPILE(&reading.tables, any);
     CHECK(compiled.answer == AUTTERVIL_DONE && !are_same_charts(&compiled.chart, &built.chart));
@@ -369,7 +370,7 @@ static void the_text_is_the_built_chart(void)
 static void the_incident_and_a_typo(void)
 {
     static const char id[] = "mounted-volume-of-the-orders-database-with-its-write-ahead-lo";
-    static const char said[] = "answer 12, line 24, column 48: no row has the id mountd\n"
+    static const char said[] = "answer 12, line 27, column 48: no row has the id mountd\n"
                                "        <transition event=\"mount.done\" target=\"mountd\"/>\n                                               ^\n";
     static document changed, other;
     char cut[64] = {0};

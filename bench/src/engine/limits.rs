@@ -23,3 +23,8 @@ pub const WORDS: usize = MOST_ROWS / BITS;
 
 pub const QUEUE_NAMES: usize = 32;
 pub const QUEUE_BYTES: usize = QUEUE_NAMES * SLOT;
+
+/// Sends that are pending at once, the latest clock, and the longest delay.
+pub const MOST_PENDING: usize = 32;
+pub const MOST_TICKS: u64 = 1 << 62;
+pub const MOST_DELAY: u64 = 4_294_967_295;

@@ -1,11 +1,13 @@
 //! A round, worked out beside the session: nothing is changed before it is known to fit.
 
 use super::chart::Chart;
+use super::clock::{Clock, Timers};
 use super::limits::QUEUE_NAMES;
 use super::row_set::RowSet;
 use super::selection::Selection;
 use super::session::Session;
-use super::tables::{Part, ELSE, ELSE_IF, END, IF, RAISE, ROOT};
+use super::tables::{Part, CANCEL, ELSE, ELSE_IF, END, HOST, IF, RAISE, ROOT};
+use std::ops::Deref;
 
 const EXITED: u32 = 1 << 16;
 const TRANSITION: u32 = 2 << 16;
@@ -14,6 +16,8 @@ const HOST_ACTION: u32 = 4 << 16;
 const RAISED: u32 = 5 << 16;
 const DONE: u32 = 6 << 16;
 const CHOOSER: u32 = 7 << 16;
+const SENT: u32 = 8 << 16;
+const CANCELLED: u32 = 9 << 16;
 
 /// Rounds of so many entries are drafted; a longer one is worked out again where it is to stand.
 pub const DRAFT: usize = 512;
@@ -30,6 +34,23 @@ pub struct Round<'a> {
     pub configuration: RowSet,
     /// A final under the root was entered.
     pub closing: bool,
+    pub timers: Timers,
+}
+
+/// A chart, and the clock record that its sends and cancels are held to.
+#[derive(Clone, Copy)]
+pub struct Beside<'a> {
+    pub chart: &'a Chart<'a>,
+    pub clock: &'a Clock,
+}
+
+impl<'a> Deref for Beside<'a> {
+    type Target = Chart<'a>;
+
+    #[inline]
+    fn deref(&self) -> &Chart<'a> {
+        self.chart
+    }
 }
 
 /// A name that joins the internal queue.
@@ -57,10 +78,12 @@ impl Round<'_> {
             queue: [0; QUEUE_NAMES],
             configuration: RowSet::EMPTY,
             closing: false,
+            timers: Timers::NONE,
         }
     }
 
-    fn begin(&mut self, configuration: RowSet) {
+    fn begin(&mut self, configuration: RowSet, only_shown: bool) {
+        self.timers.begin(only_shown);
         self.count = 0;
         self.queued = 0;
         self.configuration = configuration;
@@ -83,17 +106,17 @@ impl Round<'_> {
 
     // The three kinds of round
 
-    pub fn start(&mut self, chart: &Chart) {
-        self.begin(RowSet::EMPTY);
+    pub fn start(&mut self, chart: Beside) {
+        self.begin(RowSet::EMPTY, false);
         let nothing_stored = |_: usize| RowSet::EMPTY;
         let (targets, fallen) = chart.resolved(chart.defaults(ROOT), nothing_stored);
         self.enter(chart, chart.with_ancestors_below(ROOT, targets), fallen, nothing_stored);
     }
 
-    pub fn take(&mut self, chart: &Chart, session: &Session, selection: &Selection) {
+    pub fn take(&mut self, chart: Beside, session: &Session, selection: &Selection) {
         let before = session.configuration();
         let exits = selection.exits;
-        self.begin(before);
+        self.begin(before, false);
         self.exit(chart, exits);
         for taken in selection.taken() {
             let number = taken.transition as usize;
@@ -108,7 +131,7 @@ impl Round<'_> {
         let mut targets = RowSet::EMPTY;
         let mut fallen = RowSet::EMPTY;
         for &taken in selection.taken() {
-            if let Some(enters) = selection.enters(chart, taken) {
+            if let Some(enters) = selection.enters(&chart, taken) {
                 targets |= enters;
                 continue;
             }
@@ -122,8 +145,8 @@ impl Round<'_> {
         self.enter(chart, targets, fallen, stored);
     }
 
-    pub fn close(&mut self, chart: &Chart, session: &Session) {
-        self.begin(session.configuration());
+    pub fn close(&mut self, chart: Beside, session: &Session) {
+        self.begin(session.configuration(), true);
         self.exit(chart, session.configuration());
     }
 
@@ -149,38 +172,52 @@ impl Round<'_> {
     /// Does a block. Whether a row is active is told of the configuration as it stands here, and asked
     /// only by conditions.
     #[inline]
-    fn run(&mut self, chart: &Chart, block: Part, is_active: impl Fn(RowSet, usize) -> bool) {
+    fn run(&mut self, chart: Beside, block: Part, is_active: impl Fn(RowSet, usize) -> bool) {
         if block.count == 0 {
             return;
         }
         if chart.index.branches {
             return self.run_branches(chart, block, is_active);
         }
-        for &[what, argument, ..] in chart.tables.block(block) {
-            self.act(what, argument as usize);
+        for action in chart.tables.block(block) {
+            self.act(chart, action);
         }
     }
 
     #[inline]
-    fn act(&mut self, what: u64, argument: usize) {
+    fn act(&mut self, chart: Beside, action: &[u64; 4]) {
+        let &[what, argument, ..] = action;
         match what {
-            RAISE => self.queue(RAISED, argument),
-            _ => self.push(HOST_ACTION, argument),
+            RAISE => self.queue(RAISED, argument as usize),
+            HOST => self.push(HOST_ACTION, argument as usize),
+            _ => self.time(chart, action),
         }
     }
 
-    fn run_branches(&mut self, chart: &Chart, block: Part, is_active: impl Fn(RowSet, usize) -> bool) {
+    /// A send or a cancel.
+    #[cold]
+    fn time(&mut self, chart: Beside, &[what, name, delay, id]: &[u64; 4]) {
+        if what == CANCEL {
+            self.push(CANCELLED, name as usize);
+            self.timers.cancel(chart.clock, chart.tables.names, name as usize);
+        } else {
+            self.push(SENT, name as usize);
+            self.timers.send(chart.clock, [name, delay, id]);
+        }
+    }
+
+    fn run_branches(&mut self, chart: Beside, block: Part, is_active: impl Fn(RowSet, usize) -> bool) {
         let mut turn = Turn::Done;
         // Ifs that were opened where nothing is done.
         let mut inside = 0_u32;
-        for &[what, argument, ..] in chart.tables.block(block) {
-            let argument = argument as usize;
-            let holds = |round: &Self| is_active(round.configuration, argument);
+        for action in chart.tables.block(block) {
+            let &[what, argument, ..] = action;
+            let holds = |round: &Self| is_active(round.configuration, argument as usize);
             match (turn, what) {
                 (Turn::Done, IF) if !holds(self) => turn = Turn::Sought,
                 (Turn::Done, ELSE_IF | ELSE) => turn = Turn::Past,
                 (Turn::Done, IF | END) => {}
-                (Turn::Done, _) => self.act(what, argument),
+                (Turn::Done, _) => self.act(chart, action),
                 (_, IF) => inside += 1,
                 (_, END) if inside > 0 => inside -= 1,
                 (_, END) => turn = Turn::Done,
@@ -191,7 +228,7 @@ impl Round<'_> {
         }
     }
 
-    fn exit(&mut self, chart: &Chart, exits: RowSet) {
+    fn exit(&mut self, chart: Beside, exits: RowSet) {
         for row in exits.rows_backwards() {
             self.push(EXITED, row);
             let is_active = |configuration: RowSet, asked: usize| {
@@ -206,7 +243,7 @@ impl Round<'_> {
     /// one walk in document order finds all.
     fn enter(
         &mut self,
-        chart: &Chart,
+        chart: Beside,
         mut rows: RowSet,
         mut fallen: RowSet,
         stored: impl Fn(usize) -> RowSet,
@@ -243,14 +280,14 @@ impl Round<'_> {
     }
 
     /// A final is entered, under this parent.
-    fn reach_final(&mut self, chart: &Chart, parent: usize) {
+    fn reach_final(&mut self, chart: Beside, parent: usize) {
         if parent == ROOT {
             self.closing = true;
             return;
         }
         self.queue(DONE, parent);
         let above = chart.parent(parent);
-        if chart.kinds().parallel.contains(above) && is_in_final_state(chart, self.configuration, above) {
+        if chart.kinds().parallel.contains(above) && is_in_final_state(&chart, self.configuration, above) {
             self.queue(DONE, above);
         }
     }

@@ -66,9 +66,14 @@ pub fn is_sized(tables: &Tables) -> bool {
             && is_inside(transition.targets(), tables.references.len())
             && is_block(transition.block())
     };
-    let arguments = [names, 65_536, rows, rows, 1, 1];
+    let arguments = [names, 65_536, rows, rows, 1, 1, names, names];
     let action_fits = |&[what, argument, third, fourth]: &[u64; 4]| {
-        what <= END && argument < arguments[what as usize] && third == 0 && fourth == 0
+        what <= CANCEL
+            && argument < arguments[what as usize]
+            && match what {
+                SEND => third <= MOST_DELAY && (fourth < names || fourth == NONE),
+                _ => third == 0 && fourth == 0,
+            }
     };
     (0..tables.row_count()).all(|row| row_fits(tables.row(row)))
         && tables.all_transitions().all(transition_fits)
@@ -85,8 +90,13 @@ pub fn is_named(tables: &Tables, spellings: &mut Spellings) -> bool {
         let Some(spelling) = Spelling::of(slot) else { return false };
         *place = spelling;
     }
-    let raise_fits = |&[what, name, ..]: &[u64; 4]| what != RAISE || spellings[name as usize].is_name();
-    tables.actions.iter().all(raise_fits) && ids_fit(tables, spellings)
+    let is_name = |name: u64| spellings[name as usize].is_name();
+    let action_fits = |&[what, name, _, id]: &[u64; 4]| match what {
+        RAISE | CANCEL => is_name(name),
+        SEND => is_name(name) && (id == NONE || is_name(id)),
+        _ => true,
+    };
+    tables.actions.iter().all(action_fits) && ids_fit(tables, spellings)
 }
 
 /// Every row but the root has an id, and they all differ: each goes to a place that its bytes tell,
@@ -211,7 +221,7 @@ fn is_real(tables: &Tables, row: u64) -> bool {
 
 /// Whether there is an if, elseif, else or end at all, in a block or not.
 pub fn has_branches(tables: &Tables) -> bool {
-    tables.actions.iter().any(|&[what, ..]| what > HOST)
+    tables.actions.iter().any(|&[what, ..]| (IF..=END).contains(&what))
 }
 
 pub fn blocks_fit(tables: &Tables) -> bool {

@@ -2,9 +2,10 @@
 
 use super::answers::*;
 use super::chart::{Chart, Index};
-use super::limits::{MOST_ROWS, QUEUE_BYTES, QUEUE_NAMES, WORDS};
+use super::clock::Clock;
+use super::limits::{MOST_ROWS, MOST_TICKS, QUEUE_BYTES, QUEUE_NAMES, WORDS};
 use super::names::{done_name, is_name, Slot, SLOT};
-use super::round::{Queued, Round, DRAFT};
+use super::round::{Beside, Queued, Round, DRAFT};
 use super::row_set::RowSet;
 use super::selection::{Selection, Trigger};
 
@@ -69,25 +70,28 @@ impl Session {
         external: [0; QUEUE_BYTES],
     };
 
-    // The calls, which change the session where it is
+    // The calls, which change the session and the clock record where they are
 
-    pub fn start(&mut self, numbers: &[u64], names: &[u8], trace: &mut [u32]) -> Started {
+    pub fn start(&mut self, clock: &mut Clock, numbers: &[u64], names: &[u8], trace: &mut [u32]) -> Started {
         *self = Session::ENDED;
+        *clock = Clock::NEW;
         let refused = |answer| Started { answer, count: 0 };
         let mut index = Index::BLANK;
         let Some(chart) = Chart::open(numbers, names, &mut index) else { return refused(BAD_CHART) };
         let mut draft = [0; DRAFT];
         let mut round = Round::over(&mut draft);
-        round.start(&chart);
-        if round.queued > QUEUE_NAMES {
+        let beside = Beside { chart: &chart, clock };
+        round.start(beside);
+        if round.queued > QUEUE_NAMES || round.timers.full {
             return refused(FULL);
         }
         let Some(place) = trace.get_mut(..round.count) else { return refused(NO_ROOM) };
         match round.entries() {
             Some(entries) => place.copy_from_slice(entries),
-            None => Round::over(place).start(&chart),
+            None => Round::over(place).start(beside),
         }
         self.move_on(&chart, &round);
+        round.timers.apply(chart.tables.names, clock);
         Started { answer: DONE, count: round.count }
     }
 
@@ -100,19 +104,51 @@ impl Session {
         }
     }
 
-    pub fn run(&mut self, numbers: &[u64], names: &[u8], rounds: u32, trace: &mut [u32]) -> Ran {
+    pub fn run(
+        &mut self,
+        clock: &mut Clock,
+        numbers: &[u64],
+        names: &[u8],
+        rounds: u32,
+        trace: &mut [u32],
+    ) -> Ran {
         let mut index = Index::BLANK;
         match Chart::open(numbers, names, &mut index) {
             None => Ran::refused(BAD_CHART),
-            Some(chart) if !self.is_well_formed(&chart) => Ran::refused(BAD_SESSION),
-            Some(chart) => self.run_known(&chart, rounds, trace),
+            Some(chart) if !self.is_timed_well(clock, &chart) => Ran::refused(BAD_SESSION),
+            Some(chart) => self.run_known(clock, &chart, rounds, trace),
         }
     }
 
+    /// The host gives the clock: what is due joins the external queue.
+    pub fn clock(&mut self, clock: &mut Clock, numbers: &[u64], names: &[u8], ticks: u64) -> u32 {
+        let mut index = Index::BLANK;
+        match Chart::open(numbers, names, &mut index) {
+            None => return BAD_CHART,
+            Some(chart) if !self.is_timed_well(clock, &chart) => return BAD_SESSION,
+            Some(_) => {}
+        }
+        if self.mode == MODE_ENDED {
+            return SESSION_ENDED;
+        }
+        if ticks < clock.ticks || ticks > MOST_TICKS {
+            return BAD_TICKS;
+        }
+        let slots: &mut [Slot] = self.external.as_chunks_mut().0;
+        let waiting = self.external_count as usize;
+        self.external_count += clock.move_on(ticks, &mut slots[waiting..]) as u64;
+        DONE
+    }
+
+    fn is_timed_well(&self, clock: &Clock, chart: &Chart) -> bool {
+        self.is_well_formed(chart) && clock.is_well_formed(self.mode)
+    }
+
     /// One call for an event: a post, and then a run, whatever the post answers. Chart and session
-    /// are checked once.
+    /// are checked once; a post takes no clock record.
     pub fn step(
         &mut self,
+        clock: &mut Clock,
         numbers: &[u64],
         names: &[u8],
         name: &[u8],
@@ -123,7 +159,13 @@ impl Session {
         let (answer, ran) = match Chart::open(numbers, names, &mut index) {
             None => (BAD_CHART, Ran::refused(BAD_CHART)),
             Some(chart) if !self.is_well_formed(&chart) => (BAD_SESSION, Ran::refused(BAD_SESSION)),
-            Some(chart) => (self.post_known(name), self.run_known(&chart, rounds, trace)),
+            Some(chart) => {
+                let answer = self.post_known(name);
+                match clock.is_well_formed(self.mode) {
+                    true => (answer, self.run_known(clock, &chart, rounds, trace)),
+                    false => (answer, Ran::refused(BAD_SESSION)),
+                }
+            }
         };
         Stepped { answer, status: ran.status, rounds: ran.rounds, count: ran.count }
     }
@@ -145,8 +187,8 @@ impl Session {
         DONE
     }
 
-    /// Of a well-formed session.
-    fn run_known(&mut self, chart: &Chart, rounds: u32, trace: &mut [u32]) -> Ran {
+    /// Of a well-formed session and record.
+    fn run_known(&mut self, clock: &mut Clock, chart: &Chart, rounds: u32, trace: &mut [u32]) -> Ran {
         let mut selection = Selection::none();
         let mut draft = [0; DRAFT];
         let mut round = Round::over(&mut draft);
@@ -164,29 +206,34 @@ impl Session {
             if done == rounds {
                 break MORE;
             }
+            let beside = Beside { chart, clock };
             if trigger == Trigger::Closing {
-                round.close(chart, self);
+                round.close(beside, self);
             } else {
-                round.take(chart, self, &selection);
+                round.take(beside, self, &selection);
                 let left = self.internal_count as usize - usize::from(trigger == Trigger::Internal);
-                if left + round.queued > QUEUE_NAMES {
+                if left + round.queued > QUEUE_NAMES || round.timers.full {
                     break FULL;
                 }
             }
             let Some(place) = trace[count..].get_mut(..round.count) else { break NO_ROOM };
             match round.entries() {
                 Some(entries) => place.copy_from_slice(entries),
-                None if trigger == Trigger::Closing => Round::over(place).close(chart, self),
-                None => Round::over(place).take(chart, self, &selection),
+                None if trigger == Trigger::Closing => Round::over(place).close(beside, self),
+                None => Round::over(place).take(beside, self, &selection),
             }
             count += round.count;
             done += 1;
             match trigger {
-                Trigger::Closing => *self = Session { history: self.history, ..Session::ENDED },
+                Trigger::Closing => {
+                    *self = Session { history: self.history, ..Session::ENDED };
+                    clock.empty();
+                }
                 _ => {
                     self.take_event(trigger);
                     self.store(chart, selection.exits);
                     self.move_on(chart, &round);
+                    round.timers.apply(chart.tables.names, clock);
                 }
             }
         };

@@ -4,7 +4,7 @@ use super::limits::*;
 use super::names::{Slot, SLOT};
 use std::ops::Range;
 
-/// In the columns parent, id and condition.
+/// In the columns parent, id, condition and send id.
 pub const NONE: u64 = 65_535;
 pub const ROOT: usize = 0;
 
@@ -21,6 +21,8 @@ pub const IF: u64 = 2;
 pub const ELSE_IF: u64 = 3;
 pub const ELSE: u64 = 4;
 pub const END: u64 = 5;
+pub const SEND: u64 = 6;
+pub const CANCEL: u64 = 7;
 
 const HEADER: usize = 6;
 

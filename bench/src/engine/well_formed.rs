@@ -45,7 +45,7 @@ impl Session {
 /// Whether all of it is zero: without a way out at the first that is not, so that many are looked at
 /// in one step.
 #[inline]
-fn is_blank<T: Copy + Default + BitOr<Output = T> + PartialEq>(part: &[T]) -> bool {
+pub fn is_blank<T: Copy + Default + BitOr<Output = T> + PartialEq>(part: &[T]) -> bool {
     part.iter().fold(T::default(), |bits, &each| bits | each) == T::default()
 }
 

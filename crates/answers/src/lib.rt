@@ -20,6 +20,7 @@ pub fn answer_number(a: Answer) -> u32
         Answer::BadSession => 9,
         Answer::NoRoom => 10,
         Answer::SessionEnded => 11,
+        Answer::ClockBack => 14,
     }
 }
 

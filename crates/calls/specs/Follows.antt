@@ -6,22 +6,18 @@ use mathlib.Core.List.{List, [], _∷_, map}
 use Prim.Native.Nat.{ℕ, suc}
 use lib.ListN.{length}
 use Rattle.definition.specs.Tables.{rowCount, chartOf}
-use Rattle.follower.specs.Follower.{endedFollower}
-use Rattle.follower.specs.Calls.{Call, starts, posts, runs, Outcome}
+use Rattle.follower.specs.Calls.{Call, starts, posts, clocks, runs, Outcome, atRest}
 use Rattle.definition.specs.Compiled.{ownNumbers, isCompiled}
 use Rattle.laws.specs.Bools.{no}
-use Rattle.session.specs.declared.Session.{Session}
-use Rattle.session.specs.Sessions.{endedSession}
-use Rattle.faithful.specs.Program.{Step, callAll}
-use Rattle.faithful.specs.Alike.{Alike, AllAlike}
+use Rattle.faithful.specs.Program.{Both, zeros, Step, callAll}
+use Rattle.faithful.specs.Alike.{Alike, alike-both, AllAlike}
 use Rattle.faithful.specs.Demand3.{Demand3, demand-3-checked}
-use Rattle.calls.specs.Calls.{callsOf}
 use Rattle.calls.specs.Performing.{Gives, leaves, stepOf, followed, startsFirst, Performs}
 
 step-is : (rows : ℕ) (x : Step) (o : Outcome) → Alike rows x o → x ≡ stepOf o
 unfolding stepOf leaves
 step-is rows x o h =
-    λ i. record { number = h .number i; rounds = h .rounds i; count = h .count i; left = λ old. h .trace old i; session = h .spelled i }
+    let b = alike-both rows x o h in λ i. record { number = h .number i; rounds = h .rounds i; count = h .count i; left = λ old. h .trace old i; after = b i }
 
 steps-are : (rows : ℕ) (xs : List Step) (os : List Outcome) → AllAlike rows xs os → xs ≡ map stepOf os
 steps-are rows [] [] h = refl
@@ -33,33 +29,28 @@ module _ (chart names : List ℕ) (compiled : isCompiled chart names ≡ true) w
   demand : Demand3 (ownNumbers chart) names chart names
   demand = demand-3-checked chart names compiled
 
-  from-start : (s : Session) (calls : List Call) → startsFirst calls ≡ true → callAll chart names s calls ≡ followed chart names calls
+  from-start : (s : Both) (calls : List Call) → startsFirst calls ≡ true → callAll chart names s calls ≡ followed chart names calls
   unfolding startsFirst followed
   from-start s [] h = absurd (no h)
-  from-start s (starts room ∷ calls) h = steps-are (rowCount (ownNumbers chart)) _ _ (demand .alike s (endedFollower (chartOf (ownNumbers chart))) room calls)
+  from-start s (starts room ∷ calls) h = steps-are (rowCount (ownNumbers chart)) _ _ (demand .alike s (atRest (chartOf (ownNumbers chart))) room calls)
   from-start s (posts name ∷ calls) h = absurd (no h)
+  from-start s (clocks ticks ∷ calls) h = absurd (no h)
   from-start s (runs rounds room ∷ calls) h = absurd (no h)
 
-  from-zeros : (s : Session) (calls : List Call) → s ≡ endedSession → callAll chart names s calls ≡ followed chart names calls
+  from-zeros : (s : Both) (calls : List Call) → s ≡ zeros → callAll chart names s calls ≡ followed chart names calls
   unfolding followed
   from-zeros s calls e = rw e (steps-are (rowCount (ownNumbers chart)) _ _ (demand .alikeEnded calls))
 
   -- the program's steps are the plain follower's
-  pub steps-follow : (s : Session) (calls : List Call) → (s ≡ endedSession) ⊎ (startsFirst calls ≡ true) → callAll chart names s calls ≡ followed chart names calls
+  pub steps-follow : (s : Both) (calls : List Call) → (s ≡ zeros) ⊎ (startsFirst calls ≡ true) → callAll chart names s calls ≡ followed chart names calls
   steps-follow s calls h = ⊎-elim (from-zeros s calls) (from-start s calls) h
 
-pub calls-length : (chart names : List ℕ) (s : Session) (calls : List Call) → length (callAll chart names s calls) ≡ length calls
+pub calls-length : (chart names : List ℕ) (s : Both) (calls : List Call) → length (callAll chart names s calls) ≡ length calls
 unfolding callAll
 calls-length chart names s [] = refl
 calls-length chart names s (x ∷ xs) = ap suc (calls-length chart names _ xs)
 
 -- the equations give the whole contract
-pub performs : (first : Session) (chart names cells text results₀ trace₀ : List ℕ) (last : Session) (count : ℕ) (results trace : List ℕ) →
-    count ≡ length (callsOf cells text (length results₀) (length trace₀)) →
-    Gives first cells results₀ trace₀ (callAll chart names first (callsOf cells text (length results₀) (length trace₀))) last results trace →
-    Performs first chart names cells text results₀ trace₀ last count results trace
-performs first chart names cells text results₀ trace₀ last count results trace n g = record {
-  performed = n;
-  by = g;
-  follows = λ c h. rw (steps-follow chart names c first (callsOf cells text (length results₀) (length trace₀)) h) at g;
-}
+pub performs : (calls : List Call) (first : Both) (chart names cells₀ trace₀ : List ℕ) (last : Both) (count : ℕ) (cells trace : List ℕ) → count ≡ length calls →
+    Gives first cells₀ trace₀ (callAll chart names first calls) last cells trace → Performs calls first chart names cells₀ trace₀ last count cells trace
+performs calls first chart names cells₀ trace₀ last count cells trace n g = record { performed = n; by = g; follows = λ c h. rw (steps-follow chart names c first calls h) at g }

@@ -2,16 +2,14 @@
 use mathlib.Core.Path.{_≡_, refl, sym, ap, _∙_}
 use mathlib.Core.Bool.{true, false}
 use mathlib.Core.List.{List, [], _∷_, _++_, append-assoc}
-use Prim.Native.Nat.{ℕ, suc, _+_, _*_, _-_, _/_, _≤_, _<_}
+use Prim.Native.Nat.{ℕ, _+_, _*_, _-_, _/_, _≤_, _<_}
 use native.Mathlib.Nat.{sub-zero, zero-add}
 use native.Mathlib.Omega.{arith}
 use lib.ListN.{length, getD, take, drop, length-append, length-take, length-drop, take-append-drop}
-use lib.Seq.{take-at, drop-at, drop-drop, getD-drop, length-take-le}
-use Rattle.definition.specs.Rows.{flat}
-use Rattle.session.specs.declared.Session.{Session}
-use Rattle.faithful.specs.Program.{Step, call, callAll}
+use lib.Seq.{take-at, drop-at, take-add, drop-drop, getD-drop, length-take-le}
+use Rattle.faithful.specs.Program.{Both, Step, call, callAll}
 use Rattle.calls.specs.Calls.{isKind, callOf, callsOf}
-use Rattle.calls.specs.Performing.{lastSession, report, resultsAfter, traceAfter, Did, Gives, Performs}
+use Rattle.calls.specs.Performing.{lastOf, report, cellsAfter, traceAfter, Did, Gives, Performs}
 use Rattle.calls.specs.Follows.{calls-length, performs}
 use Rattle.calls.specs.Reading.{fitsAt, callAt, calls-more, calls-none, calls-short, call-fits}
 
@@ -37,146 +35,156 @@ module _ (old new : List ℕ) (a n : ℕ) (fits : a + n ≤ length old) (size : 
 
 -- ---- one call more
 
--- from the steps that are left, with the first i performed and so many trace entries in their windows
-pub record Going (first : Session) (whole : List Step) (cells results₀ trace₀ : List ℕ) (s : Session) (rest : List Step) (results trace : List ℕ) (i put used : ℕ) : Type 0 where
-  pub session : lastSession first whole ≡ lastSession s rest
+-- from the steps that are left, with the first i performed and so many trace entries in their windows; cells and trace are what those left
+pub record Going (first : Both) (whole : List Step) (cells₀ trace₀ : List ℕ) (b : Both) (rest : List Step) (cells trace : List ℕ) (i used : ℕ) : Type 0 where
+  pub after : lastOf first whole ≡ lastOf b rest
   pub performed : length whole ≡ i + length rest
-  pub told : resultsAfter whole results₀ ≡ take put results ++ resultsAfter rest (drop put results)
-  pub written : traceAfter cells whole trace₀ ≡ take used trace ++ traceAfter (drop (i * 4) cells) rest (drop used trace)
+  pub told : cellsAfter whole cells₀ ≡ take (i * 7) cells ++ cellsAfter rest (drop (i * 7) cells)
+  pub written : traceAfter cells₀ whole trace₀ ≡ take used trace ++ traceAfter (drop (i * 7) cells) rest (drop used trace)
 
-results-more : (x : Step) (xs : List Step) (old : List ℕ) → resultsAfter (x ∷ xs) old ≡ report x ++ resultsAfter xs (drop 3 old)
-unfolding resultsAfter flat
-results-more x xs old =
-    let n = length (flat report xs) in
-    let e : suc (suc (suc n)) ≡ 3 + n = omega arith in
-    ap (λ (r : List ℕ). report x ++ (flat report xs ++ r)) (ap (λ (k : ℕ). drop k old) e ∙ sym (drop-drop n 3 old))
+-- the results of call i in its last three cells
+module _ (cells result : List ℕ) (i : ℕ) (fits : i * 7 + 7 ≤ length cells) (size : length result ≡ 3) where
+  abbrev pub withResult : List ℕ
+  withResult = back (i * 7 + 4) 3 cells result
 
-module _ (first : Session) (whole : List Step) (cells results₀ trace₀ : List ℕ) (s : Session) (x : Step) (rest : List Step) (results trace : List ℕ) (i put used room : ℕ)
-    (g : Going first whole cells results₀ trace₀ s (x ∷ rest) results trace i put used) (window : room ≡ getD cells (i * 4 + 1) 0)
-    (t : Session) (cell after : List ℕ) (d : Did x (lent used room trace) t cell after)
-    (resultFits : put + 3 ≤ length results) (windowFits : used + room ≤ length trace) (size : length after ≡ room) where
-  cell-size : length cell ≡ 3
-  cell-size = ap length (d .told .result)
+  next : (i + 1) * 7 ≡ i * 7 + 4 + 3
+  next = omega arith
 
-  results-turn : take put results ++ resultsAfter (x ∷ rest) (drop put results) ≡
-      take (put + 3) (back put 3 results cell) ++ resultsAfter rest (drop (put + 3) (back put 3 results cell))
-  results-turn =
-      rw (back-before results cell put 3 resultFits cell-size, back-behind results cell put 3 resultFits cell-size, results-more x rest (drop put results), d .told .result)
-      (sym (append-assoc (take put results) (report x) (resultsAfter rest (drop 3 (drop put results)))))
+  pub result-before : take ((i + 1) * 7) withResult ≡ take (i * 7) cells ++ (take 4 (drop (i * 7) cells) ++ result)
+  result-before =
+      ap (λ (n : ℕ). take n withResult) next ∙ back-before cells result (i * 7 + 4) 3 (omega arith) size ∙ ap (λ (r : List ℕ). r ++ result) (take-add (i * 7) 4 cells) ∙
+      append-assoc (take (i * 7) cells) (take 4 (drop (i * 7) cells)) result
 
-  trace-turn : take used trace ++ traceAfter (drop (i * 4) cells) (x ∷ rest) (drop used trace) ≡
-      take (used + room) (back used room trace after) ++ traceAfter (drop ((i + 1) * 4) cells) rest (drop (used + room) (back used room trace after))
+  pub result-behind : drop ((i + 1) * 7) withResult ≡ drop 7 (drop (i * 7) cells)
+  result-behind =
+      let e : i * 7 + 4 + 3 ≡ i * 7 + 7 = omega arith in
+      ap (λ (n : ℕ). drop n withResult) next ∙ back-behind cells result (i * 7 + 4) 3 (omega arith) size ∙ drop-drop 3 (i * 7 + 4) cells ∙ ap (λ (n : ℕ). drop n cells) e ∙
+      sym (drop-drop 7 (i * 7) cells)
+
+  pub result-length : length withResult ≡ length cells
+  result-length = back-length cells result (i * 7 + 4) 3 (omega arith) size
+
+module _ (first : Both) (whole : List Step) (cells₀ trace₀ : List ℕ) (b : Both) (x : Step) (rest : List Step) (cells trace : List ℕ) (i used room : ℕ)
+    (g : Going first whole cells₀ trace₀ b (x ∷ rest) cells trace i used) (window : room ≡ getD cells (i * 7 + 1) 0)
+    (t : Both) (result after : List ℕ) (d : Did x (lent used room trace) t result after)
+    (cellsFit : i * 7 + 7 ≤ length cells) (windowFits : used + room ≤ length trace) (size : length after ≡ room) where
+  pub result-size : length result ≡ 3
+  result-size = ap length (d .told .result)
+
+  cells-turn : take (i * 7) cells ++ cellsAfter (x ∷ rest) (drop (i * 7) cells) ≡
+      take ((i + 1) * 7) (withResult cells result i cellsFit result-size) ++ cellsAfter rest (drop ((i + 1) * 7) (withResult cells result i cellsFit result-size))
+  unfolding cellsAfter
+  cells-turn =
+      let p = take (i * 7) cells in
+      let q = take 4 (drop (i * 7) cells) in
+      rw (result-before cells result i cellsFit result-size, result-behind cells result i cellsFit result-size, d .told .result)
+      (sym (append-assoc p (q ++ report x) (cellsAfter rest (drop 7 (drop (i * 7) cells))) ∙
+      ap (λ (r : List ℕ). p ++ r) (append-assoc q (report x) (cellsAfter rest (drop 7 (drop (i * 7) cells))))))
+
+  trace-turn : take used trace ++ traceAfter (drop (i * 7) cells) (x ∷ rest) (drop used trace) ≡
+      take (used + room) (back used room trace after) ++ traceAfter (drop ((i + 1) * 7) (withResult cells result i cellsFit result-size)) rest (drop (used + room) (back used room trace after))
   unfolding traceAfter
   trace-turn =
-      let e : (i + 1) * 4 ≡ i * 4 + 4 = omega arith in
-      rw (e, getD-drop (i * 4) cells 1 0, ← window, drop-drop 4 (i * 4) cells, back-before trace after used room windowFits size, back-behind trace after used room windowFits size, d .written)
-      (sym (append-assoc (take used trace) (x .left (lent used room trace)) (traceAfter (drop (i * 4 + 4) cells) rest (drop room (drop used trace)))))
+      rw (result-behind cells result i cellsFit result-size, getD-drop (i * 7) cells 1 0, ← window, back-before trace after used room windowFits size, back-behind trace after used room windowFits size, d .written)
+      (sym (append-assoc (take used trace) (x .left (lent used room trace)) (traceAfter (drop 7 (drop (i * 7) cells)) rest (drop room (drop used trace)))))
 
-  pub going-turn : Going first whole cells results₀ trace₀ t rest (back put 3 results cell) (back used room trace after) (i + 1) (put + 3) (used + room)
-  unfolding lastSession
+  pub going-turn : Going first whole cells₀ trace₀ t rest (withResult cells result i cellsFit result-size) (back used room trace after) (i + 1) (used + room)
+  unfolding lastOf
   going-turn = record {
-    session = g .session ∙ rw (d .told .session);
+    after = g .after ∙ rw (d .told .after);
     performed = omega (arith, g .performed);
-    told = g .told ∙ results-turn;
+    told = g .told ∙ cells-turn;
     written = g .written ∙ trace-turn;
   }
 
 -- ---- the loop
 
--- s, results and trace are what the first i calls gave; the steps that are left are those of the cells, results and trace behind them
-pub record Left (first : Session) (chart names cells text results₀ trace₀ : List ℕ) (s : Session) (results trace : List ℕ) (i put used : ℕ) : Type 0 where
-  pub cellsIn : i * 4 ≤ length cells
-  pub resultsIn : put ≤ length results
+-- b, cells and trace are what the first i calls gave; the steps that are left are those of the cells and the trace behind them
+pub record Left (first : Both) (chart names cells₀ text trace₀ : List ℕ) (b : Both) (cells trace : List ℕ) (i used : ℕ) : Type 0 where
+  pub cellsIn : i * 7 ≤ length cells
   pub windowsIn : used ≤ length trace
-  pub resultsSize : length results ≡ length results₀
+  pub cellsSize : length cells ≡ length cells₀
   pub traceSize : length trace ≡ length trace₀
-  pub going : Going first (callAll chart names first (callsOf cells text (length results₀) (length trace₀))) cells results₀ trace₀ s
-      (callAll chart names s (callsOf (drop (i * 4) cells) text (length results - put) (length trace - used))) results trace i put used
+  pub going : Going first (callAll chart names first (callsOf cells₀ text (length trace₀))) cells₀ trace₀ b (callAll chart names b (callsOf (drop (i * 7) cells) text (length trace - used))) cells trace i used
 
-module _ (first : Session) (chart names cells text results₀ trace₀ : List ℕ) where
-  pub left-begin : Left first chart names cells text results₀ trace₀ first results₀ trace₀ 0 0 0
+module _ (first : Both) (chart names cells₀ text trace₀ : List ℕ) where
+  pub left-begin : Left first chart names cells₀ text trace₀ first cells₀ trace₀ 0 0
   left-begin = record {
     cellsIn = omega arith;
-    resultsIn = omega arith;
     windowsIn = omega arith;
-    resultsSize = refl;
+    cellsSize = refl;
     traceSize = refl;
-    going = rw (sub-zero (length results₀), sub-zero (length trace₀)) (record { session = refl; performed = sym (zero-add _); told = refl; written = refl });
+    going = rw (sub-zero (length trace₀)) (record { after = refl; performed = sym (zero-add _); told = refl; written = refl });
   }
 
-  module _ (s : Session) (results trace : List ℕ) (i put used : ℕ) (h : Left first chart names cells text results₀ trace₀ s results trace i put used) where
+  module _ (b : Both) (cells trace : List ℕ) (i used : ℕ) (h : Left first chart names cells₀ text trace₀ b cells trace i used) where
     -- no call more
-    pub left-done : callsOf (drop (i * 4) cells) text (length results - put) (length trace - used) ≡ [] →
-        (i ≡ length (callsOf cells text (length results₀) (length trace₀))) ×
-        Gives first cells results₀ trace₀ (callAll chart names first (callsOf cells text (length results₀) (length trace₀))) s results trace
-    unfolding callAll lastSession resultsAfter traceAfter flat
+    pub left-done : callsOf (drop (i * 7) cells) text (length trace - used) ≡ [] →
+        (i ≡ length (callsOf cells₀ text (length trace₀))) × Gives first cells₀ trace₀ (callAll chart names first (callsOf cells₀ text (length trace₀))) b cells trace
+    unfolding callAll lastOf cellsAfter traceAfter
     left-done e =
         let g = rw e at (h .going) in (
-          omega (arith, g .performed, calls-length chart names first (callsOf cells text (length results₀) (length trace₀))),
-          record { session = sym (g .session); told = sym (g .told ∙ take-append-drop put results); written = sym (g .written ∙ take-append-drop used trace) },
+          omega (arith, g .performed, calls-length chart names first (callsOf cells₀ text (length trace₀))),
+          record { after = sym (g .after); told = sym (g .told ∙ take-append-drop (i * 7) cells); written = sym (g .written ∙ take-append-drop used trace) },
         )
 
     -- one call more
-    module _ (inside : i * 4 + 4 ≤ length cells) (fits : fitsAt cells text (i * 4) (length results - put) (length trace - used) ≡ true)
-        (room : ℕ) (window : room ≡ getD cells (i * 4 + 1) 0) (t : Session) (cell after : List ℕ)
-        (d : Did (call chart names s (callAt cells text (i * 4))) (lent used room trace) t cell after) (size : length after ≡ room) where
-      pub left-turn : Left first chart names cells text results₀ trace₀ t (back put 3 results cell) (back used room trace after) (i + 1) (put + 3) (used + room)
+    module _ (inside : i * 7 + 7 ≤ length cells) (fits : fitsAt cells text (i * 7) (length trace - used) ≡ true)
+        (room : ℕ) (window : room ≡ getD cells (i * 7 + 1) 0) (t : Both) (result after : List ℕ)
+        (d : Did (call chart names b (callAt cells text (i * 7))) (lent used room trace) t result after) (size : length after ≡ room) where
+      pub left-turn : Left first chart names cells₀ text trace₀ t (back (i * 7 + 4) 3 cells result) (back used room trace after) (i + 1) (used + room)
       unfolding callAll
       left-turn =
-          let f = call-fits _ _ _ _ _ _ _ fits in
-          let rf : put + 3 ≤ length results = omega (arith, h .resultsIn, f .0) in
-          let wf : used + room ≤ length trace = omega (arith, h .windowsIn, f .1, window) in
-          let cs : length cell ≡ 3 = ap length (d .told .result) in
-          let rs = back-length results cell put 3 rf cs in
+          let f = call-fits _ _ _ _ _ _ fits in
+          let wf : used + room ≤ length trace = omega (arith, h .windowsIn, f .0, window) in
+          let rs : length result ≡ 3 = ap length (d .told .result) in
+          let cs = result-length cells result i inside rs in
           let ts = back-length trace after used room wf size in
-          let x = call chart names s (callAt cells text (i * 4)) in
-          let g = rw (calls-more cells text (i * 4) (length results - put) (length trace - used) inside fits) at (h .going) in
-          let p : (i + 1) * 4 ≡ i * 4 + 4 = omega arith in
-          let q : length results - (put + 3) ≡ length results - put - 3 = omega arith in
-          let r : length trace - (used + room) ≡ length trace - used - getD cells (i * 4 + 1) 0 = omega (arith, window) in
+          let x = call chart names b (callAt cells text (i * 7)) in
+          let g = rw (calls-more cells text (i * 7) (length trace - used) inside fits) at (h .going) in
+          let p : drop ((i + 1) * 7) (back (i * 7 + 4) 3 cells result) ≡ drop (i * 7 + 7) cells = result-behind cells result i inside rs ∙ drop-drop 7 (i * 7) cells in
+          let r : length trace - (used + room) ≡ length trace - used - getD cells (i * 7 + 1) 0 = omega (arith, window) in
+          let w = going-turn first _ cells₀ trace₀ b x _ cells trace i used room g window t result after d inside wf size in
           record {
-            cellsIn = omega arith;
-            resultsIn = omega (arith, rs);
+            cellsIn = omega (arith, cs);
             windowsIn = omega (arith, ts);
-            resultsSize = rs ∙ h .resultsSize;
+            cellsSize = cs ∙ h .cellsSize;
             traceSize = ts ∙ h .traceSize;
-            going = rw (rs, ts, p, q, r, d .told .session) (rw (d .told .session) at (going-turn first _ cells results₀ trace₀ s x _ results trace i put used room g window t cell after d rf wf size));
+            going = rw (ts, p, r, d .told .after) (rw (d .told .after) at w);
           }
 
     -- the same as the code has it: parts by where they begin and end
-    module _ (test : i < length cells / 4) (fits : fitsAt cells text (i * 4) (length results - put) (length trace - used) ≡ true) where
-      pub left-fits : (put + 3 ≤ length results) × (used + getD cells (i * 4 + 1) 0 ≤ length trace) ×
-          (isKind (getD cells (i * 4) 0) (getD cells (i * 4 + 2) 0) (getD cells (i * 4 + 3) 0) (length text) ≡ true)
-      left-fits =
-          let f = call-fits _ _ _ _ _ _ _ fits in
-          (omega (arith, h .resultsIn, f .0), omega (arith, h .windowsIn, f .1), f .2)
+    module _ (test : i < length cells / 7) (fits : fitsAt cells text (i * 7) (length trace - used) ≡ true) where
+      pub left-fits : (i * 7 + 7 ≤ length cells) × (used + getD cells (i * 7 + 1) 0 ≤ length trace) ×
+          (isKind (getD cells (i * 7) 0) (getD cells (i * 7 + 2) 0) (getD cells (i * 7 + 3) 0) (length text) ≡ true)
+      left-fits = let f = call-fits _ _ _ _ _ _ fits in (omega arith, omega (arith, h .windowsIn, f .0), f .1)
 
       abbrev end : ℕ
-      end = used + getD cells (i * 4 + 1) 0
+      end = used + getD cells (i * 7 + 1) 0
 
-      pub result-part : length (lent put (put + 3 - put) results) ≡ 3
+      pub result-part : length (lent (i * 7 + 4) (i * 7 + 4 + 3 - (i * 7 + 4)) cells) ≡ 3
       result-part = let f = left-fits .0 in rw (length-take, length-drop) (omega arith)
 
-      pub window-part : length (lent used (end - used) trace) ≡ getD cells (i * 4 + 1) 0
+      pub window-part : length (lent used (end - used) trace) ≡ getD cells (i * 7 + 1) 0
       window-part = let f = left-fits .1 in rw (length-take, length-drop) (omega arith)
 
-      pub left-again : (t : Session) (cell after : List ℕ) →
-          Did (call chart names s (callOf (getD cells (i * 4) 0) (length (lent used (end - used) trace)) (getD cells (i * 4 + 2) 0) (getD cells (i * 4 + 3) 0) text)) (lent used (end - used) trace) t cell after →
+      pub left-again : (t : Both) (result after : List ℕ) →
+          Did (call chart names b (callOf (getD cells (i * 7) 0) (length (lent used (end - used) trace)) (getD cells (i * 7 + 2) 0) (getD cells (i * 7 + 3) 0) text)) (lent used (end - used) trace) t result after →
           length after ≡ length (lent used (end - used) trace) →
-          Left first chart names cells text results₀ trace₀ t (back put (put + 3 - put) results cell) (back used (end - used) trace after) (i + 1) (put + 3) end
-      left-again t cell after d z =
-          let room = getD cells (i * 4 + 1) 0 in
-          let a : put + 3 - put ≡ 3 = omega arith in
+          Left first chart names cells₀ text trace₀ t (back (i * 7 + 4) (i * 7 + 4 + 3 - (i * 7 + 4)) cells result) (back used (end - used) trace after) (i + 1) end
+      left-again t result after d z =
+          let room = getD cells (i * 7 + 1) 0 in
+          let a : i * 7 + 4 + 3 - (i * 7 + 4) ≡ 3 = omega arith in
           let b : used + room - used ≡ room = omega arith in
-          rw (a, b) (left-turn (omega arith) fits room refl t cell after (rw (window-part, b) at d) (z ∙ window-part))
+          rw (a, b) (left-turn (left-fits .0) fits room refl t result after (rw (window-part, b) at d) (z ∙ window-part))
 
     -- no call more
-    pub left-ends : length cells / 4 ≤ i → Performs first chart names cells text results₀ trace₀ s i results trace
+    pub left-ends : length cells / 7 ≤ i → Performs (callsOf cells₀ text (length trace₀)) first chart names cells₀ trace₀ b i cells trace
     left-ends l =
-        let d = left-done (calls-short (drop (i * 4) cells) text _ _ (rw length-drop (omega arith))) in
-        performs first chart names cells text results₀ trace₀ s i results trace (d .0) (d .1)
+        let d = left-done (calls-short (drop (i * 7) cells) text _ (rw length-drop (omega arith))) in
+        performs (callsOf cells₀ text (length trace₀)) first chart names cells₀ trace₀ b i cells trace (d .0) (d .1)
 
-    pub left-stops : i < length cells / 4 → fitsAt cells text (i * 4) (length results - put) (length trace - used) ≡ false → Performs first chart names cells text results₀ trace₀ s i results trace
+    pub left-stops : i < length cells / 7 → fitsAt cells text (i * 7) (length trace - used) ≡ false → Performs (callsOf cells₀ text (length trace₀)) first chart names cells₀ trace₀ b i cells trace
     left-stops l f =
-        let d = left-done (calls-none cells text (i * 4) _ _ (omega arith) f) in
-        performs first chart names cells text results₀ trace₀ s i results trace (d .0) (d .1)
+        let d = left-done (calls-none cells text (i * 7) _ (omega arith) f) in
+        performs (callsOf cells₀ text (length trace₀)) first chart names cells₀ trace₀ b i cells trace (d .0) (d .1)

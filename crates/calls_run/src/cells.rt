@@ -25,7 +25,7 @@ fn wide(b: u8) -> u64 {
     b as u64
 }
 
-fn byte(bytes: &[u8], at: usize) -> u64 {
+pub fn byte(bytes: &[u8], at: usize) -> u64 {
     if at < bytes.len() { wide(bytes[at]) } else { 0 }
 }
 

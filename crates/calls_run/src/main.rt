@@ -1,4 +1,4 @@
-// Compiles the charts of standard input, does calls on a session and prints what each hands back. A line of the input is a letter, a blank and what belongs to it:
+// Compiles the charts of standard input, does calls on a session and its clock record and prints what each hands back. A line of the input is a letter, a blank and what belongs to it:
 //   c TEXT           a new chart: the text is printed, and a colon
 //   n NUMBERS        its numbers, with a blank between them; 8*0 stands for eight zeros
 //   s SLOTS          its name slots, with a blank between them; % and two hexadecimal digits stand for a byte
@@ -6,19 +6,24 @@
 //   l A B            from here on the first A numbers and B bytes of the places are lent
 //   k CELL NUMBER    a number of the compiled chart is set
 //   b PLACE NUMBER   a byte of its names is set
-//   z                the session is one of zeros
+//   z                the session is one of zeros, and the clock record
 //   f CELL NUMBER    a cell of the session is set; its cells are numbered in the order of its fields
 //   i SLOTS          the internal queue has these slots, and their count
 //   x SLOTS          the same for the external queue
 //   r NUMBER         every cell of the session is made from the number
+//   h PLACE NUMBER   a number of the clock record is set: its ticks, its count, its due times
+//   e SLOTS          its events have these slots
+//   w SLOTS          its send ids have these slots
 //   o NAME           a post: prints the answer and the session
 //   d NAME           each cell of the session changed in each way, and posted to: a line of answers for each way, and a sum of the sessions handed back
 //   v NAME           a post of the name with every byte value at each place: the same line for each place
 //   a CELL COUNT     so many cells of the session are printed
-//   t ROOM           a start: prints the answer, the entries of the trace and the session
-//   u ROUNDS ROOM    a run: prints the status, the rounds, the entries and the session
+//   t ROOM           a start: prints the answer, the entries of the trace, the clock record and the session
+//   u ROUNDS ROOM    a run: prints the status, the rounds, the entries, the clock record and the session
+//   y TICKS          a clock call: prints the answer, the clock record and the session
 mod cells;
 mod posts;
+mod records;
 mod show;
 mod steps;
 
@@ -27,6 +32,7 @@ use libc::STDIN_FILENO;
 use lines::behind_guard;
 use lines::least;
 use lines::size;
+use session::Clock;
 use session::Session;
 
 // Room for all lines.
@@ -40,10 +46,16 @@ pub struct Lent {
     pub name_place: usize,
 }
 
-// What a line finds and leaves: how much is lent, and the session.
+// A session and its clock record.
+pub struct Held {
+    pub session: Session,
+    pub clock: Clock,
+}
+
+// What a line finds and leaves: how much is lent, the session and its clock record.
 struct Scene {
     lent: Lent,
-    session: Session,
+    held: Held,
 }
 
 // ---- lines of the chart
@@ -172,9 +184,6 @@ fn chart_line(
 // ---- lines of the session
 
 fn session_line(case: u8, rest: &[u8], s: Session) -> Session {
-    if case == b'z' {
-        return Session::ended();
-    }
     if case == b'f' {
         let set = lines::read_two(rest);
         return cells::with_cell(s, size(set.first), set.next);
@@ -189,9 +198,23 @@ fn session_line(case: u8, rest: &[u8], s: Session) -> Session {
     cells::made(s, from.first)
 }
 
+// ---- lines of the clock record
+
+fn clock_line(case: u8, rest: &[u8], k: Clock) -> Clock {
+    if case == b'h' {
+        let set = lines::read_two(rest);
+        return records::with_number(k, size(set.first), set.next);
+    }
+    if case == b'e' {
+        return records::with_events(k, rest);
+    }
+    records::with_ids(k, rest)
+}
+
 // ---- calls
 
-fn call_line(
+// Those that leave the clock record as it is.
+fn session_call(
     case: u8,
     rest: &[u8],
     l: Lent,
@@ -199,12 +222,6 @@ fn call_line(
     place: &[u64],
     name_place: &[u8],
 ) -> Session {
-    if case == b't' {
-        return steps::start_line(rest, l, s, place, name_place);
-    }
-    if case == b'u' {
-        return steps::run_line(rest, l, s, place, name_place);
-    }
     if case == b'o' {
         return posts::post_line(rest, l, s, place, name_place);
     }
@@ -220,20 +237,58 @@ fn call_line(
     s
 }
 
+fn call_line(case: u8, rest: &[u8], l: Lent, h: Held, place: &[u64], name_place: &[u8]) -> Held {
+    if case == b't' {
+        return steps::start_line(rest, l, h, place, name_place);
+    }
+    if case == b'u' {
+        return steps::run_line(rest, l, h, place, name_place);
+    }
+    if case == b'y' {
+        return steps::clock_line(rest, l, h, place, name_place);
+    }
+    let s = h.session;
+    let k = h.clock;
+    Held {
+        session: session_call(case, rest, l, s, place, name_place),
+        clock: k,
+    }
+}
+
 // ---- all lines
 
 // Of what a line speaks.
 enum Line {
     OfChart,
+    OfBoth,
     OfSession,
+    OfClock,
     OfCall,
 }
 
 fn kind_of(case: u8) -> Line {
     match case {
         b'c' | b'n' | b's' | b'p' | b'l' | b'k' | b'b' => Line::OfChart,
-        b'z' | b'f' | b'i' | b'x' | b'r' => Line::OfSession,
+        b'z' => Line::OfBoth,
+        b'f' | b'i' | b'x' | b'r' => Line::OfSession,
+        b'h' | b'e' | b'w' => Line::OfClock,
         _ => Line::OfCall,
+    }
+}
+
+fn held_line(case: u8, rest: &[u8], h: Held) -> Held {
+    let s = h.session;
+    let k = h.clock;
+    match kind_of(case) {
+        Line::OfSession => Held {
+            session: session_line(case, rest, s),
+            clock: k,
+        },
+        Line::OfClock => Held {
+            session: s,
+            clock: clock_line(case, rest, k),
+        },
+        _ => zeros(),
     }
 }
 
@@ -251,24 +306,32 @@ fn run_line(
     let case = line[0];
     let rest = &line[2..];
     let lent = scene.lent;
-    let session = scene.session;
+    let held = scene.held;
     match kind_of(case) {
         Line::OfChart => Scene {
             lent: chart_line(case, rest, lent, numbers, names, place, name_place),
-            session,
-        },
-        Line::OfSession => Scene {
-            lent,
-            session: session_line(case, rest, session),
+            held,
         },
         Line::OfCall => Scene {
             lent,
-            session: call_line(case, rest, lent, session, place, name_place),
+            held: call_line(case, rest, lent, held, place, name_place),
+        },
+        _ => Scene {
+            lent,
+            held: held_line(case, rest, held),
         },
     }
 }
 
-// At first nothing is lent, and the session is one of zeros.
+// A session and a clock record of zeros.
+fn zeros() -> Held {
+    Held {
+        session: Session::ended(),
+        clock: records::zeros(),
+    }
+}
+
+// At first nothing is lent.
 fn first_scene() -> Scene {
     Scene {
         lent: Lent {
@@ -277,7 +340,7 @@ fn first_scene() -> Scene {
             place: 0,
             name_place: 0,
         },
-        session: Session::ended(),
+        held: zeros(),
     }
 }
 

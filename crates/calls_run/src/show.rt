@@ -27,7 +27,7 @@ pub fn blank_number(n: u64) {
     show_number(n);
 }
 
-fn wide(n: usize) -> u64 {
+pub fn wide(n: usize) -> u64 {
     n as u64
 }
 
@@ -80,7 +80,7 @@ fn stored(words: &[u64]) {
 
 // ---- queues
 
-fn slot(queue: &[u8], at: usize)
+pub fn slot(queue: &[u8], at: usize)
     requires { ⌜ at < 32 ⌝ }
 {
     let begin = at * SLOT;

@@ -1,9 +1,11 @@
-// Starts and runs, with a trace between guards that is filled before each call.
+// Starts and runs, with a trace between guards that is filled before each call; and clock calls, which write none.
+use crate::Held;
 use crate::Lent;
+use crate::records;
 use crate::show;
 use lines::behind_guard;
+use session::Clocked;
 use session::Ran;
-use session::Session;
 use session::Started;
 
 // Room for every trace of the lists, and guards.
@@ -61,7 +63,7 @@ fn written(trace: &[u32], count: usize) {
 
 fn start(
     l: Lent,
-    s: Session,
+    h: Held,
     room: usize,
     place: &[u64],
     name_place: &[u8],
@@ -76,7 +78,10 @@ fn start(
     let name_end = q.end;
     let trace_begin = r.begin;
     let trace_end = r.end;
+    let s = h.session;
+    let k = h.clock;
     s.start(
+        k,
         &place[begin..end],
         &name_place[name_begin..name_end],
         &mut trace[trace_begin..trace_end],
@@ -86,34 +91,36 @@ fn start(
 fn start_shown(
     rest: &[u8],
     l: Lent,
-    s: Session,
+    h: Held,
     place: &[u64],
     name_place: &[u8],
     trace: &mut [u32],
-) -> Session {
+) -> Held {
     let room = lines::read_two(rest);
     lines::fill_trace(trace);
-    let started = start(l, s, lines::size(room.first), place, name_place, trace);
-    let after = started.session;
+    let started = start(l, h, lines::size(room.first), place, name_place, trace);
+    let session = started.session;
+    let clock = started.clock;
     let answer = started.answer;
     let number = show::number_of(answer);
     lines::show(b"start ");
     lines::show_number(number);
     written(trace, started.count);
-    show::session(after, number);
-    after
+    records::show_clock(clock, number);
+    show::session(session, number);
+    Held { session, clock }
 }
 
-pub fn start_line(rest: &[u8], l: Lent, s: Session, place: &[u64], name_place: &[u8]) -> Session {
+pub fn start_line(rest: &[u8], l: Lent, h: Held, place: &[u64], name_place: &[u8]) -> Held {
     let mut trace = [0u32; ROOM];
-    start_shown(rest, l, s, place, name_place, &mut trace)
+    start_shown(rest, l, h, place, name_place, &mut trace)
 }
 
 // ---- runs
 
 fn run(
     l: Lent,
-    s: Session,
+    h: Held,
     rounds: u32,
     room: usize,
     place: &[u64],
@@ -129,7 +136,10 @@ fn run(
     let name_end = q.end;
     let trace_begin = r.begin;
     let trace_end = r.end;
+    let s = h.session;
+    let k = h.clock;
     s.run(
+        k,
         &place[begin..end],
         &name_place[name_begin..name_end],
         rounds,
@@ -144,23 +154,24 @@ fn rounds_of(v: u64) -> u32 {
 fn run_shown(
     rest: &[u8],
     l: Lent,
-    s: Session,
+    h: Held,
     place: &[u64],
     name_place: &[u8],
     trace: &mut [u32],
-) -> Session {
+) -> Held {
     let asked = lines::read_two(rest);
     lines::fill_trace(trace);
     let ran = run(
         l,
-        s,
+        h,
         rounds_of(asked.first),
         lines::size(asked.next),
         place,
         name_place,
         trace,
     );
-    let after = ran.session;
+    let session = ran.session;
+    let clock = ran.clock;
     let status = ran.status;
     let number = answers::status_number(status) as u64;
     lines::show(b"run ");
@@ -169,11 +180,45 @@ fn run_shown(
     lines::show_number(ran.rounds as u64);
     lines::show(b" rounds");
     written(trace, ran.count);
-    show::session(after, number);
-    after
+    records::show_clock(clock, number);
+    show::session(session, number);
+    Held { session, clock }
 }
 
-pub fn run_line(rest: &[u8], l: Lent, s: Session, place: &[u64], name_place: &[u8]) -> Session {
+pub fn run_line(rest: &[u8], l: Lent, h: Held, place: &[u64], name_place: &[u8]) -> Held {
     let mut trace = [0u32; ROOM];
-    run_shown(rest, l, s, place, name_place, &mut trace)
+    run_shown(rest, l, h, place, name_place, &mut trace)
+}
+
+// ---- clock calls
+
+fn clock(l: Lent, h: Held, ticks: u64, place: &[u64], name_place: &[u8]) -> Clocked {
+    let p = behind_guard(l.place, place.len());
+    let q = behind_guard(l.name_place, name_place.len());
+    let begin = p.begin;
+    let end = p.end;
+    let name_begin = q.begin;
+    let name_end = q.end;
+    let s = h.session;
+    let k = h.clock;
+    s.clock(
+        k,
+        &place[begin..end],
+        &name_place[name_begin..name_end],
+        ticks,
+    )
+}
+
+pub fn clock_line(rest: &[u8], l: Lent, h: Held, place: &[u64], name_place: &[u8]) -> Held {
+    let asked = lines::read_two(rest);
+    let clocked = clock(l, h, asked.first, place, name_place);
+    let session = clocked.session;
+    let clock = clocked.clock;
+    let answer = clocked.answer;
+    let number = show::number_of(answer);
+    lines::show(b"clock ");
+    lines::show_number(number);
+    records::show_clock(clock, number);
+    show::session(session, number);
+    Held { session, clock }
 }

@@ -9,10 +9,10 @@ use lib.ListN.{length, getD, take, drop}
 use lib.Seq.{getD-take, take-take}
 use borrow.Author.Tests.{ltb-true}
 use Rattle.definition.specs.declared.Action.{Action}
-use Rattle.definition.specs.declared.Action.the-variants.{Raise, Host, If, ElseIf, Else, End}
+use Rattle.definition.specs.declared.Action.the-variants.{Raise, Host, If, ElseIf, Else, End, Send, Cancel}
 use Rattle.definition.specs.Rows.{from}
 use Rattle.definition.specs.Tables.{noRow, kindOf, optional, rowCount, transitionCount, referenceCount, descriptorCount, actionCount, nameCount, transitionBase, referenceBase, descriptorBase, actionBase, tablesSize, rowCell, transitionCell, referenceCell, descriptorCell, actionCell, actionAt, part, referencesAt, descriptorsAt, blockAt, kindAt, parentAt, idAt, entryAt, exitAt, listAt, listBlockAt, sourceAt, eventsAt, conditionAt, internalAt, targetsAt, transitionBlockAt, rowAt, transitionAt, chartOf}
-use Rattle.definition.specs.Rules.{rowInRange, transitionInRange, referenceInRange, descriptorInRange, argumentFits, actionInRange, blockFits, compiledSize}
+use Rattle.definition.specs.Rules.{rowInRange, transitionInRange, referenceInRange, descriptorInRange, argumentsFit, actionInRange, blockFits, compiledSize}
 use Rattle.laws.specs.Bools.{bool-case}
 use Rattle.tables.specs.Ranges.{layout, Counts, InTables, row-fits, transition-fits}
 
@@ -241,19 +241,21 @@ module _ (a b : List ℕ) (same : take (tablesSize b) a ≡ take (tablesSize b) 
           cell 8 (omega arith),
         )
 
-    argument-fits : (x : Action) (n : ℕ) → argumentFits a x n ≡ argumentFits b x n
-    unfolding argumentFits
-    argument-fits (Raise x) n = rw agree-names
-    argument-fits (Host x) n = refl
-    argument-fits (If i) n = rw agree-rows
-    argument-fits (ElseIf i) n = rw agree-rows
-    argument-fits Else n = refl
-    argument-fits End n = refl
+    arguments-fit : (x : Action) (n y z : ℕ) → argumentsFit a x n y z ≡ argumentsFit b x n y z
+    unfolding argumentsFit
+    arguments-fit (Raise x) n y z = rw agree-names
+    arguments-fit (Host x) n y z = refl
+    arguments-fit (If i) n y z = rw agree-rows
+    arguments-fit (ElseIf i) n y z = rw agree-rows
+    arguments-fit Else n y z = refl
+    arguments-fit End n y z = refl
+    arguments-fit (Send x delay id) n y z = rw agree-names
+    arguments-fit (Cancel x) n y z = rw agree-names
 
     action-in-range : (x : ℕ) → x < actionCount b → actionInRange a x ≡ actionInRange b x
     unfolding actionInRange
     action-in-range x l =
-        rw (action-cell x 0 l (omega arith), action-cell x 1 l (omega arith), action-cell x 2 l (omega arith), action-cell x 3 l (omega arith), action-at x l, argument-fits (actionAt b x) (actionCell b x 1))
+        rw (action-cell x 0 l (omega arith), action-cell x 1 l (omega arith), action-cell x 2 l (omega arith), action-cell x 3 l (omega arith), action-at x l, arguments-fit (actionAt b x) (actionCell b x 1) (actionCell b x 2) (actionCell b x 3))
 
     pub agree-tables : tablesSize b ≤ length a → InTables a
     unfolding referenceInRange descriptorInRange

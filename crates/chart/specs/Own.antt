@@ -10,7 +10,7 @@ use lib.ListN.{length, take, length-append}
 use lib.Seq.{take-take}
 use borrow.Author.Tests.{eqb-true}
 use Rattle.definition.specs.declared.Answer.{Answer}
-use Rattle.definition.specs.declared.Answer.the-variants.{Done, Size, Names, Tree, Lists, Transitions, NotAName, Full, BadChart, BadSession, NoRoom, SessionEnded}
+use Rattle.definition.specs.declared.Answer.the-variants.{Done, Size, Names, Tree, Lists, Transitions, NotAName, Full, BadChart, BadSession, NoRoom, SessionEnded, ClockBack}
 use Rattle.definition.specs.Rows.{union}
 use Rattle.definition.specs.Chart.{Chart}
 use Rattle.definition.specs.Tables.{slotSize, rowCount, transitionCount, nameCount, tablesSize, chartOf}
@@ -139,6 +139,7 @@ answer-done BadChart h = absurd (omega arith)
 answer-done BadSession h = absurd (omega arith)
 answer-done NoRoom h = absurd (omega arith)
 answer-done SessionEnded h = absurd (omega arith)
+answer-done ClockBack h = absurd (omega arith)
 
 module _ (place names : List ℕ) (h : isCompiled place names ≡ true) where
   kept : verdict (ownNumbers place) names (length place) (length names) ≡ Done

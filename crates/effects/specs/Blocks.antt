@@ -5,22 +5,26 @@ use mathlib.Core.List.{List, [], _∷_, _++_, append-nil}
 use Prim.Native.Nat.{ℕ, suc, _+_, _≤_, _<_}
 use native.Mathlib.Numerals.{add-one}
 use native.Mathlib.Omega.{arith}
+use lib.Dec.{leb, ltb}
 use lib.ListN.{length, getD, drop, drop-of-length-le}
 use lib.Seq.{drop-cons}
 use borrow.Author.Tests.{ltb-true, leb-true}
 use Rattle.definition.specs.declared.Action.{Action}
-use Rattle.definition.specs.declared.Action.the-variants.{Raise, Host, If, ElseIf, Else, End}
+use Rattle.definition.specs.declared.Action.the-variants.{Raise, Host, If, ElseIf, Else, End, Send, Cancel}
 use Rattle.definition.specs.declared.Reach.{Reach}
 use Rattle.definition.specs.declared.Reach.the-variants.{Live}
 use Rattle.definition.specs.Rows.{all}
-use Rattle.definition.specs.Tables.{mostActions, rowCount, nameCount}
+use Rattle.definition.specs.Tables.{mostActions, mostDelay, rowCount, nameCount}
+use Rattle.definition.specs.Rules.{optionalBelow}
 use Rattle.follower.specs.Blocks.{Effect, after, perform, performIf, performedFrom, performed}
+use Rattle.laws.specs.Bools.{and3}
 use Rattle.laws.specs.Maps.{all-at}
-use Rattle.tables.specs.Ranges.{InTables}
+use Rattle.tables.specs.Ranges.{InTables, optional-small}
 use Rattle.tables.specs.Actions.{numberFits}
 use Rattle.tables.specs.Parts.{actionsOf, BlockOf}
 use Rattle.effects.specs.declared.Tally.{Tally}
-use Rattle.effects.specs.Trace.{Places, Wrote, Writing, Room, writing-begin, writing-turn, writing-end, writing-length, writing-joins, wrote-both, room-left, room-first, room-next}
+use Rattle.effects.specs.Trace.{Places, Wrote, Room}
+use Rattle.effects.specs.Writing.{Writing, writing-begin, writing-turn, writing-end, writing-length, writing-joins, wrote-both, room-left, room-first, room-next}
 use Rattle.effects.specs.Kinds.{ActionFits}
 use Rattle.effects.specs.Branches.{isBranch, depthOf, plainCount, plainEffects, plain-next, plain-stop, performed-split, one-deeper}
 
@@ -35,12 +39,22 @@ pub record ActionsFit (b : List ℕ) : Type 0 where
 
 number-small : (numbers : List ℕ) (x : Action) → InTables numbers → numberFits numbers x ≡ true → ActionFits x
 unfolding numberFits
-number-small numbers (Raise n) h e = let l : n < nameCount numbers = ltb-true _ _ e in let m = h .sized .counts .names in record { fits = omega arith }
-number-small numbers (Host n) h e = record { fits = leb-true _ _ e }
-number-small numbers (If i) h e = let l : i < rowCount numbers = ltb-true _ _ e in let m = h .sized .counts .rows in record { fits = omega arith }
-number-small numbers (ElseIf i) h e = let l : i < rowCount numbers = ltb-true _ _ e in let m = h .sized .counts .rows in record { fits = omega arith }
-number-small numbers Else h e = record { fits = omega arith }
-number-small numbers End h e = record { fits = omega arith }
+number-small numbers (Raise n) h e =
+    let l : n < nameCount numbers = ltb-true _ _ e in let m = h .sized .counts .names in record { fits = omega arith; delay = omega arith; id = omega arith }
+number-small numbers (Host n) h e = record { fits = leb-true _ _ e; delay = omega arith; id = omega arith }
+number-small numbers (If i) h e =
+    let l : i < rowCount numbers = ltb-true _ _ e in let m = h .sized .counts .rows in record { fits = omega arith; delay = omega arith; id = omega arith }
+number-small numbers (ElseIf i) h e =
+    let l : i < rowCount numbers = ltb-true _ _ e in let m = h .sized .counts .rows in record { fits = omega arith; delay = omega arith; id = omega arith }
+number-small numbers Else h e = record { fits = omega arith; delay = omega arith; id = omega arith }
+number-small numbers End h e = record { fits = omega arith; delay = omega arith; id = omega arith }
+number-small numbers (Send n delay id) h e =
+    let p = and3 (ltb n (nameCount numbers)) (leb delay mostDelay) (optionalBelow (nameCount numbers) id) e in
+    let l : n < nameCount numbers = ltb-true _ _ (p .0) in
+    let m = h .sized .counts .names in
+    record { fits = omega arith; delay = leb-true _ _ (p .1); id = optional-small (nameCount numbers) id (omega arith) (p .2) }
+number-small numbers (Cancel n) h e =
+    let l : n < nameCount numbers = ltb-true _ _ e in let m = h .sized .counts .names in record { fits = omega arith; delay = omega arith; id = omega arith }
 
 -- ---- ahead of the first if
 

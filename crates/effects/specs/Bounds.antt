@@ -22,7 +22,8 @@ use Rattle.chart.specs.Within.{Within}
 use Rattle.paths.specs.Lengths.{performed-few}
 use Rattle.paths.specs.Lengths.{done-few}
 use Rattle.effects.specs.declared.Tally.{Tally}
-use Rattle.effects.specs.Trace.{Room, room-few}
+use Rattle.effects.specs.Trace.{Room}
+use Rattle.effects.specs.Writing.{room-few}
 use Rattle.effects.specs.Entering.{rowEntered, entryIs, entry-pieces, HistoryRows}
 
 -- the most effects of an exit: itself and its block
@@ -36,6 +37,10 @@ mostTaken = 2 + mostActions
 -- of an entry without its done events: itself, its entry block, its initial block, and the default block of each history
 abbrev mostEntered : ℕ
 mostEntered = 1 + mostActions + mostActions + mostRows * mostActions
+
+-- of a round: few enough for a number of 32 bits
+abbrev pub mostEffects : ℕ
+mostEffects = mostRows * mostLeft + mostRows * mostTaken + mostRows * (mostEntered + 2)
 
 block-length : (numbers : List ℕ) (start count : ℕ) → length (blockAt numbers start count) ≡ count
 unfolding blockAt
@@ -132,20 +137,29 @@ module _ (numbers : List ℕ) (h : InTables numbers) where
       omega arith
 
   -- the effects of a round, of a start and of a closing round
-  pub round-room : (t : Tally) (conf : List ℕ) (out : RowSet) (by : ℕ → ℕ) (ts stay : List ℕ) (set defaults fell : RowSet) → t .entries ≤ 2 ^ 61 → t .names ≤ 2 ^ 61 →
+  pub round-few : (conf : List ℕ) (out : RowSet) (by : ℕ → ℕ) (ts stay : List ℕ) (set defaults fell : RowSet) →
       Within (rowCount numbers) (rowsOf out) → length ts ≤ 256 → Within (transitionCount numbers) ts → Within (rowCount numbers) (rowsOf set) → HistoryRows numbers (rowsOf fell) →
-      Room t (exiting (chartOf numbers) conf (rowsOf out) ++ flat (transitionEffects (chartOf numbers) stay by) ts ++ entering (chartOf numbers) stay (entryIs set defaults) (rowsOf fell))
-  round-room t conf out by ts stay set defaults fell a b w l v x y =
+      length (exiting (chartOf numbers) conf (rowsOf out) ++ flat (transitionEffects (chartOf numbers) stay by) ts ++ entering (chartOf numbers) stay (entryIs set defaults) (rowsOf fell)) ≤ mostEffects
+  round-few conf out by ts stay set defaults fell w l v x y =
       let p = exiting-few conf out w in
       let q = taken-few stay by ts l v in
       let r = entering-few stay set defaults fell x y in
       let e = length-append (exiting (chartOf numbers) conf (rowsOf out) ++ flat (transitionEffects (chartOf numbers) stay by) ts) (entering (chartOf numbers) stay (entryIs set defaults) (rowsOf fell)) in
       let f = length-append (exiting (chartOf numbers) conf (rowsOf out)) (flat (transitionEffects (chartOf numbers) stay by) ts) in
-      room-few t _ a b (omega arith)
+      omega arith
 
-  pub entering-room : (t : Tally) (stay : List ℕ) (set defaults fell : RowSet) → t .entries ≤ 2 ^ 61 → t .names ≤ 2 ^ 61 →
+  pub start-few : (stay : List ℕ) (set defaults fell : RowSet) → Within (rowCount numbers) (rowsOf set) → HistoryRows numbers (rowsOf fell) →
+      length (entering (chartOf numbers) stay (entryIs set defaults) (rowsOf fell)) ≤ mostEffects
+  start-few stay set defaults fell x y = let r = entering-few stay set defaults fell x y in omega arith
+
+  pub round-room : (t : Tally) (conf : List ℕ) (out : RowSet) (by : ℕ → ℕ) (ts stay : List ℕ) (set defaults fell : RowSet) → t .entries ≤ 2 ^ 61 → t .names ≤ 2 ^ 61 → t .timers ≤ 2 ^ 61 →
+      Within (rowCount numbers) (rowsOf out) → length ts ≤ 256 → Within (transitionCount numbers) ts → Within (rowCount numbers) (rowsOf set) → HistoryRows numbers (rowsOf fell) →
+      Room t (exiting (chartOf numbers) conf (rowsOf out) ++ flat (transitionEffects (chartOf numbers) stay by) ts ++ entering (chartOf numbers) stay (entryIs set defaults) (rowsOf fell))
+  round-room t conf out by ts stay set defaults fell a b c w l v x y = let p = round-few conf out by ts stay set defaults fell w l v x y in room-few t _ a b c (omega arith)
+
+  pub entering-room : (t : Tally) (stay : List ℕ) (set defaults fell : RowSet) → t .entries ≤ 2 ^ 61 → t .names ≤ 2 ^ 61 → t .timers ≤ 2 ^ 61 →
       Within (rowCount numbers) (rowsOf set) → HistoryRows numbers (rowsOf fell) → Room t (entering (chartOf numbers) stay (entryIs set defaults) (rowsOf fell))
-  entering-room t stay set defaults fell a b x y = let r = entering-few stay set defaults fell x y in room-few t _ a b (omega arith)
+  entering-room t stay set defaults fell a b c x y = let r = start-few stay set defaults fell x y in room-few t _ a b c (omega arith)
 
-  pub exiting-room : (t : Tally) (conf : List ℕ) (out : RowSet) → t .entries ≤ 2 ^ 61 → t .names ≤ 2 ^ 61 → Within (rowCount numbers) (rowsOf out) → Room t (exiting (chartOf numbers) conf (rowsOf out))
-  exiting-room t conf out a b w = let p = exiting-few conf out w in room-few t _ a b (omega arith)
+  pub exiting-room : (t : Tally) (conf : List ℕ) (out : RowSet) → t .entries ≤ 2 ^ 61 → t .names ≤ 2 ^ 61 → t .timers ≤ 2 ^ 61 → Within (rowCount numbers) (rowsOf out) → Room t (exiting (chartOf numbers) conf (rowsOf out))
+  exiting-room t conf out a b c w = let p = exiting-few conf out w in room-few t _ a b c (omega arith)

@@ -6,11 +6,11 @@ use Prim.Native.Nat.{ℕ, zero, suc, _+_, _-_, _≤_}
 use native.Mathlib.Omega.{arith}
 use lib.ListN.{drop}
 use Rattle.definition.specs.declared.Action.{Action}
-use Rattle.definition.specs.declared.Action.the-variants.{Raise, Host, If, ElseIf, Else, End}
+use Rattle.definition.specs.declared.Action.the-variants.{Raise, Host, If, ElseIf, Else, End, Send, Cancel}
 use Rattle.definition.specs.declared.Reach.{Reach}
 use Rattle.definition.specs.declared.Reach.the-variants.{Live, Waiting, Past}
 use Rattle.definition.specs.Rows.{mem}
-use Rattle.follower.specs.Blocks.{Effect, raised, acted, atIf, atElse, atEnd, after, perform, performIf, performedFrom, performed}
+use Rattle.follower.specs.Blocks.{Effect, raised, acted, sent, cancelled, atIf, atElse, atEnd, after, perform, performIf, performedFrom, performed}
 use Rattle.laws.specs.Bools.{no}
 
 abbrev pub isBranch : Action → Bool
@@ -20,6 +20,8 @@ isBranch (If i) = true
 isBranch (ElseIf i) = true
 isBranch Else = true
 isBranch End = true
+isBranch (Send n delay id) = false
+isBranch (Cancel n) = false
 
 -- ---- the actions ahead of the first if: how many, and what they do
 
@@ -31,6 +33,8 @@ plainCount (If i ∷ rest) = 0
 plainCount (ElseIf i ∷ rest) = 0
 plainCount (Else ∷ rest) = 0
 plainCount (End ∷ rest) = 0
+plainCount (Send n delay id ∷ rest) = suc (plainCount rest)
+plainCount (Cancel n ∷ rest) = suc (plainCount rest)
 
 unfoldable pub plainEffects : List Action → List Effect
 plainEffects [] = []
@@ -40,6 +44,8 @@ plainEffects (If i ∷ rest) = []
 plainEffects (ElseIf i ∷ rest) = []
 plainEffects (Else ∷ rest) = []
 plainEffects (End ∷ rest) = []
+plainEffects (Send n delay id ∷ rest) = sent n delay id ∷ plainEffects rest
+plainEffects (Cancel n ∷ rest) = cancelled n ∷ plainEffects rest
 
 pub plain-next : (a : Action) (rest : List Action) → isBranch a ≡ false → (plainEffects (a ∷ rest) ≡ perform a ++ plainEffects rest) × (plainCount (a ∷ rest) ≡ suc (plainCount rest))
 unfolding plainEffects plainCount perform
@@ -49,6 +55,8 @@ plain-next (If i) rest h = absurd (no (sym h))
 plain-next (ElseIf i) rest h = absurd (no (sym h))
 plain-next Else rest h = absurd (no (sym h))
 plain-next End rest h = absurd (no (sym h))
+plain-next (Send n delay id) rest h = (refl, refl)
+plain-next (Cancel n) rest h = (refl, refl)
 
 pub plain-stop : (a : Action) (rest : List Action) → isBranch a ≡ true → (plainEffects (a ∷ rest) ≡ []) × (plainCount (a ∷ rest) ≡ 0)
 unfolding plainEffects plainCount
@@ -58,6 +66,8 @@ plain-stop (If i) rest h = (refl, refl)
 plain-stop (ElseIf i) rest h = (refl, refl)
 plain-stop Else rest h = (refl, refl)
 plain-stop End rest h = (refl, refl)
+plain-stop (Send n delay id) rest h = absurd (no h)
+plain-stop (Cancel n) rest h = absurd (no h)
 
 -- they ask for no row; those from the first if on do
 pub performed-split : (active : List ℕ) (xs : List Action) → performed active xs ≡ plainEffects xs ++ performedFrom active Live (drop (plainCount xs) xs)
@@ -69,6 +79,8 @@ performed-split active (If i ∷ rest) = refl
 performed-split active (ElseIf i ∷ rest) = refl
 performed-split active (Else ∷ rest) = refl
 performed-split active (End ∷ rest) = refl
+performed-split active (Send n delay id ∷ rest) = ap {B = List Effect} (λ es. sent n delay id ∷ es) (performed-split active rest)
+performed-split active (Cancel n ∷ rest) = ap {B = List Effect} (λ es. cancelled n ∷ es) (performed-split active rest)
 
 -- ---- how far a block is in its ifs
 
@@ -141,6 +153,14 @@ module _ (conf : List ℕ) (a : Action) (r s : Reach) where
   unfolding after
   after-host n e = sym (rw e)
 
+  pub after-send : (n delay id : ℕ) → a ≡ Send n delay id → r ≡ after conf a r
+  unfolding after
+  after-send n delay id e = sym (rw e)
+
+  pub after-cancel : (n : ℕ) → a ≡ Cancel n → r ≡ after conf a r
+  unfolding after
+  after-cancel n e = sym (rw e)
+
   pub after-if : (i k : ℕ) (b : Bool) → a ≡ If i → k ≡ i → b ≡ mem k conf → s ≡ atIf b r → s ≡ after conf a r
   unfolding after
   after-if i k b e q f g = g ∙ sym (rw (e, f, q))
@@ -191,3 +211,5 @@ one-deeper conf (If i) r = if-deeper (mem i conf) r
 one-deeper conf (ElseIf i) r = else-deeper (mem i conf) r
 one-deeper conf Else r = else-deeper true r
 one-deeper conf End r = end-deeper r
+one-deeper conf (Send n delay id) r = omega arith
+one-deeper conf (Cancel n) r = omega arith

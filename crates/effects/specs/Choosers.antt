@@ -6,7 +6,8 @@ use Rattle.definition.specs.Chart.{Chart}
 use Rattle.follower.specs.Blocks.{taken, chosen, performed}
 use Rattle.follower.specs.Microstep.{transitionEffects}
 use Rattle.effects.specs.declared.Tally.{Tally}
-use Rattle.effects.specs.Trace.{Places, Wrote, Room, wrote-both, room-first, room-next}
+use Rattle.effects.specs.Trace.{Places, Wrote, Room}
+use Rattle.effects.specs.Writing.{wrote-both, room-first, room-next}
 
 -- the row that chose transition t, where a list has a place for each transition
 abbrev pub chooserIn : List ℕ → ℕ → ℕ

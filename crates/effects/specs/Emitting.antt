@@ -13,7 +13,8 @@ use Rattle.rowset.specs.Member.{rowsOf}
 use Rattle.chart.specs.Within.{Within}
 use Rattle.rowset.specs.Search.{restFrom, restBelow, rest-all, rest-whole}
 use Rattle.effects.specs.declared.Tally.{Tally}
-use Rattle.effects.specs.Trace.{Places, Wrote, Writing, Room, writing-begin, writing-turn, writing-end, writing-length, writing-joins, room-left, room-first}
+use Rattle.effects.specs.Trace.{Places, Wrote, Room}
+use Rattle.effects.specs.Writing.{Writing, writing-begin, writing-turn, writing-end, writing-length, writing-joins, room-left, room-first}
 
 -- the effects f of each element of all are written, but for those of rest
 

@@ -30,7 +30,8 @@ use Rattle.chart.specs.Inside.{child-inside}
 use Rattle.accepted.specs.Sound.{Sound}
 use Rattle.rowset.specs.Rows.{rows-low}
 use Rattle.effects.specs.declared.Tally.{Tally}
-use Rattle.effects.specs.Trace.{Places, Wrote, Room, wrote-both, room-first, room-next}
+use Rattle.effects.specs.Trace.{Places, Wrote, Room}
+use Rattle.effects.specs.Writing.{wrote-both, room-first, room-next}
 use Rattle.chart.specs.Within.{Within}
 
 -- ---- the active rows at hand

@@ -1,4 +1,7 @@
 pub mod Trace
+pub mod Writing
+pub mod Putting
+pub mod Notes
 pub mod Kinds
 pub mod Branches
 pub mod Blocks

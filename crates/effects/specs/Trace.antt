@@ -1,14 +1,18 @@
--- The trace, the joins and the counts, after a list of effects was written from a place on.
+-- The trace, the notes and the counts, after a list of effects was written from a place on.
 use mathlib.Core.Path.{_≡_, refl, ap, sym, _∙_}
-use mathlib.Core.List.{List, [], _∷_, _++_, map, map-append, append-nil}
-use Prim.Native.Nat.{ℕ, suc, _+_, _^_, _≤_}
+use mathlib.Core.Bool.{Bool, true, false, cond}
+use mathlib.Core.List.{List, [], _∷_, _++_, map}
+use Prim.Native.Nat.{ℕ, suc, _+_, _-_, _*_, _^_, _≤_}
 use native.Mathlib.Omega.{arith}
-use lib.ListN.{length, take, drop, set, length-append, length-map}
+use lib.Dec.{leb, ltb}
+use lib.ListN.{length, getD, take, drop, set, length-append, length-set}
 use lib.Seq.{sets, length-sets, sets-eq}
 use Rattle.definition.specs.Rows.{flat}
 use Rattle.definition.specs.Chart.{Chart, Names}
+use Rattle.definition.specs.Tables.{noNumber}
 use Rattle.laws.specs.Lists.{flat-app}
-use Rattle.follower.specs.Blocks.{Effect, exited, taken, entered, acted, raised, done, chosen, traceNo, queued}
+use Rattle.follower.specs.Blocks.{Effect, exited, taken, entered, acted, raised, done, chosen, sent, cancelled, traceNo, queued}
+use Rattle.paths.specs.Timing.{times, allTimes}
 use Rattle.effects.specs.declared.Tally.{Tally}
 
 -- ---- numbers put into a list from a place on, each only where the list reaches
@@ -57,6 +61,8 @@ queues (acted n) = 0
 queues (raised n) = 1
 queues (done i) = 1
 queues (chosen i) = 0
+queues (sent n delay id) = 0
+queues (cancelled n) = 0
 
 unfoldable pub allQueues : List Effect → ℕ
 allQueues [] = 0
@@ -76,6 +82,8 @@ queued-length c names (acted n) = refl
 queued-length c names (raised n) = refl
 queued-length c names (done i) = refl
 queued-length c names (chosen i) = refl
+queued-length c names (sent n delay id) = refl
+queued-length c names (cancelled n) = refl
 
 -- whatever the names are
 pub queues-all : (c : Chart) (names : Names) (es : List Effect) → length (flat (queued c names) es) ≡ allQueues es
@@ -97,6 +105,8 @@ queues-one (acted n) = omega arith
 queues-one (raised n) = omega arith
 queues-one (done i) = omega arith
 queues-one (chosen i) = omega arith
+queues-one (sent n delay id) = omega arith
+queues-one (cancelled n) = omega arith
 
 pub queues-few : (es : List Effect) → allQueues es ≤ length es
 unfolding allQueues
@@ -113,6 +123,8 @@ joining (acted n) = []
 joining (raised n) = traceNo (raised n) ∷ []
 joining (done i) = traceNo (done i) ∷ []
 joining (chosen i) = []
+joining (sent n delay id) = []
+joining (cancelled n) = []
 
 unfoldable pub joinsOf : List Effect → List ℕ
 joinsOf es = flat joining es
@@ -134,11 +146,142 @@ joining-length (acted n) = refl
 joining-length (raised n) = refl
 joining-length (done i) = refl
 joining-length (chosen i) = refl
+joining-length (sent n delay id) = refl
+joining-length (cancelled n) = refl
 
 pub joins-length : (es : List Effect) → length (joinsOf es) ≡ allQueues es
 unfolding joinsOf allQueues flat
 joins-length [] = refl
 joins-length (e ∷ es) = let h : length (flat joining es) ≡ allQueues es = joins-length es in let k = joining-length e in let l = length-append (joining e) (flat joining es) in omega arith
+
+-- ---- the sends and cancels of a list of effects: how many
+
+pub times-append : (es fs : List Effect) → allTimes (es ++ fs) ≡ allTimes es + allTimes fs
+unfolding allTimes
+times-append [] fs = omega arith
+times-append (e ∷ es) fs = let h = times-append es fs in omega arith
+
+times-one : (e : Effect) → times e ≤ 1
+unfolding times
+times-one (exited i) = omega arith
+times-one (taken t) = omega arith
+times-one (entered i) = omega arith
+times-one (acted n) = omega arith
+times-one (raised n) = omega arith
+times-one (done i) = omega arith
+times-one (chosen i) = omega arith
+times-one (sent n delay id) = omega arith
+times-one (cancelled n) = omega arith
+
+pub times-few : (es : List Effect) → allTimes es ≤ length es
+unfolding allTimes
+times-few [] = omega arith
+times-few (e ∷ es) = let h = times-few es in let k = times-one e in omega arith
+
+-- ---- the counts behind an effect, and behind a list of them
+
+unfoldable pub tallied : Tally → Effect → Tally
+tallied t e = record { entries = t .entries + 1; names = t .names + queues e; timers = t .timers + times e }
+
+unfoldable pub tallies : Tally → List Effect → Tally
+tallies t [] = t
+tallies t (e ∷ es) = tallies (tallied t e) es
+
+pub tallies-entries : (t : Tally) (es : List Effect) → tallies t es .entries ≡ t .entries + length es
+unfolding tallies tallied
+tallies-entries t [] = omega arith
+tallies-entries t (e ∷ es) = let h = tallies-entries (tallied t e) es in omega arith
+
+pub tallies-names : (t : Tally) (es : List Effect) → tallies t es .names ≡ t .names + allQueues es
+unfolding tallies tallied allQueues
+tallies-names t [] = omega arith
+tallies-names t (e ∷ es) = let h = tallies-names (tallied t e) es in omega arith
+
+pub tallies-timers : (t : Tally) (es : List Effect) → tallies t es .timers ≡ t .timers + allTimes es
+unfolding tallies tallied allTimes
+tallies-timers t [] = omega arith
+tallies-timers t (e ∷ es) = let h = tallies-timers (tallied t e) es in omega arith
+
+pub same-tally : (r s : Tally) → r .entries ≡ s .entries → r .names ≡ s .names → r .timers ≡ s .timers → r ≡ s
+same-tally r s a b c = ap (λ (k : ℕ). record { entries = k; names = r .names; timers = r .timers }) a ∙ ap (λ (k : ℕ). record { entries = s .entries; names = k; timers = r .timers }) b ∙ ap (λ (k : ℕ). record { entries = s .entries; names = s .names; timers = k }) c
+
+-- ---- what a round notes in one place: in its first 32 cells what joins, in the next how many sends and cancels are passed over, and behind it two
+-- numbers for each send or cancel from there on; each only where the place reaches
+
+-- what joins as number k; more than 32 are refused
+unfoldable pub joinAt : List ℕ → ℕ → ℕ → List ℕ
+joinAt place k x = cond (ltb k 32) (set place k x) place
+
+-- how many sends and cancels are passed over
+abbrev pub skipIn : List ℕ → ℕ
+skipIn place = getD place 32 0
+
+-- the two numbers of send or cancel number k
+unfoldable pub timerAt : List ℕ → ℕ → ℕ → ℕ → List ℕ
+timerAt place k a b = cond (leb (skipIn place) k) (set (set place (33 + (k - skipIn place) * 2) a) (34 + (k - skipIn place) * 2) b) place
+
+-- (R-9)
+unfoldable pub note : List ℕ → Tally → Effect → List ℕ
+note place t (exited i) = place
+note place t (taken u) = place
+note place t (entered i) = place
+note place t (acted n) = place
+note place t (raised n) = joinAt place (t .names) (traceNo (raised n))
+note place t (done i) = joinAt place (t .names) (traceNo (done i))
+note place t (chosen i) = place
+note place t (sent n delay id) = timerAt place (t .timers) (n * 65536 + id) delay
+note place t (cancelled n) = timerAt place (t .timers) (noNumber * 65536 + n) 0
+
+-- one after the other
+unfoldable pub notes : List ℕ → Tally → List Effect → List ℕ
+notes place t [] = place
+notes place t (e ∷ es) = notes (note place t e) (tallied t e) es
+
+pub notes-none : (place : List ℕ) (t : Tally) → notes place t [] ≡ place
+unfolding notes
+notes-none place t = refl
+
+pub notes-one : (place : List ℕ) (t : Tally) (e : Effect) → notes place t (e ∷ []) ≡ note place t e
+unfolding notes
+notes-one place t e = refl
+
+pub notes-append : (place : List ℕ) (t : Tally) (es fs : List Effect) → notes place t (es ++ fs) ≡ notes (notes place t es) (tallies t es) fs
+unfolding notes tallies
+notes-append place t [] fs = refl
+notes-append place t (e ∷ es) fs = notes-append (note place t e) (tallied t e) es fs
+
+pub join-at-length : (place : List ℕ) (k x : ℕ) → length (joinAt place k x) ≡ length place
+unfolding joinAt
+join-at-length place k x = go (ltb k 32)
+  where
+    go : (b : Bool) → length (cond b (set place k x) place) ≡ length place
+    go true = length-set place k x
+    go false = refl
+
+pub timer-at-length : (place : List ℕ) (k a b : ℕ) → length (timerAt place k a b) ≡ length place
+unfolding timerAt
+timer-at-length place k a b = go (leb (skipIn place) k) (33 + (k - skipIn place) * 2) (34 + (k - skipIn place) * 2)
+  where
+    go : (h : Bool) (i j : ℕ) → length (cond h (set (set place i a) j b) place) ≡ length place
+    go true i j = length-set (set place i a) j b ∙ length-set place i a
+    go false i j = refl
+
+note-length : (place : List ℕ) (t : Tally) (e : Effect) → length (note place t e) ≡ length place
+unfolding note
+note-length place t (exited i) = refl
+note-length place t (taken u) = refl
+note-length place t (entered i) = refl
+note-length place t (acted n) = refl
+note-length place t (raised n) = join-at-length place (t .names) (traceNo (raised n))
+note-length place t (done i) = join-at-length place (t .names) (traceNo (done i))
+note-length place t (chosen i) = refl
+note-length place t (sent n delay id) = timer-at-length place (t .timers) (n * 65536 + id) delay
+note-length place t (cancelled n) = timer-at-length place (t .timers) (noNumber * 65536 + n) 0
+
+pub notes-size : (place : List ℕ) (t : Tally) (es : List Effect) → length (notes place t es) ≡ length place
+unfolding notes
+notes-size place t [] = refl
+notes-size place t (e ∷ es) = notes-size (note place t e) (tallied t e) es ∙ note-length place t e
 
 -- ---- the effects es, written into the places old from tally t on, give the places new and the tally r
 
@@ -152,18 +295,12 @@ places trace joins = record { trace = trace; joins = joins }
 
 pub record Wrote (old new : Places) (t r : Tally) (es : List Effect) : Type 0 where
   pub trace : new .trace ≡ overwrite (old .trace) (t .entries) (map traceNo es)
-  pub joins : new .joins ≡ overwrite (old .joins) (t .names) (joinsOf es)
+  pub joins : new .joins ≡ notes (old .joins) t es
   pub entries : r .entries ≡ t .entries + length es
   pub names : r .names ≡ t .names + allQueues es
+  pub timers : r .timers ≡ t .timers + allTimes es
 
--- the same on the way: of es, left is still to be written
-pub record Writing (old new : Places) (t r : Tally) (es left : List Effect) : Type 0 where
-  pub trace : overwrite (old .trace) (t .entries) (map traceNo es) ≡ overwrite (new .trace) (r .entries) (map traceNo left)
-  pub joins : overwrite (old .joins) (t .names) (joinsOf es) ≡ overwrite (new .joins) (r .names) (joinsOf left)
-  pub entries : t .entries + length es ≡ r .entries + length left
-  pub names : t .names + allQueues es ≡ r .names + allQueues left
-
--- one effect that queues no name, written into a trace: whatever the joins are, they stay
+-- one effect that queues no name, sends and cancels nothing, written into a trace: whatever the notes are, they stay
 pub record Shown (old new : List ℕ) (t r : Tally) (e : Effect) : Type 0 where
   pub wrote : (joins : List ℕ) → Wrote (places old joins) (places new joins) t r (e ∷ [])
   pub size : length new ≡ length old
@@ -172,107 +309,16 @@ pub record Shown (old new : List ℕ) (t r : Tally) (e : Effect) : Type 0 where
 pub record Room (t : Tally) (es : List Effect) : Type 0 where
   pub entries : t .entries + length es ≤ 2 ^ 62
   pub names : t .names + allQueues es ≤ 2 ^ 62
+  pub timers : t .timers + allTimes es ≤ 2 ^ 62
 
 module _ (old new : Places) (t r : Tally) where
   pub wrote-length : (es : List Effect) → Wrote old new t r es → length (new .trace) ≡ length (old .trace)
   wrote-length es w = ap length (w .trace) ∙ overwrite-length (old .trace) (t .entries) (map traceNo es)
 
   pub wrote-joins : (es : List Effect) → Wrote old new t r es → length (new .joins) ≡ length (old .joins)
-  wrote-joins es w = ap length (w .joins) ∙ overwrite-length (old .joins) (t .names) (joinsOf es)
+  wrote-joins es w = ap length (w .joins) ∙ notes-size (old .joins) t es
 
-  pub writing-length : (es left : List Effect) → Writing old new t r es left → length (new .trace) ≡ length (old .trace)
-  writing-length es left w =
-      sym (overwrite-length (new .trace) (r .entries) (map traceNo left)) ∙ ap length (sym (w .trace)) ∙ overwrite-length (old .trace) (t .entries) (map traceNo es)
-
-  pub writing-joins : (es left : List Effect) → Writing old new t r es left → length (new .joins) ≡ length (old .joins)
-  writing-joins es left w =
-      sym (overwrite-length (new .joins) (r .names) (joinsOf left)) ∙ ap length (sym (w .joins)) ∙ overwrite-length (old .joins) (t .names) (joinsOf es)
-
-  -- written is what is left of nothing
-  pub writing-end : (es left : List Effect) → left ≡ [] → Writing old new t r es left → Wrote old new t r es
-  unfolding allQueues
-  writing-end es left e w =
-      let n = w .entries in
-      let q = w .names in
-      let l = ap {B = ℕ} length e in
-      let m = ap allQueues e in
-      record {
-        trace = sym (w .trace ∙ ap (λ (xs : List Effect). overwrite (new .trace) (r .entries) (map traceNo xs)) e ∙ overwrite-none (new .trace) (r .entries));
-        joins = sym (w .joins ∙ ap (λ (xs : List Effect). overwrite (new .joins) (r .names) (joinsOf xs)) e ∙ ap (overwrite (new .joins) (r .names)) joins-nil ∙ overwrite-none (new .joins) (r .names));
-        entries = omega arith;
-        names = omega arith;
-      }
-
-  -- one more piece
-  pub writing-turn : (es fs rest left : List Effect) (newer : Places) (s : Tally) → left ≡ fs ++ rest → Writing old new t r es left → Wrote new newer r s fs → Writing old newer t s es rest
-  writing-turn es fs rest left newer s e w v =
-      let n = w .entries in
-      let q = w .names in
-      let a = v .entries in
-      let b = v .names in
-      let l = ap {B = ℕ} length e ∙ length-append fs rest in
-      let m = ap allQueues e ∙ queues-append fs rest in
-      record {
-        trace =
-            w .trace ∙ ap (λ (xs : List Effect). overwrite (new .trace) (r .entries) (map traceNo xs)) e ∙
-            ap (overwrite (new .trace) (r .entries)) (map-append traceNo fs rest) ∙ overwrite-append (new .trace) (r .entries) (map traceNo fs) (map traceNo rest) ∙
-            rw (length-map fs traceNo, ← v .entries, ← v .trace);
-        joins =
-            w .joins ∙ ap (λ (xs : List Effect). overwrite (new .joins) (r .names) (joinsOf xs)) e ∙
-            ap (overwrite (new .joins) (r .names)) (joins-append fs rest) ∙ overwrite-append (new .joins) (r .names) (joinsOf fs) (joinsOf rest) ∙
-            rw (joins-length fs, ← v .names, ← v .joins);
-        entries = omega arith;
-        names = omega arith;
-      }
-
-pub writing-begin : (old : Places) (t : Tally) (es left : List Effect) → es ≡ left → Writing old old t t es left
-writing-begin old t es left e = record {
-  trace = ap (λ (xs : List Effect). overwrite (old .trace) (t .entries) (map traceNo xs)) e;
-  joins = ap (λ (xs : List Effect). overwrite (old .joins) (t .names) (joinsOf xs)) e;
-  entries = ap (λ (xs : List Effect). t .entries + length xs) e;
-  names = ap (λ (xs : List Effect). t .names + allQueues xs) e;
-}
-
--- es, then fs
-pub wrote-both : (old new newer : Places) (t r s : Tally) (es fs : List Effect) → Wrote old new t r es → Wrote new newer r s fs → Wrote old newer t s (es ++ fs)
-wrote-both old new newer t r s es fs w v =
-    writing-end old newer t s (es ++ fs) [] refl
-    (writing-turn old new t r (es ++ fs) fs [] (fs ++ []) newer s refl
-    (writing-turn old old t t (es ++ fs) es (fs ++ []) (es ++ fs) new r (ap {B = List Effect} (λ xs. es ++ xs) (sym (append-nil fs))) (writing-begin old t (es ++ fs) (es ++ fs) refl) w) v)
-
--- nothing written
-pub wrote-none : (old : Places) (t : Tally) → Wrote old old t t []
-wrote-none old t = writing-end old old t t [] [] refl (writing-begin old t [] [] refl)
-
--- the whole fits, so what is left does
-pub room-left : (old new : Places) (t r : Tally) (es left : List Effect) → Room t es → Writing old new t r es left → Room r left
-room-left old new t r es left m w =
-    let n = w .entries in
-    let q = w .names in
-    let a = m .entries in
-    let b = m .names in
-    record { entries = omega arith; names = omega arith }
-
--- and so does its first piece
-pub room-first : (t : Tally) (es fs : List Effect) → Room t (es ++ fs) → Room t es
-room-first t es fs m =
-    let a = m .entries in
-    let b = m .names in
-    let l = length-append es fs in
-    let q = queues-append es fs in
-    record { entries = omega arith; names = omega arith }
-
--- few effects have room
-pub room-few : (t : Tally) (es : List Effect) → t .entries ≤ 2 ^ 61 → t .names ≤ 2 ^ 61 → length es ≤ 2 ^ 61 → Room t es
-room-few t es a b l = let q = queues-few es in record { entries = omega arith; names = omega arith }
-
--- what is left after the first piece fits
-pub room-next : (old new : Places) (t r : Tally) (es fs : List Effect) → Room t (es ++ fs) → Wrote old new t r es → Room r fs
-room-next old new t r es fs m w =
-    let a = m .entries in
-    let b = m .names in
-    let n = w .entries in
-    let q = w .names in
-    let l = length-append es fs in
-    let k = queues-append es fs in
-    record { entries = omega arith; names = omega arith }
+-- the counts behind what was written
+pub wrote-tally : (old new : Places) (t r : Tally) (es : List Effect) → Wrote old new t r es → tallies t es ≡ r
+wrote-tally old new t r es w =
+    same-tally (tallies t es) r (tallies-entries t es ∙ sym (w .entries)) (tallies-names t es ∙ sym (w .names)) (tallies-timers t es ∙ sym (w .timers))

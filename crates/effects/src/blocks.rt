@@ -15,7 +15,9 @@ use crate::branches::reach_after;
 use crate::writing::ACTED;
 use crate::writing::RAISED;
 use crate::writing::emit;
+use crate::writing::emit_cancelled;
 use crate::writing::emit_join;
+use crate::writing::emit_sent;
 use definition::Action;
 use definition::Reach;
 use rowset::RowSet;
@@ -33,6 +35,15 @@ fn perform_action(trace: &mut [u32], joins: &mut [u32], tally: Tally, action: Ac
         Action::ElseIf(_) => tally,
         Action::Else => tally,
         Action::End => tally,
+        Action::Send(n, delay, id) => emit_sent(
+            trace,
+            joins,
+            tally,
+            n as u32,
+            delay as u32,
+            id as u32,
+        ),
+        Action::Cancel(n) => emit_cancelled(trace, joins, tally, n as u32),
     }
 }
 

@@ -23,6 +23,8 @@ pub fn is_branch(action: Action) -> bool
         Action::ElseIf(_) => true,
         Action::Else => true,
         Action::End => true,
+        Action::Send(_, _, _) => false,
+        Action::Cancel(_) => false,
     }
 }
 
@@ -99,5 +101,7 @@ pub fn reach_after(active: RowSet, a: Action, r: Reach) -> Reach
         Action::ElseIf(i) => at_else(active.has(Row(i as u8)), r),
         Action::Else => at_else(true, r),
         Action::End => at_end(r),
+        Action::Send(_, _, _) => r,
+        Action::Cancel(_) => r,
     }
 }

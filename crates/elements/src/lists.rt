@@ -10,9 +10,6 @@ use spell::lists::lay_list;
 use spell::parts::lay_part;
 use tables::columns;
 
-// The first kind of a history.
-const HISTORY: u64 = 4;
-
 // The transition to a list that is not empty, with the list's block.
 fn lay_default(numbers: &[u64], names: &[u8], r: Row, out: &mut [u8], at: usize) -> usize
     requires { ⌜ DefaultReady (now numbers) (now names) (r .0) ⌝ }
@@ -31,7 +28,7 @@ fn lay_stated(numbers: &[u64], names: &[u8], r: Row, out: &mut [u8], at: usize) 
     requires { ⌜ DefaultReady (now numbers) (now names) (r .0) ⌝ }
     ensures { λ x. ⌜ Laid (listText (content (now (numbers .entry)) (now (names .entry)) .rows) (rowBack (now (numbers .entry)) (now (names .entry)) (r .0))) (now (out .entry)) at (now (out .exit)) x ⌝ }
 {
-    if HISTORY <= tables::row_cell(numbers, r, columns::KIND) {
+    if kinds::SHALLOW <= tables::row_cell(numbers, r, columns::KIND) {
         return lay_default(numbers, names, r, out, at);
     }
     if tables::row_cell(numbers, r, columns::LIST_BLOCK + 1) == 0 {
@@ -60,7 +57,7 @@ pub fn lay_initial(numbers: &[u64], names: &[u8], r: Row, out: &mut [u8], at: us
     if tables::row_cell(numbers, r, columns::LIST + 1) == 0 {
         return at;
     }
-    if HISTORY <= tables::row_cell(numbers, r, columns::KIND) {
+    if kinds::SHALLOW <= tables::row_cell(numbers, r, columns::KIND) {
         return at;
     }
     if tables::row_cell(numbers, r, columns::LIST_BLOCK + 1) != 0 {

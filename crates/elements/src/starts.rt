@@ -12,31 +12,20 @@ use spell::values::lay_name;
 use tables::columns;
 use tables::limits;
 
-// The kinds of rows, as the tables number them; both histories are of one name.
-const ROOT: u64 = 0;
-
-const STATE: u64 = 1;
-
-const PARALLEL: u64 = 2;
-
-const FINAL: u64 = 3;
-
-const DEEP: u64 = 5;
-
-// The name of the element of a row of this kind.
+// The name of the element of a row of this kind; both histories are of one name.
 pub fn lay_kind(kind: u64, out: &mut [u8], at: usize) -> usize
     ensures { λ r. ⌜ Laid (kindName kind) (now (out .entry)) at (now (out .exit)) r ⌝ }
 {
-    if kind == ROOT {
+    if kind == kinds::ROOT {
         return lay_part(b"scxml", out, at);
     }
-    if kind == STATE {
+    if kind == kinds::STATE {
         return lay_part(b"state", out, at);
     }
-    if kind == PARALLEL {
+    if kind == kinds::PARALLEL {
         return lay_part(b"parallel", out, at);
     }
-    if kind == FINAL {
+    if kind == kinds::FINAL {
         return lay_part(b"final", out, at);
     }
     lay_part(b"history", out, at)
@@ -46,7 +35,7 @@ pub fn lay_kind(kind: u64, out: &mut [u8], at: usize) -> usize
 fn lay_root(kind: u64, out: &mut [u8], at: usize) -> usize
     ensures { λ r. ⌜ Laid (rootText kind) (now (out .entry)) at (now (out .exit)) r ⌝ }
 {
-    if kind != ROOT {
+    if kind != kinds::ROOT {
         return at;
     }
     lay_part(
@@ -60,7 +49,7 @@ fn lay_root(kind: u64, out: &mut [u8], at: usize) -> usize
 fn lay_deep(kind: u64, out: &mut [u8], at: usize) -> usize
     ensures { λ r. ⌜ Laid (deepText kind) (now (out .entry)) at (now (out .exit)) r ⌝ }
 {
-    if kind != DEEP {
+    if kind != kinds::DEEP {
         return at;
     }
     lay_part(b" type=\"deep\"", out, at)

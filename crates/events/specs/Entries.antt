@@ -7,7 +7,7 @@ use native.Mathlib.Omega.{arith}
 use lib.Dec.{eqb, leb, ltb}
 use borrow.Author.Tests.{eqb-true, eq-eqb, leb-true, le-leb, ltb-true, lt-ltb, not-true}
 use Rattle.definition.specs.declared.Action.{Action}
-use Rattle.definition.specs.declared.Action.the-variants.{Raise, Host, If, ElseIf, Else, End}
+use Rattle.definition.specs.declared.Action.the-variants.{Raise, Host, If, ElseIf, Else, End, Send, Cancel}
 use Rattle.definition.specs.declared.Reach.{Reach}
 use Rattle.definition.specs.declared.Reach.the-variants.{Live, Waiting, Past}
 use Rattle.definition.specs.declared.Kind.{Kind}
@@ -17,7 +17,7 @@ use Rattle.definition.specs.Chart.{Chart, Names, kindNo, kind, parent, isRoot, 
 use Rattle.definition.specs.Tables.{noNumber, rowCount, transitionCount, actionCount, nameCount, rowCell, transitionCell, actionAt, blockAt, entryAt, exitAt, idAt, listBlockAt, transitionBlockAt, nameAt, chartOf}
 use Rattle.definition.specs.Rules.{each, slotFits, idDiffers, idFits, actionNamed, rule2}
 use Rattle.follower.specs.Selection.{History, initialTargets}
-use Rattle.follower.specs.Blocks.{Effect, exited, taken, entered, acted, raised, done, chosen, traceNo, queued, after, perform, performIf, performedFrom, performed}
+use Rattle.follower.specs.Blocks.{Effect, exited, taken, entered, acted, raised, done, chosen, sent, cancelled, traceNo, queued, after, perform, performIf, performedFrom, performed}
 use Rattle.follower.specs.Microstep.{exits, exitEffects, exiting, transitionEffects, targeted, Entry, initialBlock, defaultBlock, isDoneAbove, doneEffects, activeLeaving, activeAt, defaultEffects, entryEffects, entering, storedIn, staying, historyAfter, entryOf, fallen, fallenOf, effects}
 use Rattle.follower.specs.Follower.{firstEntry, firstFallen, firstEffects}
 use Rattle.definition.specs.Compiled.{ownNumbers}
@@ -48,6 +48,8 @@ indexFits (acted n) = true
 indexFits (raised n) = leb n 65535
 indexFits (done i) = leb i 65535
 indexFits (chosen i) = true
+indexFits (sent n delay id) = true
+indexFits (cancelled n) = true
 
 module _ (k i : ℕ) (l : i ≤ 65535) where
   kind-back : (k * 65536 + i) / 65536 ≡ k
@@ -73,6 +75,8 @@ module _ (chart : List ℕ) (names : Names) where
   joining-known (entered i) h k = refl
   joining-known (acted i) h k = refl
   joining-known (chosen i) h k = refl
+  joining-known (sent n delay id) h k = refl
+  joining-known (cancelled n) h k = refl
   joining-known (raised i) h k = rw (raised-back i h, k)
   joining-known (done i) h k = rw (done-back i h, k)
 
@@ -83,6 +87,8 @@ module _ (chart : List ℕ) (names : Names) where
   joining-queues (entered i) h = unfold queued in refl
   joining-queues (acted i) h = unfold queued in refl
   joining-queues (chosen i) h = unfold queued in refl
+  joining-queues (sent n delay id) h = unfold queued in refl
+  joining-queues (cancelled n) h = unfold queued in refl
   joining-queues (raised i) h = rw (raised-back i h) (append-nil (queued (chartOf chart) names (raised i)))
   joining-queues (done i) h = rw (done-back i h) (append-nil (queued (chartOf chart) names (done i)))
 
@@ -206,7 +212,7 @@ module _ (chart : List ℕ) (g : Ready chart) (p : Effect → Bool) (h : Passes 
   unfolding entering
   entering-passes stay e fell w v = all-flat p (entryEffects (chartOf chart) stay e fell) (e .set) (λ i m. entry-passes stay e fell v i (w .at i m))
 
-  exiting-passes : (conf out : List ℕ) → Within (rowCount chart) out → all p (exiting (chartOf chart) conf out) ≡ true
+  pub exiting-passes : (conf out : List ℕ) → Within (rowCount chart) out → all p (exiting (chartOf chart) conf out) ≡ true
   unfolding exiting
   exiting-passes conf out w = all-flat p (exitEffects (chartOf chart) conf out) (backwards out) (λ i m. exit-passes conf out i (w .at i (sym (mem-backwards i out) ∙ m)))
 
@@ -241,6 +247,8 @@ action-known chart (If i) h = refl
 action-known chart (ElseIf i) h = refl
 action-known chart Else h = refl
 action-known chart End h = refl
+action-known chart (Send n delay id) h = refl
+action-known chart (Cancel n) h = refl
 
 action-index : (chart : List ℕ) (a : Action) → nameCount chart ≤ 65535 → numberFits chart a ≡ true → all indexFits (perform a) ≡ true
 unfolding numberFits indexFits perform all
@@ -250,6 +258,8 @@ action-index chart (If i) l h = refl
 action-index chart (ElseIf i) l h = refl
 action-index chart Else l h = refl
 action-index chart End l h = refl
+action-index chart (Send n delay id) l h = refl
+action-index chart (Cancel n) l h = refl
 
 module _ (chart names : List ℕ) (k : CompiledWith chart names) where
   own-is : chartOf (ownNumbers chart) ≡ chartOf chart

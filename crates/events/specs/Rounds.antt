@@ -12,7 +12,7 @@ use Rattle.definition.specs.Names.{Name}
 use Rattle.definition.specs.Chart.{Chart, Names}
 use Rattle.definition.specs.Tables.{rowCount, nameCount, nameAt, idAt, chartOf}
 use Rattle.follower.specs.Selection.{History}
-use Rattle.follower.specs.Blocks.{Effect, exited, taken, entered, acted, raised, done, chosen, queued}
+use Rattle.follower.specs.Blocks.{Effect, exited, taken, entered, acted, raised, done, chosen, sent, cancelled, queued}
 use Rattle.follower.specs.Follower.{Follower, Round, idle, roundIn}
 use Rattle.rowset.specs.Member.{rowsOf}
 use Rattle.matching.specs.Chosen.{listOf, Within}
@@ -104,6 +104,8 @@ isKnown chart (entered i) = true
 isKnown chart (acted n) = true
 isKnown chart (raised n) = ltb n (nameCount chart)
 isKnown chart (chosen i) = true
+isKnown chart (sent n delay id) = true
+isKnown chart (cancelled n) = true
 isKnown chart (done i) = ltb i (rowCount chart) && ltb (idAt chart i) (nameCount chart)
 
 pub record JoinsIn (chart joins : List ℕ) : Type 0 where

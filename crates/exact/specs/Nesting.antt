@@ -11,7 +11,7 @@ use borrow.Author.Tests.{ltb-true, lt-ltb}
 use lib.Dec.{ltb}
 use lib.ListN.{length, getD}
 use Rattle.definition.specs.declared.Action.{Action}
-use Rattle.definition.specs.declared.Action.the-variants.{Raise, Host, If, ElseIf, Else, End}
+use Rattle.definition.specs.declared.Action.the-variants.{Raise, Host, If, ElseIf, Else, End, Send, Cancel}
 use Rattle.definition.specs.Rows.{all, isEmpty}
 use Rattle.definition.specs.Chart.{Chart, kind, isState, isParallel, isFinal}
 use Rattle.definition.specs.Tables.{mostNested}
@@ -25,6 +25,8 @@ pub data NestedTo : ℕ → List Action → Type 0 where
   nothing : {n : ℕ} → NestedTo n []
   raising : {n : ℕ} (name : ℕ) {rest : List Action} → NestedTo n rest → NestedTo n (Raise name ∷ rest)
   hosting : {n : ℕ} (number : ℕ) {rest : List Action} → NestedTo n rest → NestedTo n (Host number ∷ rest)
+  sending : {n : ℕ} (name delay id : ℕ) {rest : List Action} → NestedTo n rest → NestedTo n (Send name delay id ∷ rest)
+  cancelling : {n : ℕ} (name : ℕ) {rest : List Action} → NestedTo n rest → NestedTo n (Cancel name ∷ rest)
   choosing : {n : ℕ} (b : Branch) (bs : List Branch) (last : Option (List Action)) {rest : List Action} → ((k : ℕ) → NestedTo n (getD (partsOf (b ∷ bs) last) k [])) →
       NestedTo (suc n) rest → NestedTo (suc n) (wholeIf b bs last ++ rest)
 
@@ -37,6 +39,8 @@ pub nested-any : {n : ℕ} {xs : List Action} → NestedTo n xs → Nested xs
 nested-any nothing = Plain.nothing
 nested-any (raising name v) = Plain.raising name (nested-any v)
 nested-any (hosting number v) = Plain.hosting number (nested-any v)
+nested-any (sending name delay id v) = Plain.sending name delay id (nested-any v)
+nested-any (cancelling name v) = Plain.cancelling name (nested-any v)
 nested-any (choosing b bs last v w) = Plain.choosing b bs last (λ k. nested-any (v k)) (nested-any w)
 
 -- ---- a nested block is accepted: it leaves the ifs that are open as they were
@@ -67,6 +71,8 @@ unfolding nests
 neutral nothing ifs e ys = refl
 neutral (raising name v) ifs e ys = neutral v ifs e ys
 neutral (hosting number v) ifs e ys = neutral v ifs e ys
+neutral (sending name delay id v) ifs e ys = neutral v ifs e ys
+neutral (cancelling name v) ifs e ys = neutral v ifs e ys
 neutral (choosing {n} b bs last {rest} v w) ifs e ys =
     ap (nests ifs) (append-assoc (wholeIf b bs last) rest ys) ∙ if-closes n b bs last (λ k more d zs. neutral (v k) more d zs) ifs e (rest ++ ys) ∙ neutral w ifs e ys
 
@@ -154,6 +160,8 @@ unfolding nests
 nests-open n ifs [] h e = none-open n ifs h
 nests-open n ifs (Raise x ∷ xs) h e = front (Raise x ∷ []) (λ ys v. raising x v) (nests-open n ifs xs h e)
 nests-open n ifs (Host x ∷ xs) h e = front (Host x ∷ []) (λ ys v. hosting x v) (nests-open n ifs xs h e)
+nests-open n ifs (Send x delay id ∷ xs) h e = front (Send x delay id ∷ []) (λ ys v. sending x delay id v) (nests-open n ifs xs h e)
+nests-open n ifs (Cancel x ∷ xs) h e = front (Cancel x ∷ []) (λ ys v. cancelling x v) (nests-open n ifs xs h e)
 nests-open n ifs (If i ∷ xs) h e =
     if-begins n i ifs (and-left (ltb (length ifs) mostNested) _ h) e (λ m d. nests-open m (false ∷ ifs) xs (and-right (ltb (length ifs) mostNested) _ h) d)
 nests-open n ifs (ElseIf i ∷ xs) h e = elseif-open n i ifs (and-left (awaitsElse ifs) _ h) (nests-open n ifs xs (and-right (awaitsElse ifs) _ h) e)
@@ -194,6 +202,8 @@ module _ (c : Chart) where
   named-tests (ElseIf x ∷ xs) f = and-true (conditionFits c (some x)) (all (testFits c) xs) (f x byElseIf) (named-tests xs (λ i t. f i (later (ElseIf x) t)))
   named-tests (Else ∷ xs) f = named-tests xs (λ i t. f i (later Else t))
   named-tests (End ∷ xs) f = named-tests xs (λ i t. f i (later End t))
+  named-tests (Send x delay id ∷ xs) f = named-tests xs (λ i t. f i (later (Send x delay id) t))
+  named-tests (Cancel x ∷ xs) f = named-tests xs (λ i t. f i (later (Cancel x) t))
 
 -- ---- rule 5 of a block
 

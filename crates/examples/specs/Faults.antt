@@ -8,9 +8,10 @@ use Rattle.definition.specs.declared.Mode.{Mode}
 use Rattle.definition.specs.declared.Mode.the-variants.{Running, Closing, Ended}
 use Rattle.definition.specs.Tables.{slotOf}
 use Rattle.follower.specs.Follower.{Follower}
-use Rattle.follower.specs.Calls.{starts, posts, runs}
+use Rattle.follower.specs.Clock.{Timer, Clock}
+use Rattle.follower.specs.Calls.{starts, posts, clocks, runs}
 use Rattle.follower.specs.Open.{everything}
-use Rattle.examples.specs.Play.{joined, historyShown, queueShown, shown, playedIf, played, judged, countsKept, compiledSets, opens, fits, alike}
+use Rattle.examples.specs.Play.{joined, historyShown, queueShown, pendingShown, shown, playedIf, played, judged, countsKept, compiledSets, opens, fits, timer, recordFits, alike}
 
 -- targets: a history of a parallel and a region of it
 abbrev numbers-001 : List ℕ
@@ -27,7 +28,7 @@ names-001 = joined (slotOf (122 ∷ []) ∷ slotOf (112 ∷ []) ∷ slotOf (114 
     []) ∷ slotOf (107 ∷ []) ∷ slotOf (101 ∷ []) ∷ [])
 
 example-001 : alike (played numbers-001 names-001 []) ((4 ∷ []) ∷ []) ≡ true
-unfolding everything joined historyShown queueShown shown playedIf played alike
+unfolding everything joined historyShown queueShown pendingShown shown playedIf played alike
 example-001 = refl
 
 -- targets: a region of a parallel and a history of it
@@ -45,7 +46,7 @@ names-002 = joined (slotOf (122 ∷ []) ∷ slotOf (112 ∷ []) ∷ slotOf (114 
     []) ∷ slotOf (107 ∷ []) ∷ slotOf (101 ∷ []) ∷ [])
 
 example-002 : alike (played numbers-002 names-002 []) ((4 ∷ []) ∷ []) ≡ true
-unfolding everything joined historyShown queueShown shown playedIf played alike
+unfolding everything joined historyShown queueShown pendingShown shown playedIf played alike
 example-002 = refl
 
 -- targets: two histories of a parallel
@@ -63,7 +64,7 @@ names-003 = joined (slotOf (122 ∷ []) ∷ slotOf (112 ∷ []) ∷ slotOf (114 
     []) ∷ slotOf (107 ∷ []) ∷ slotOf (101 ∷ []) ∷ [])
 
 example-003 : alike (played numbers-003 names-003 []) ((4 ∷ []) ∷ []) ≡ true
-unfolding everything joined historyShown queueShown shown playedIf played alike
+unfolding everything joined historyShown queueShown pendingShown shown playedIf played alike
 example-003 = refl
 
 -- targets: two children of a region
@@ -81,7 +82,7 @@ names-004 = joined (slotOf (122 ∷ []) ∷ slotOf (112 ∷ []) ∷ slotOf (114 
     []) ∷ slotOf (107 ∷ []) ∷ slotOf (101 ∷ []) ∷ [])
 
 example-004 : alike (played numbers-004 names-004 []) ((4 ∷ []) ∷ []) ≡ true
-unfolding everything joined historyShown queueShown shown playedIf played alike
+unfolding everything joined historyShown queueShown pendingShown shown playedIf played alike
 example-004 = refl
 
 -- targets: a region and its child
@@ -99,7 +100,7 @@ names-005 = joined (slotOf (122 ∷ []) ∷ slotOf (112 ∷ []) ∷ slotOf (114 
     []) ∷ slotOf (107 ∷ []) ∷ slotOf (101 ∷ []) ∷ [])
 
 example-005 : alike (played numbers-005 names-005 []) ((4 ∷ []) ∷ []) ≡ true
-unfolding everything joined historyShown queueShown shown playedIf played alike
+unfolding everything joined historyShown queueShown pendingShown shown playedIf played alike
 example-005 = refl
 
 -- targets: a child of a region and the region
@@ -117,7 +118,7 @@ names-006 = joined (slotOf (122 ∷ []) ∷ slotOf (112 ∷ []) ∷ slotOf (114 
     []) ∷ slotOf (107 ∷ []) ∷ slotOf (101 ∷ []) ∷ [])
 
 example-006 : alike (played numbers-006 names-006 []) ((4 ∷ []) ∷ []) ≡ true
-unfolding everything joined historyShown queueShown shown playedIf played alike
+unfolding everything joined historyShown queueShown pendingShown shown playedIf played alike
 example-006 = refl
 
 -- targets: the first and the last of three
@@ -135,7 +136,7 @@ names-007 = joined (slotOf (122 ∷ []) ∷ slotOf (112 ∷ []) ∷ slotOf (114 
     []) ∷ slotOf (107 ∷ []) ∷ slotOf (101 ∷ []) ∷ [])
 
 example-007 : alike (played numbers-007 names-007 []) ((4 ∷ []) ∷ []) ≡ true
-unfolding everything joined historyShown queueShown shown playedIf played alike
+unfolding everything joined historyShown queueShown pendingShown shown playedIf played alike
 example-007 = refl
 
 -- targets: the second and the last of three
@@ -153,7 +154,7 @@ names-008 = joined (slotOf (122 ∷ []) ∷ slotOf (112 ∷ []) ∷ slotOf (114 
     []) ∷ slotOf (107 ∷ []) ∷ slotOf (101 ∷ []) ∷ [])
 
 example-008 : alike (played numbers-008 names-008 []) ((4 ∷ []) ∷ []) ≡ true
-unfolding everything joined historyShown queueShown shown playedIf played alike
+unfolding everything joined historyShown queueShown pendingShown shown playedIf played alike
 example-008 = refl
 
 -- rule 1 broken
@@ -170,7 +171,7 @@ abbrev names-009 : List ℕ
 names-009 = joined (slotOf (115 ∷ []) ∷ slotOf (97 ∷ []) ∷ slotOf (98 ∷ []) ∷ slotOf (101 ∷ []) ∷ [])
 
 example-009 : alike (played numbers-009 names-009 []) ((1 ∷ []) ∷ []) ≡ true
-unfolding everything joined historyShown queueShown shown playedIf played alike
+unfolding everything joined historyShown queueShown pendingShown shown playedIf played alike
 example-009 = refl
 
 -- rules 1 and 2 broken
@@ -190,7 +191,7 @@ names-010 = joined (slotOf (115 ∷ []) ∷ slotOf (97 ∷ []) ∷ slotOf (98 �
     0 ∷ 0 ∷ []) ∷ [])
 
 example-010 : alike (played numbers-010 names-010 []) ((1 ∷ []) ∷ []) ≡ true
-unfolding everything joined historyShown queueShown shown playedIf played alike
+unfolding everything joined historyShown queueShown pendingShown shown playedIf played alike
 example-010 = refl
 
 -- rules 1 and 3 broken
@@ -209,7 +210,7 @@ names-011 = joined (slotOf (115 ∷ []) ∷ slotOf (97 ∷ []) ∷ slotOf (98 �
     [])
 
 example-011 : alike (played numbers-011 names-011 []) ((1 ∷ []) ∷ []) ≡ true
-unfolding everything joined historyShown queueShown shown playedIf played alike
+unfolding everything joined historyShown queueShown pendingShown shown playedIf played alike
 example-011 = refl
 
 -- rules 1 and 4 broken
@@ -226,7 +227,7 @@ abbrev names-012 : List ℕ
 names-012 = joined (slotOf (115 ∷ []) ∷ slotOf (97 ∷ []) ∷ slotOf (98 ∷ []) ∷ slotOf (101 ∷ []) ∷ [])
 
 example-012 : alike (played numbers-012 names-012 []) ((1 ∷ []) ∷ []) ≡ true
-unfolding everything joined historyShown queueShown shown playedIf played alike
+unfolding everything joined historyShown queueShown pendingShown shown playedIf played alike
 example-012 = refl
 
 -- rules 1 and 5 broken
@@ -243,7 +244,7 @@ abbrev names-013 : List ℕ
 names-013 = joined (slotOf (115 ∷ []) ∷ slotOf (97 ∷ []) ∷ slotOf (98 ∷ []) ∷ slotOf (101 ∷ []) ∷ [])
 
 example-013 : alike (played numbers-013 names-013 []) ((1 ∷ []) ∷ []) ≡ true
-unfolding everything joined historyShown queueShown shown playedIf played alike
+unfolding everything joined historyShown queueShown pendingShown shown playedIf played alike
 example-013 = refl
 
 -- rule 2 broken
@@ -259,7 +260,7 @@ names-014 = joined (slotOf (115 ∷ []) ∷ slotOf (97 ∷ []) ∷ slotOf (98 �
     0 ∷ 0 ∷ []) ∷ [])
 
 example-014 : alike (played numbers-014 names-014 []) ((2 ∷ []) ∷ []) ≡ true
-unfolding everything joined historyShown queueShown shown playedIf played alike
+unfolding everything joined historyShown queueShown pendingShown shown playedIf played alike
 example-014 = refl
 
 -- rules 2 and 3 broken
@@ -275,7 +276,7 @@ names-015 = joined (slotOf (115 ∷ []) ∷ slotOf (97 ∷ []) ∷ slotOf (98 �
     0 ∷ 0 ∷ []) ∷ slotOf (104 ∷ []) ∷ [])
 
 example-015 : alike (played numbers-015 names-015 []) ((2 ∷ []) ∷ []) ≡ true
-unfolding everything joined historyShown queueShown shown playedIf played alike
+unfolding everything joined historyShown queueShown pendingShown shown playedIf played alike
 example-015 = refl
 
 -- rules 2 and 4 broken
@@ -291,7 +292,7 @@ names-016 = joined (slotOf (115 ∷ []) ∷ slotOf (97 ∷ []) ∷ slotOf (98 �
     0 ∷ 0 ∷ []) ∷ [])
 
 example-016 : alike (played numbers-016 names-016 []) ((2 ∷ []) ∷ []) ≡ true
-unfolding everything joined historyShown queueShown shown playedIf played alike
+unfolding everything joined historyShown queueShown pendingShown shown playedIf played alike
 example-016 = refl
 
 -- rules 2 and 5 broken
@@ -307,7 +308,7 @@ names-017 = joined (slotOf (115 ∷ []) ∷ slotOf (97 ∷ []) ∷ slotOf (98 �
     0 ∷ 0 ∷ []) ∷ [])
 
 example-017 : alike (played numbers-017 names-017 []) ((2 ∷ []) ∷ []) ≡ true
-unfolding everything joined historyShown queueShown shown playedIf played alike
+unfolding everything joined historyShown queueShown pendingShown shown playedIf played alike
 example-017 = refl
 
 -- rule 3 broken
@@ -321,7 +322,7 @@ names-018 = joined (slotOf (115 ∷ []) ∷ slotOf (97 ∷ []) ∷ slotOf (98 �
     [])
 
 example-018 : alike (played numbers-018 names-018 []) ((3 ∷ []) ∷ []) ≡ true
-unfolding everything joined historyShown queueShown shown playedIf played alike
+unfolding everything joined historyShown queueShown pendingShown shown playedIf played alike
 example-018 = refl
 
 -- rules 3 and 4 broken
@@ -335,7 +336,7 @@ names-019 = joined (slotOf (115 ∷ []) ∷ slotOf (97 ∷ []) ∷ slotOf (98 �
     [])
 
 example-019 : alike (played numbers-019 names-019 []) ((3 ∷ []) ∷ []) ≡ true
-unfolding everything joined historyShown queueShown shown playedIf played alike
+unfolding everything joined historyShown queueShown pendingShown shown playedIf played alike
 example-019 = refl
 
 -- rules 3 and 5 broken
@@ -349,7 +350,7 @@ names-020 = joined (slotOf (115 ∷ []) ∷ slotOf (97 ∷ []) ∷ slotOf (98 �
     [])
 
 example-020 : alike (played numbers-020 names-020 []) ((3 ∷ []) ∷ []) ≡ true
-unfolding everything joined historyShown queueShown shown playedIf played alike
+unfolding everything joined historyShown queueShown pendingShown shown playedIf played alike
 example-020 = refl
 
 -- rule 4 broken
@@ -362,7 +363,7 @@ abbrev names-021 : List ℕ
 names-021 = joined (slotOf (115 ∷ []) ∷ slotOf (97 ∷ []) ∷ slotOf (98 ∷ []) ∷ slotOf (101 ∷ []) ∷ [])
 
 example-021 : alike (played numbers-021 names-021 []) ((4 ∷ []) ∷ []) ≡ true
-unfolding everything joined historyShown queueShown shown playedIf played alike
+unfolding everything joined historyShown queueShown pendingShown shown playedIf played alike
 example-021 = refl
 
 -- rules 4 and 5 broken
@@ -375,7 +376,7 @@ abbrev names-022 : List ℕ
 names-022 = joined (slotOf (115 ∷ []) ∷ slotOf (97 ∷ []) ∷ slotOf (98 ∷ []) ∷ slotOf (101 ∷ []) ∷ [])
 
 example-022 : alike (played numbers-022 names-022 []) ((4 ∷ []) ∷ []) ≡ true
-unfolding everything joined historyShown queueShown shown playedIf played alike
+unfolding everything joined historyShown queueShown pendingShown shown playedIf played alike
 example-022 = refl
 
 -- rule 5 broken
@@ -388,7 +389,7 @@ abbrev names-023 : List ℕ
 names-023 = joined (slotOf (115 ∷ []) ∷ slotOf (97 ∷ []) ∷ slotOf (98 ∷ []) ∷ slotOf (101 ∷ []) ∷ [])
 
 example-023 : alike (played numbers-023 names-023 []) ((5 ∷ []) ∷ []) ≡ true
-unfolding everything joined historyShown queueShown shown playedIf played alike
+unfolding everything joined historyShown queueShown pendingShown shown playedIf played alike
 example-023 = refl
 
 -- a history without an id
@@ -401,7 +402,7 @@ abbrev names-024 : List ℕ
 names-024 = joined (slotOf (115 ∷ []) ∷ slotOf (97 ∷ []) ∷ slotOf (98 ∷ []) ∷ slotOf (104 ∷ []) ∷ [])
 
 example-024 : alike (played numbers-024 names-024 []) ((2 ∷ []) ∷ []) ≡ true
-unfolding everything joined historyShown queueShown shown playedIf played alike
+unfolding everything joined historyShown queueShown pendingShown shown playedIf played alike
 example-024 = refl
 
 -- a history with the id of a state
@@ -414,7 +415,7 @@ abbrev names-025 : List ℕ
 names-025 = joined (slotOf (115 ∷ []) ∷ slotOf (97 ∷ []) ∷ slotOf (98 ∷ []) ∷ slotOf (104 ∷ []) ∷ [])
 
 example-025 : alike (played numbers-025 names-025 []) ((2 ∷ []) ∷ []) ≡ true
-unfolding everything joined historyShown queueShown shown playedIf played alike
+unfolding everything joined historyShown queueShown pendingShown shown playedIf played alike
 example-025 = refl
 
 -- a name with an at sign
@@ -430,7 +431,7 @@ names-026 = joined (slotOf (115 ∷ []) ∷ slotOf (97 ∷ []) ∷ slotOf (98 �
     0 ∷ 0 ∷ []) ∷ [])
 
 example-026 : alike (played numbers-026 names-026 []) ((2 ∷ []) ∷ []) ≡ true
-unfolding everything joined historyShown queueShown shown playedIf played alike
+unfolding everything joined historyShown queueShown pendingShown shown playedIf played alike
 example-026 = refl
 
 -- a name with a bracket
@@ -446,7 +447,7 @@ names-027 = joined (slotOf (115 ∷ []) ∷ slotOf (97 ∷ []) ∷ slotOf (98 �
     0 ∷ 0 ∷ []) ∷ [])
 
 example-027 : alike (played numbers-027 names-027 []) ((2 ∷ []) ∷ []) ≡ true
-unfolding everything joined historyShown queueShown shown playedIf played alike
+unfolding everything joined historyShown queueShown pendingShown shown playedIf played alike
 example-027 = refl
 
 -- a name with a caret
@@ -462,7 +463,7 @@ names-028 = joined (slotOf (115 ∷ []) ∷ slotOf (97 ∷ []) ∷ slotOf (98 �
     0 ∷ 0 ∷ []) ∷ [])
 
 example-028 : alike (played numbers-028 names-028 []) ((2 ∷ []) ∷ []) ≡ true
-unfolding everything joined historyShown queueShown shown playedIf played alike
+unfolding everything joined historyShown queueShown pendingShown shown playedIf played alike
 example-028 = refl
 
 -- a name with a backquote
@@ -478,7 +479,7 @@ names-029 = joined (slotOf (115 ∷ []) ∷ slotOf (97 ∷ []) ∷ slotOf (98 �
     0 ∷ 0 ∷ []) ∷ [])
 
 example-029 : alike (played numbers-029 names-029 []) ((2 ∷ []) ∷ []) ≡ true
-unfolding everything joined historyShown queueShown shown playedIf played alike
+unfolding everything joined historyShown queueShown pendingShown shown playedIf played alike
 example-029 = refl
 
 -- a name with a brace
@@ -494,7 +495,7 @@ names-030 = joined (slotOf (115 ∷ []) ∷ slotOf (97 ∷ []) ∷ slotOf (98 �
     0 ∷ 0 ∷ []) ∷ [])
 
 example-030 : alike (played numbers-030 names-030 []) ((2 ∷ []) ∷ []) ≡ true
-unfolding everything joined historyShown queueShown shown playedIf played alike
+unfolding everything joined historyShown queueShown pendingShown shown playedIf played alike
 example-030 = refl
 
 -- a name with a colon
@@ -510,7 +511,7 @@ names-031 = joined (slotOf (115 ∷ []) ∷ slotOf (97 ∷ []) ∷ slotOf (98 �
     0 ∷ 0 ∷ []) ∷ [])
 
 example-031 : alike (played numbers-031 names-031 []) ((2 ∷ []) ∷ []) ≡ true
-unfolding everything joined historyShown queueShown shown playedIf played alike
+unfolding everything joined historyShown queueShown pendingShown shown playedIf played alike
 example-031 = refl
 
 -- a name with a comma
@@ -526,7 +527,7 @@ names-032 = joined (slotOf (115 ∷ []) ∷ slotOf (97 ∷ []) ∷ slotOf (98 �
     0 ∷ 0 ∷ []) ∷ [])
 
 example-032 : alike (played numbers-032 names-032 []) ((2 ∷ []) ∷ []) ≡ true
-unfolding everything joined historyShown queueShown shown playedIf played alike
+unfolding everything joined historyShown queueShown pendingShown shown playedIf played alike
 example-032 = refl
 
 -- a name with a plus
@@ -542,7 +543,7 @@ names-033 = joined (slotOf (115 ∷ []) ∷ slotOf (97 ∷ []) ∷ slotOf (98 �
     0 ∷ 0 ∷ []) ∷ [])
 
 example-033 : alike (played numbers-033 names-033 []) ((2 ∷ []) ∷ []) ≡ true
-unfolding everything joined historyShown queueShown shown playedIf played alike
+unfolding everything joined historyShown queueShown pendingShown shown playedIf played alike
 example-033 = refl
 
 -- shallow history under root
@@ -556,7 +557,7 @@ names-034 = joined (slotOf (115 ∷ []) ∷ slotOf (102 ∷ 105 ∷ 114 ∷ 115 
     100 ∷ []) ∷ slotOf (111 ∷ 116 ∷ 104 ∷ 101 ∷ 114 ∷ []) ∷ [])
 
 example-034 : alike (played numbers-034 names-034 []) ((3 ∷ []) ∷ []) ≡ true
-unfolding everything joined historyShown queueShown shown playedIf played alike
+unfolding everything joined historyShown queueShown pendingShown shown playedIf played alike
 example-034 = refl
 
 -- deep history under root
@@ -570,7 +571,7 @@ names-035 = joined (slotOf (115 ∷ []) ∷ slotOf (102 ∷ 105 ∷ 114 ∷ 115 
     100 ∷ []) ∷ slotOf (111 ∷ 116 ∷ 104 ∷ 101 ∷ 114 ∷ []) ∷ [])
 
 example-035 : alike (played numbers-035 names-035 []) ((3 ∷ []) ∷ []) ≡ true
-unfolding everything joined historyShown queueShown shown playedIf played alike
+unfolding everything joined historyShown queueShown pendingShown shown playedIf played alike
 example-035 = refl
 
 -- final under parallel
@@ -584,7 +585,7 @@ names-036 = joined (slotOf (115 ∷ []) ∷ slotOf (102 ∷ 105 ∷ 114 ∷ 115 
     114 ∷ []) ∷ slotOf (99 ∷ 104 ∷ 105 ∷ 108 ∷ 100 ∷ []) ∷ slotOf (111 ∷ 116 ∷ 104 ∷ 101 ∷ 114 ∷ []) ∷ [])
 
 example-036 : alike (played numbers-036 names-036 []) ((3 ∷ []) ∷ []) ≡ true
-unfolding everything joined historyShown queueShown shown playedIf played alike
+unfolding everything joined historyShown queueShown pendingShown shown playedIf played alike
 example-036 = refl
 
 -- state under final
@@ -598,7 +599,7 @@ names-037 = joined (slotOf (115 ∷ []) ∷ slotOf (102 ∷ 105 ∷ 114 ∷ 115 
     114 ∷ []) ∷ slotOf (99 ∷ 104 ∷ 105 ∷ 108 ∷ 100 ∷ []) ∷ [])
 
 example-037 : alike (played numbers-037 names-037 []) ((3 ∷ []) ∷ []) ≡ true
-unfolding everything joined historyShown queueShown shown playedIf played alike
+unfolding everything joined historyShown queueShown pendingShown shown playedIf played alike
 example-037 = refl
 
 -- parallel under final
@@ -612,7 +613,7 @@ names-038 = joined (slotOf (115 ∷ []) ∷ slotOf (102 ∷ 105 ∷ 114 ∷ 115 
     114 ∷ []) ∷ slotOf (99 ∷ 104 ∷ 105 ∷ 108 ∷ 100 ∷ []) ∷ slotOf (114 ∷ 101 ∷ 103 ∷ 105 ∷ 111 ∷ 110 ∷ []) ∷ [])
 
 example-038 : alike (played numbers-038 names-038 []) ((3 ∷ []) ∷ []) ≡ true
-unfolding everything joined historyShown queueShown shown playedIf played alike
+unfolding everything joined historyShown queueShown pendingShown shown playedIf played alike
 example-038 = refl
 
 -- final under final
@@ -626,7 +627,7 @@ names-039 = joined (slotOf (115 ∷ []) ∷ slotOf (102 ∷ 105 ∷ 114 ∷ 115 
     114 ∷ []) ∷ slotOf (99 ∷ 104 ∷ 105 ∷ 108 ∷ 100 ∷ []) ∷ [])
 
 example-039 : alike (played numbers-039 names-039 []) ((3 ∷ []) ∷ []) ≡ true
-unfolding everything joined historyShown queueShown shown playedIf played alike
+unfolding everything joined historyShown queueShown pendingShown shown playedIf played alike
 example-039 = refl
 
 -- state under shallow history
@@ -640,7 +641,7 @@ names-040 = joined (slotOf (115 ∷ []) ∷ slotOf (102 ∷ 105 ∷ 114 ∷ 115 
     114 ∷ []) ∷ slotOf (99 ∷ 104 ∷ 105 ∷ 108 ∷ 100 ∷ []) ∷ [])
 
 example-040 : alike (played numbers-040 names-040 []) ((3 ∷ []) ∷ []) ≡ true
-unfolding everything joined historyShown queueShown shown playedIf played alike
+unfolding everything joined historyShown queueShown pendingShown shown playedIf played alike
 example-040 = refl
 
 -- parallel under shallow history
@@ -654,7 +655,7 @@ names-041 = joined (slotOf (115 ∷ []) ∷ slotOf (102 ∷ 105 ∷ 114 ∷ 115 
     114 ∷ []) ∷ slotOf (99 ∷ 104 ∷ 105 ∷ 108 ∷ 100 ∷ []) ∷ slotOf (114 ∷ 101 ∷ 103 ∷ 105 ∷ 111 ∷ 110 ∷ []) ∷ [])
 
 example-041 : alike (played numbers-041 names-041 []) ((3 ∷ []) ∷ []) ≡ true
-unfolding everything joined historyShown queueShown shown playedIf played alike
+unfolding everything joined historyShown queueShown pendingShown shown playedIf played alike
 example-041 = refl
 
 -- final under shallow history
@@ -668,7 +669,7 @@ names-042 = joined (slotOf (115 ∷ []) ∷ slotOf (102 ∷ 105 ∷ 114 ∷ 115 
     114 ∷ []) ∷ slotOf (99 ∷ 104 ∷ 105 ∷ 108 ∷ 100 ∷ []) ∷ [])
 
 example-042 : alike (played numbers-042 names-042 []) ((3 ∷ []) ∷ []) ≡ true
-unfolding everything joined historyShown queueShown shown playedIf played alike
+unfolding everything joined historyShown queueShown pendingShown shown playedIf played alike
 example-042 = refl
 
 -- state under deep history
@@ -682,7 +683,7 @@ names-043 = joined (slotOf (115 ∷ []) ∷ slotOf (102 ∷ 105 ∷ 114 ∷ 115 
     114 ∷ []) ∷ slotOf (99 ∷ 104 ∷ 105 ∷ 108 ∷ 100 ∷ []) ∷ [])
 
 example-043 : alike (played numbers-043 names-043 []) ((3 ∷ []) ∷ []) ≡ true
-unfolding everything joined historyShown queueShown shown playedIf played alike
+unfolding everything joined historyShown queueShown pendingShown shown playedIf played alike
 example-043 = refl
 
 -- parallel under deep history
@@ -696,7 +697,7 @@ names-044 = joined (slotOf (115 ∷ []) ∷ slotOf (102 ∷ 105 ∷ 114 ∷ 115 
     114 ∷ []) ∷ slotOf (99 ∷ 104 ∷ 105 ∷ 108 ∷ 100 ∷ []) ∷ slotOf (114 ∷ 101 ∷ 103 ∷ 105 ∷ 111 ∷ 110 ∷ []) ∷ [])
 
 example-044 : alike (played numbers-044 names-044 []) ((3 ∷ []) ∷ []) ≡ true
-unfolding everything joined historyShown queueShown shown playedIf played alike
+unfolding everything joined historyShown queueShown pendingShown shown playedIf played alike
 example-044 = refl
 
 -- final under deep history
@@ -710,5 +711,5 @@ names-045 = joined (slotOf (115 ∷ []) ∷ slotOf (102 ∷ 105 ∷ 114 ∷ 115 
     114 ∷ []) ∷ slotOf (99 ∷ 104 ∷ 105 ∷ 108 ∷ 100 ∷ []) ∷ [])
 
 example-045 : alike (played numbers-045 names-045 []) ((3 ∷ []) ∷ []) ≡ true
-unfolding everything joined historyShown queueShown shown playedIf played alike
+unfolding everything joined historyShown queueShown pendingShown shown playedIf played alike
 example-045 = refl

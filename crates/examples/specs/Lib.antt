@@ -15,3 +15,4 @@ pub mod Sets
 pub mod Places
 pub mod Sessions
 pub mod Worked
+pub mod Records

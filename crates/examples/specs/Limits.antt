@@ -8,9 +8,10 @@ use Rattle.definition.specs.declared.Mode.{Mode}
 use Rattle.definition.specs.declared.Mode.the-variants.{Running, Closing, Ended}
 use Rattle.definition.specs.Tables.{slotOf}
 use Rattle.follower.specs.Follower.{Follower}
-use Rattle.follower.specs.Calls.{starts, posts, runs}
+use Rattle.follower.specs.Clock.{Timer, Clock}
+use Rattle.follower.specs.Calls.{starts, posts, clocks, runs}
 use Rattle.follower.specs.Open.{everything}
-use Rattle.examples.specs.Play.{joined, historyShown, queueShown, shown, playedIf, played, judged, countsKept, compiledSets, opens, fits, alike}
+use Rattle.examples.specs.Play.{joined, historyShown, queueShown, pendingShown, shown, playedIf, played, judged, countsKept, compiledSets, opens, fits, timer, recordFits, alike}
 
 -- every count at its limit
 header-001 : countsKept (256 ∷ 512 ∷ 69632 ∷ 2048 ∷ 40960 ∷ 768 ∷ []) ≡ true
@@ -77,13 +78,13 @@ names-001 = joined (slotOf (122 ∷ []) ∷ slotOf (112 ∷ []) ∷ slotOf (114 
     54 ∷ []) ∷ slotOf (114 ∷ 55 ∷ []) ∷ slotOf (97 ∷ []) ∷ slotOf (98 ∷ []) ∷ slotOf (99 ∷ []) ∷ slotOf (100 ∷ []) ∷ [])
 
 example-001 : alike (played numbers-001 names-001 (starts 200 ∷ posts (100 ∷ []) ∷ runs 1 200 ∷ [])) ((0 ∷ []) ∷ (0 ∷
-    0 ∷ []) ∷ (196609 ∷ []) ∷ (1 ∷ []) ∷ [] ∷ [] ∷ [] ∷ (1 ∷ []) ∷ (0 ∷ 0 ∷ []) ∷ [] ∷ (1 ∷ []) ∷ [] ∷ [] ∷ (1 ∷ 100 ∷
-    []) ∷ (1 ∷ []) ∷ (101 ∷ 1 ∷ []) ∷ (65537 ∷ 131072 ∷ 458753 ∷ 262145 ∷ 262146 ∷ 262147 ∷ 262148 ∷ 262149 ∷ 262150 ∷
-    262151 ∷ 262152 ∷ 262153 ∷ 262154 ∷ 262155 ∷ 262156 ∷ 262157 ∷ 262158 ∷ 262159 ∷ 262160 ∷ 262161 ∷ 262162 ∷
-    262163 ∷ 262164 ∷ 262165 ∷ 262166 ∷ 262167 ∷ 262168 ∷ 262169 ∷ 262170 ∷ 262171 ∷ 262172 ∷ 262173 ∷ 262174 ∷
-    262175 ∷ 262176 ∷ 196610 ∷ 196611 ∷ 196612 ∷ 196613 ∷ 196614 ∷ 196615 ∷ 196616 ∷ 196617 ∷ 196618 ∷ []) ∷ (2 ∷ 3 ∷
-    4 ∷ 5 ∷ 6 ∷ 7 ∷ 8 ∷ 9 ∷ 10 ∷ []) ∷ [] ∷ [] ∷ [] ∷ (1 ∷ []) ∷ []) ≡ true
-unfolding everything joined historyShown queueShown shown playedIf played alike
+    0 ∷ []) ∷ (196609 ∷ []) ∷ (1 ∷ []) ∷ [] ∷ [] ∷ [] ∷ (1 ∷ []) ∷ (0 ∷ []) ∷ (0 ∷ 0 ∷ []) ∷ [] ∷ (1 ∷ []) ∷ [] ∷ [] ∷
+    (1 ∷ 100 ∷ []) ∷ (1 ∷ []) ∷ (0 ∷ []) ∷ (101 ∷ 1 ∷ []) ∷ (65537 ∷ 131072 ∷ 458753 ∷ 262145 ∷ 262146 ∷ 262147 ∷
+    262148 ∷ 262149 ∷ 262150 ∷ 262151 ∷ 262152 ∷ 262153 ∷ 262154 ∷ 262155 ∷ 262156 ∷ 262157 ∷ 262158 ∷ 262159 ∷
+    262160 ∷ 262161 ∷ 262162 ∷ 262163 ∷ 262164 ∷ 262165 ∷ 262166 ∷ 262167 ∷ 262168 ∷ 262169 ∷ 262170 ∷ 262171 ∷
+    262172 ∷ 262173 ∷ 262174 ∷ 262175 ∷ 262176 ∷ 196610 ∷ 196611 ∷ 196612 ∷ 196613 ∷ 196614 ∷ 196615 ∷ 196616 ∷
+    196617 ∷ 196618 ∷ []) ∷ (2 ∷ 3 ∷ 4 ∷ 5 ∷ 6 ∷ 7 ∷ 8 ∷ 9 ∷ 10 ∷ []) ∷ [] ∷ [] ∷ [] ∷ (1 ∷ []) ∷ (0 ∷ []) ∷ []) ≡ true
+unfolding everything joined historyShown queueShown pendingShown shown playedIf played alike
 example-001 = refl
 
 -- a list of 20 rows
@@ -108,5 +109,5 @@ names-002 = joined (slotOf (112 ∷ []) ∷ slotOf (114 ∷ 48 ∷ []) ∷ slotO
     49 ∷ 57 ∷ []) ∷ [])
 
 example-002 : alike (played numbers-002 names-002 []) ((0 ∷ []) ∷ []) ≡ true
-unfolding everything joined historyShown queueShown shown playedIf played alike
+unfolding everything joined historyShown queueShown pendingShown shown playedIf played alike
 example-002 = refl

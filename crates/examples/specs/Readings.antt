@@ -8,9 +8,10 @@ use Rattle.definition.specs.declared.Mode.{Mode}
 use Rattle.definition.specs.declared.Mode.the-variants.{Running, Closing, Ended}
 use Rattle.definition.specs.Tables.{slotOf}
 use Rattle.follower.specs.Follower.{Follower}
-use Rattle.follower.specs.Calls.{starts, posts, runs}
+use Rattle.follower.specs.Clock.{Timer, Clock}
+use Rattle.follower.specs.Calls.{starts, posts, clocks, runs}
 use Rattle.follower.specs.Open.{everything}
-use Rattle.examples.specs.Play.{joined, historyShown, queueShown, shown, playedIf, played, judged, countsKept, compiledSets, opens, fits, alike}
+use Rattle.examples.specs.Play.{joined, historyShown, queueShown, pendingShown, shown, playedIf, played, judged, countsKept, compiledSets, opens, fits, timer, recordFits, alike}
 
 -- Reading 1: entry stays below the domain.
 abbrev numbers-001 : List ℕ
@@ -28,11 +29,11 @@ names-001 = joined (slotOf (115 ∷ []) ∷ slotOf (113 ∷ []) ∷ slotOf (100 
 
 example-001 : alike (played numbers-001 names-001 (starts 200 ∷ posts (102 ∷ []) ∷ posts (101 ∷ []) ∷ runs 5 200 ∷
     [])) ((0 ∷ []) ∷ (0 ∷ 0 ∷ []) ∷ (196609 ∷ 196610 ∷ 196611 ∷ 196612 ∷ 196614 ∷ 196615 ∷ []) ∷ (1 ∷ 2 ∷ 3 ∷ 4 ∷ 6 ∷
-    7 ∷ []) ∷ [] ∷ [] ∷ [] ∷ (1 ∷ []) ∷ (0 ∷ 0 ∷ []) ∷ [] ∷ (1 ∷ 2 ∷ 3 ∷ 4 ∷ 6 ∷ 7 ∷ []) ∷ [] ∷ [] ∷ (1 ∷ 102 ∷ []) ∷
-    (1 ∷ []) ∷ (0 ∷ 0 ∷ []) ∷ [] ∷ (1 ∷ 2 ∷ 3 ∷ 4 ∷ 6 ∷ 7 ∷ []) ∷ [] ∷ [] ∷ (1 ∷ 102 ∷ 1 ∷ 101 ∷ []) ∷ (1 ∷ []) ∷
-    (101 ∷ 2 ∷ []) ∷ (65543 ∷ 131073 ∷ 458759 ∷ 196616 ∷ 65540 ∷ 131072 ∷ 458756 ∷ 196613 ∷ []) ∷ (1 ∷ 2 ∷ 3 ∷ 5 ∷ 6 ∷
-    8 ∷ []) ∷ [] ∷ [] ∷ [] ∷ (1 ∷ []) ∷ []) ≡ true
-unfolding everything joined historyShown queueShown shown playedIf played alike
+    7 ∷ []) ∷ [] ∷ [] ∷ [] ∷ (1 ∷ []) ∷ (0 ∷ []) ∷ (0 ∷ 0 ∷ []) ∷ [] ∷ (1 ∷ 2 ∷ 3 ∷ 4 ∷ 6 ∷ 7 ∷ []) ∷ [] ∷ [] ∷ (1 ∷
+    102 ∷ []) ∷ (1 ∷ []) ∷ (0 ∷ []) ∷ (0 ∷ 0 ∷ []) ∷ [] ∷ (1 ∷ 2 ∷ 3 ∷ 4 ∷ 6 ∷ 7 ∷ []) ∷ [] ∷ [] ∷ (1 ∷ 102 ∷ 1 ∷ 101 ∷
+    []) ∷ (1 ∷ []) ∷ (0 ∷ []) ∷ (101 ∷ 2 ∷ []) ∷ (65543 ∷ 131073 ∷ 458759 ∷ 196616 ∷ 65540 ∷ 131072 ∷ 458756 ∷ 196613 ∷
+    []) ∷ (1 ∷ 2 ∷ 3 ∷ 5 ∷ 6 ∷ 8 ∷ []) ∷ [] ∷ [] ∷ [] ∷ (1 ∷ []) ∷ (0 ∷ []) ∷ []) ≡ true
+unfolding everything joined historyShown queueShown pendingShown shown playedIf played alike
 example-001 = refl
 
 -- Reading 2: the domain of the selection is kept.
@@ -48,12 +49,12 @@ names-002 = joined (slotOf (112 ∷ []) ∷ slotOf (115 ∷ []) ∷ slotOf (97 �
 
 example-002 : alike (played numbers-002 names-002 (starts 200 ∷ posts (101 ∷ []) ∷ runs 2 200 ∷ posts (101 ∷ []) ∷
     runs 1 200 ∷ [])) ((0 ∷ []) ∷ (0 ∷ 0 ∷ []) ∷ (196609 ∷ 196610 ∷ 196611 ∷ []) ∷ (1 ∷ 2 ∷ 3 ∷ []) ∷ [] ∷ [] ∷ [] ∷
-    (1 ∷ []) ∷ (0 ∷ 0 ∷ []) ∷ [] ∷ (1 ∷ 2 ∷ 3 ∷ []) ∷ [] ∷ [] ∷ (1 ∷ 101 ∷ []) ∷ (1 ∷ []) ∷ (101 ∷ 1 ∷ []) ∷ (65539 ∷
-    65538 ∷ 65537 ∷ 131072 ∷ 458755 ∷ 196609 ∷ 196610 ∷ 196611 ∷ []) ∷ (1 ∷ 2 ∷ 3 ∷ []) ∷ (5 ∷ 1 ∷ 3 ∷ []) ∷ [] ∷ [] ∷
-    (1 ∷ []) ∷ (0 ∷ 0 ∷ []) ∷ [] ∷ (1 ∷ 2 ∷ 3 ∷ []) ∷ (5 ∷ 1 ∷ 3 ∷ []) ∷ [] ∷ (1 ∷ 101 ∷ []) ∷ (1 ∷ []) ∷ (101 ∷ 1 ∷
-    []) ∷ (65539 ∷ 131072 ∷ 458755 ∷ 196611 ∷ []) ∷ (1 ∷ 2 ∷ 3 ∷ []) ∷ (5 ∷ 1 ∷ 3 ∷ []) ∷ [] ∷ [] ∷ (1 ∷ []) ∷
-    []) ≡ true
-unfolding everything joined historyShown queueShown shown playedIf played alike
+    (1 ∷ []) ∷ (0 ∷ []) ∷ (0 ∷ 0 ∷ []) ∷ [] ∷ (1 ∷ 2 ∷ 3 ∷ []) ∷ [] ∷ [] ∷ (1 ∷ 101 ∷ []) ∷ (1 ∷ []) ∷ (0 ∷ []) ∷
+    (101 ∷ 1 ∷ []) ∷ (65539 ∷ 65538 ∷ 65537 ∷ 131072 ∷ 458755 ∷ 196609 ∷ 196610 ∷ 196611 ∷ []) ∷ (1 ∷ 2 ∷ 3 ∷ []) ∷
+    (5 ∷ 1 ∷ 3 ∷ []) ∷ [] ∷ [] ∷ (1 ∷ []) ∷ (0 ∷ []) ∷ (0 ∷ 0 ∷ []) ∷ [] ∷ (1 ∷ 2 ∷ 3 ∷ []) ∷ (5 ∷ 1 ∷ 3 ∷ []) ∷ [] ∷
+    (1 ∷ 101 ∷ []) ∷ (1 ∷ []) ∷ (0 ∷ []) ∷ (101 ∷ 1 ∷ []) ∷ (65539 ∷ 131072 ∷ 458755 ∷ 196611 ∷ []) ∷ (1 ∷ 2 ∷ 3 ∷
+    []) ∷ (5 ∷ 1 ∷ 3 ∷ []) ∷ [] ∷ [] ∷ (1 ∷ []) ∷ (0 ∷ []) ∷ []) ≡ true
+unfolding everything joined historyShown queueShown pendingShown shown playedIf played alike
 example-002 = refl
 
 -- Reading 3: a dropped candidate removes nothing.
@@ -72,10 +73,10 @@ names-003 = joined (slotOf (112 ∷ []) ∷ slotOf (98 ∷ []) ∷ slotOf (98 �
 
 example-003 : alike (played numbers-003 names-003 (starts 200 ∷ posts (101 ∷ []) ∷ runs 3 200 ∷ [])) ((0 ∷ []) ∷ (0 ∷
     0 ∷ []) ∷ (196609 ∷ 196610 ∷ 196611 ∷ 196613 ∷ 196614 ∷ 196615 ∷ 196616 ∷ []) ∷ (1 ∷ 2 ∷ 3 ∷ 5 ∷ 6 ∷ 7 ∷ 8 ∷ []) ∷
-    [] ∷ [] ∷ [] ∷ (1 ∷ []) ∷ (0 ∷ 0 ∷ []) ∷ [] ∷ (1 ∷ 2 ∷ 3 ∷ 5 ∷ 6 ∷ 7 ∷ 8 ∷ []) ∷ [] ∷ [] ∷ (1 ∷ 101 ∷ []) ∷ (1 ∷
-    []) ∷ (101 ∷ 1 ∷ []) ∷ (65544 ∷ 65543 ∷ 65542 ∷ 65539 ∷ 131072 ∷ 458755 ∷ 131073 ∷ 458759 ∷ 196612 ∷ 196617 ∷ []) ∷
-    (1 ∷ 2 ∷ 4 ∷ 5 ∷ 9 ∷ []) ∷ [] ∷ [] ∷ [] ∷ (1 ∷ []) ∷ []) ≡ true
-unfolding everything joined historyShown queueShown shown playedIf played alike
+    [] ∷ [] ∷ [] ∷ (1 ∷ []) ∷ (0 ∷ []) ∷ (0 ∷ 0 ∷ []) ∷ [] ∷ (1 ∷ 2 ∷ 3 ∷ 5 ∷ 6 ∷ 7 ∷ 8 ∷ []) ∷ [] ∷ [] ∷ (1 ∷ 101 ∷
+    []) ∷ (1 ∷ []) ∷ (0 ∷ []) ∷ (101 ∷ 1 ∷ []) ∷ (65544 ∷ 65543 ∷ 65542 ∷ 65539 ∷ 131072 ∷ 458755 ∷ 131073 ∷ 458759 ∷
+    196612 ∷ 196617 ∷ []) ∷ (1 ∷ 2 ∷ 4 ∷ 5 ∷ 9 ∷ []) ∷ [] ∷ [] ∷ [] ∷ (1 ∷ []) ∷ (0 ∷ []) ∷ []) ≡ true
+unfolding everything joined historyShown queueShown pendingShown shown playedIf played alike
 example-003 = refl
 
 -- Reading 4: selection order, not number order.
@@ -90,11 +91,12 @@ names-004 = joined (slotOf (112 ∷ []) ∷ slotOf (97 ∷ []) ∷ slotOf (98 �
     slotOf (102 ∷ []) ∷ [])
 
 example-004 : alike (played numbers-004 names-004 (starts 200 ∷ posts (101 ∷ []) ∷ runs 1 200 ∷ runs 4 200 ∷ [])) ((0 ∷
-    []) ∷ (0 ∷ 0 ∷ []) ∷ (196609 ∷ 196610 ∷ 196611 ∷ []) ∷ (1 ∷ 2 ∷ 3 ∷ []) ∷ [] ∷ [] ∷ [] ∷ (1 ∷ []) ∷ (0 ∷ 0 ∷ []) ∷
-    [] ∷ (1 ∷ 2 ∷ 3 ∷ []) ∷ [] ∷ [] ∷ (1 ∷ 101 ∷ []) ∷ (1 ∷ []) ∷ (100 ∷ 1 ∷ []) ∷ (131073 ∷ 458754 ∷ 262155 ∷ 327685 ∷
-    131072 ∷ 458755 ∷ 262154 ∷ 327684 ∷ []) ∷ (1 ∷ 2 ∷ 3 ∷ []) ∷ [] ∷ (1 ∷ 102 ∷ 1 ∷ 103 ∷ []) ∷ [] ∷ (1 ∷ []) ∷ (101 ∷
-    2 ∷ []) ∷ [] ∷ (1 ∷ 2 ∷ 3 ∷ []) ∷ [] ∷ [] ∷ [] ∷ (1 ∷ []) ∷ []) ≡ true
-unfolding everything joined historyShown queueShown shown playedIf played alike
+    []) ∷ (0 ∷ 0 ∷ []) ∷ (196609 ∷ 196610 ∷ 196611 ∷ []) ∷ (1 ∷ 2 ∷ 3 ∷ []) ∷ [] ∷ [] ∷ [] ∷ (1 ∷ []) ∷ (0 ∷ []) ∷ (0 ∷
+    0 ∷ []) ∷ [] ∷ (1 ∷ 2 ∷ 3 ∷ []) ∷ [] ∷ [] ∷ (1 ∷ 101 ∷ []) ∷ (1 ∷ []) ∷ (0 ∷ []) ∷ (100 ∷ 1 ∷ []) ∷ (131073 ∷
+    458754 ∷ 262155 ∷ 327685 ∷ 131072 ∷ 458755 ∷ 262154 ∷ 327684 ∷ []) ∷ (1 ∷ 2 ∷ 3 ∷ []) ∷ [] ∷ (1 ∷ 102 ∷ 1 ∷ 103 ∷
+    []) ∷ [] ∷ (1 ∷ []) ∷ (0 ∷ []) ∷ (101 ∷ 2 ∷ []) ∷ [] ∷ (1 ∷ 2 ∷ 3 ∷ []) ∷ [] ∷ [] ∷ [] ∷ (1 ∷ []) ∷ (0 ∷ []) ∷
+    []) ≡ true
+unfolding everything joined historyShown queueShown pendingShown shown playedIf played alike
 example-004 = refl
 
 -- Reading 5: done is judged at the final's entry.
@@ -113,13 +115,13 @@ names-005 = joined (slotOf (112 ∷ []) ∷ slotOf (97 ∷ []) ∷ slotOf (97 �
 
 example-005 : alike (played numbers-005 names-005 (starts 200 ∷ posts (101 ∷ []) ∷ runs 1 200 ∷ runs 9 200 ∷ [])) ((0 ∷
     []) ∷ (0 ∷ 0 ∷ []) ∷ (196609 ∷ 196610 ∷ 196611 ∷ 196613 ∷ 196614 ∷ []) ∷ (1 ∷ 2 ∷ 3 ∷ 5 ∷ 6 ∷ []) ∷ [] ∷ [] ∷ [] ∷
-    (1 ∷ []) ∷ (0 ∷ 0 ∷ []) ∷ [] ∷ (1 ∷ 2 ∷ 3 ∷ 5 ∷ 6 ∷ []) ∷ [] ∷ [] ∷ (1 ∷ 101 ∷ []) ∷ (1 ∷ []) ∷ (100 ∷ 1 ∷ []) ∷
-    (65542 ∷ 65539 ∷ 131073 ∷ 458755 ∷ 131074 ∷ 458758 ∷ 196612 ∷ 393218 ∷ 196615 ∷ 393221 ∷ 393217 ∷ []) ∷ (1 ∷ 2 ∷
-    4 ∷ 5 ∷ 7 ∷ []) ∷ [] ∷ (12 ∷ 100 ∷ 111 ∷ 110 ∷ 101 ∷ 46 ∷ 115 ∷ 116 ∷ 97 ∷ 116 ∷ 101 ∷ 46 ∷ 97 ∷ 12 ∷ 100 ∷ 111 ∷
-    110 ∷ 101 ∷ 46 ∷ 115 ∷ 116 ∷ 97 ∷ 116 ∷ 101 ∷ 46 ∷ 98 ∷ 12 ∷ 100 ∷ 111 ∷ 110 ∷ 101 ∷ 46 ∷ 115 ∷ 116 ∷ 97 ∷ 116 ∷
-    101 ∷ 46 ∷ 112 ∷ []) ∷ [] ∷ (1 ∷ []) ∷ (101 ∷ 3 ∷ []) ∷ (65543 ∷ 65541 ∷ 65540 ∷ 65538 ∷ 65537 ∷ 131072 ∷ 458756 ∷
-    196616 ∷ []) ∷ (8 ∷ []) ∷ [] ∷ [] ∷ [] ∷ (1 ∷ []) ∷ []) ≡ true
-unfolding everything joined historyShown queueShown shown playedIf played alike
+    (1 ∷ []) ∷ (0 ∷ []) ∷ (0 ∷ 0 ∷ []) ∷ [] ∷ (1 ∷ 2 ∷ 3 ∷ 5 ∷ 6 ∷ []) ∷ [] ∷ [] ∷ (1 ∷ 101 ∷ []) ∷ (1 ∷ []) ∷ (0 ∷
+    []) ∷ (100 ∷ 1 ∷ []) ∷ (65542 ∷ 65539 ∷ 131073 ∷ 458755 ∷ 131074 ∷ 458758 ∷ 196612 ∷ 393218 ∷ 196615 ∷ 393221 ∷
+    393217 ∷ []) ∷ (1 ∷ 2 ∷ 4 ∷ 5 ∷ 7 ∷ []) ∷ [] ∷ (12 ∷ 100 ∷ 111 ∷ 110 ∷ 101 ∷ 46 ∷ 115 ∷ 116 ∷ 97 ∷ 116 ∷ 101 ∷ 46 ∷
+    97 ∷ 12 ∷ 100 ∷ 111 ∷ 110 ∷ 101 ∷ 46 ∷ 115 ∷ 116 ∷ 97 ∷ 116 ∷ 101 ∷ 46 ∷ 98 ∷ 12 ∷ 100 ∷ 111 ∷ 110 ∷ 101 ∷ 46 ∷
+    115 ∷ 116 ∷ 97 ∷ 116 ∷ 101 ∷ 46 ∷ 112 ∷ []) ∷ [] ∷ (1 ∷ []) ∷ (0 ∷ []) ∷ (101 ∷ 3 ∷ []) ∷ (65543 ∷ 65541 ∷ 65540 ∷
+    65538 ∷ 65537 ∷ 131072 ∷ 458756 ∷ 196616 ∷ []) ∷ (8 ∷ []) ∷ [] ∷ [] ∷ [] ∷ (1 ∷ []) ∷ (0 ∷ []) ∷ []) ≡ true
+unfolding everything joined historyShown queueShown pendingShown shown playedIf played alike
 example-005 = refl
 
 -- Reading 6: no default block without entry.
@@ -134,12 +136,12 @@ names-006 = joined (slotOf (115 ∷ []) ∷ slotOf (112 ∷ []) ∷ slotOf (120 
     slotOf (102 ∷ []) ∷ [])
 
 example-006 : alike (played numbers-006 names-006 (starts 200 ∷ posts (102 ∷ []) ∷ posts (102 ∷ []) ∷ runs 1 200 ∷
-    runs 1 200 ∷ [])) ((0 ∷ []) ∷ (0 ∷ 0 ∷ []) ∷ (196609 ∷ []) ∷ (1 ∷ []) ∷ [] ∷ [] ∷ [] ∷ (1 ∷ []) ∷ (0 ∷ 0 ∷ []) ∷
-    [] ∷ (1 ∷ []) ∷ [] ∷ [] ∷ (1 ∷ 102 ∷ []) ∷ (1 ∷ []) ∷ (0 ∷ 0 ∷ []) ∷ [] ∷ (1 ∷ []) ∷ [] ∷ [] ∷ (1 ∷ 102 ∷ 1 ∷ 102 ∷
-    []) ∷ (1 ∷ []) ∷ (100 ∷ 1 ∷ []) ∷ (65537 ∷ 131072 ∷ 458753 ∷ 196610 ∷ 262149 ∷ 196612 ∷ []) ∷ (2 ∷ 4 ∷ []) ∷ [] ∷
-    [] ∷ (1 ∷ 102 ∷ []) ∷ (1 ∷ []) ∷ (101 ∷ 1 ∷ []) ∷ (65540 ∷ 131073 ∷ 458756 ∷ 196612 ∷ []) ∷ (2 ∷ 4 ∷ []) ∷ [] ∷
-    [] ∷ [] ∷ (1 ∷ []) ∷ []) ≡ true
-unfolding everything joined historyShown queueShown shown playedIf played alike
+    runs 1 200 ∷ [])) ((0 ∷ []) ∷ (0 ∷ 0 ∷ []) ∷ (196609 ∷ []) ∷ (1 ∷ []) ∷ [] ∷ [] ∷ [] ∷ (1 ∷ []) ∷ (0 ∷ []) ∷ (0 ∷
+    0 ∷ []) ∷ [] ∷ (1 ∷ []) ∷ [] ∷ [] ∷ (1 ∷ 102 ∷ []) ∷ (1 ∷ []) ∷ (0 ∷ []) ∷ (0 ∷ 0 ∷ []) ∷ [] ∷ (1 ∷ []) ∷ [] ∷ [] ∷
+    (1 ∷ 102 ∷ 1 ∷ 102 ∷ []) ∷ (1 ∷ []) ∷ (0 ∷ []) ∷ (100 ∷ 1 ∷ []) ∷ (65537 ∷ 131072 ∷ 458753 ∷ 196610 ∷ 262149 ∷
+    196612 ∷ []) ∷ (2 ∷ 4 ∷ []) ∷ [] ∷ [] ∷ (1 ∷ 102 ∷ []) ∷ (1 ∷ []) ∷ (0 ∷ []) ∷ (101 ∷ 1 ∷ []) ∷ (65540 ∷ 131073 ∷
+    458756 ∷ 196612 ∷ []) ∷ (2 ∷ 4 ∷ []) ∷ [] ∷ [] ∷ [] ∷ (1 ∷ []) ∷ (0 ∷ []) ∷ []) ≡ true
+unfolding everything joined historyShown queueShown pendingShown shown playedIf played alike
 example-006 = refl
 
 -- Reading 7: the domain comes from effective targets.
@@ -154,10 +156,10 @@ names-007 = joined (slotOf (112 ∷ []) ∷ slotOf (120 ∷ []) ∷ slotOf (121 
     [])
 
 example-007 : alike (played numbers-007 names-007 (starts 200 ∷ posts (101 ∷ []) ∷ runs 2 200 ∷ [])) ((0 ∷ []) ∷ (0 ∷
-    0 ∷ []) ∷ (196609 ∷ 262145 ∷ 196610 ∷ []) ∷ (1 ∷ 2 ∷ []) ∷ [] ∷ [] ∷ [] ∷ (1 ∷ []) ∷ (0 ∷ 0 ∷ []) ∷ [] ∷ (1 ∷ 2 ∷
-    []) ∷ [] ∷ [] ∷ (1 ∷ 101 ∷ []) ∷ (1 ∷ []) ∷ (101 ∷ 1 ∷ []) ∷ (65538 ∷ 131072 ∷ 458754 ∷ 196611 ∷ []) ∷ (1 ∷ 3 ∷
-    []) ∷ [] ∷ [] ∷ [] ∷ (1 ∷ []) ∷ []) ≡ true
-unfolding everything joined historyShown queueShown shown playedIf played alike
+    0 ∷ []) ∷ (196609 ∷ 262145 ∷ 196610 ∷ []) ∷ (1 ∷ 2 ∷ []) ∷ [] ∷ [] ∷ [] ∷ (1 ∷ []) ∷ (0 ∷ []) ∷ (0 ∷ 0 ∷ []) ∷ [] ∷
+    (1 ∷ 2 ∷ []) ∷ [] ∷ [] ∷ (1 ∷ 101 ∷ []) ∷ (1 ∷ []) ∷ (0 ∷ []) ∷ (101 ∷ 1 ∷ []) ∷ (65538 ∷ 131072 ∷ 458754 ∷
+    196611 ∷ []) ∷ (1 ∷ 3 ∷ []) ∷ [] ∷ [] ∷ [] ∷ (1 ∷ []) ∷ (0 ∷ []) ∷ []) ≡ true
+unfolding everything joined historyShown queueShown pendingShown shown playedIf played alike
 example-007 = refl
 
 -- Reading 8: a list of nine rows.
@@ -176,9 +178,9 @@ names-008 = joined (slotOf (112 ∷ []) ∷ slotOf (114 ∷ 49 ∷ []) ∷ slotO
 
 example-008 : alike (played numbers-008 names-008 (starts 200 ∷ runs 1 200 ∷ [])) ((0 ∷ []) ∷ (0 ∷ 0 ∷ []) ∷ (196609 ∷
     196610 ∷ 196611 ∷ 196612 ∷ 196613 ∷ 196614 ∷ 196615 ∷ 196616 ∷ 196617 ∷ 196618 ∷ 196620 ∷ []) ∷ (1 ∷ 2 ∷ 3 ∷ 4 ∷
-    5 ∷ 6 ∷ 7 ∷ 8 ∷ 9 ∷ 10 ∷ 12 ∷ []) ∷ [] ∷ [] ∷ [] ∷ (1 ∷ []) ∷ (101 ∷ 0 ∷ []) ∷ [] ∷ (1 ∷ 2 ∷ 3 ∷ 4 ∷ 5 ∷ 6 ∷ 7 ∷
-    8 ∷ 9 ∷ 10 ∷ 12 ∷ []) ∷ [] ∷ [] ∷ [] ∷ (1 ∷ []) ∷ []) ≡ true
-unfolding everything joined historyShown queueShown shown playedIf played alike
+    5 ∷ 6 ∷ 7 ∷ 8 ∷ 9 ∷ 10 ∷ 12 ∷ []) ∷ [] ∷ [] ∷ [] ∷ (1 ∷ []) ∷ (0 ∷ []) ∷ (101 ∷ 0 ∷ []) ∷ [] ∷ (1 ∷ 2 ∷ 3 ∷ 4 ∷ 5 ∷
+    6 ∷ 7 ∷ 8 ∷ 9 ∷ 10 ∷ 12 ∷ []) ∷ [] ∷ [] ∷ [] ∷ (1 ∷ []) ∷ (0 ∷ []) ∷ []) ≡ true
+unfolding everything joined historyShown queueShown pendingShown shown playedIf played alike
 example-008 = refl
 
 -- Reading 9: none in the columns parent, id and condition.
@@ -190,7 +192,7 @@ abbrev names-009 : List ℕ
 names-009 = joined (slotOf (115 ∷ []) ∷ slotOf (101 ∷ []) ∷ [])
 
 example-009 : alike (played numbers-009 names-009 []) ((2 ∷ []) ∷ []) ≡ true
-unfolding everything joined historyShown queueShown shown playedIf played alike
+unfolding everything joined historyShown queueShown pendingShown shown playedIf played alike
 example-009 = refl
 
 -- Reading 9: none in the columns parent, id and condition.
@@ -202,7 +204,7 @@ abbrev names-010 : List ℕ
 names-010 = joined (slotOf (115 ∷ []) ∷ slotOf (101 ∷ []) ∷ [])
 
 example-010 : alike (played numbers-010 names-010 []) ((2 ∷ []) ∷ []) ≡ true
-unfolding everything joined historyShown queueShown shown playedIf played alike
+unfolding everything joined historyShown queueShown pendingShown shown playedIf played alike
 example-010 = refl
 
 -- Reading 9: none in the columns parent, id and condition.
@@ -214,7 +216,7 @@ abbrev names-011 : List ℕ
 names-011 = joined (slotOf (115 ∷ []) ∷ slotOf (101 ∷ []) ∷ [])
 
 example-011 : alike (played numbers-011 names-011 []) ((3 ∷ []) ∷ []) ≡ true
-unfolding everything joined historyShown queueShown shown playedIf played alike
+unfolding everything joined historyShown queueShown pendingShown shown playedIf played alike
 example-011 = refl
 
 -- Reading 9: none in the columns parent, id and condition.
@@ -226,7 +228,7 @@ abbrev names-012 : List ℕ
 names-012 = joined (slotOf (115 ∷ []) ∷ slotOf (101 ∷ []) ∷ [])
 
 example-012 : alike (played numbers-012 names-012 []) ((3 ∷ []) ∷ []) ≡ true
-unfolding everything joined historyShown queueShown shown playedIf played alike
+unfolding everything joined historyShown queueShown pendingShown shown playedIf played alike
 example-012 = refl
 
 -- Reading 9: none in the columns parent, id and condition.
@@ -238,7 +240,7 @@ abbrev names-013 : List ℕ
 names-013 = joined (slotOf (115 ∷ []) ∷ slotOf (101 ∷ []) ∷ [])
 
 example-013 : alike (played numbers-013 names-013 []) ((1 ∷ []) ∷ []) ≡ true
-unfolding everything joined historyShown queueShown shown playedIf played alike
+unfolding everything joined historyShown queueShown pendingShown shown playedIf played alike
 example-013 = refl
 
 -- Reading 9: none in the columns parent, id and condition.
@@ -250,7 +252,7 @@ abbrev names-014 : List ℕ
 names-014 = joined (slotOf (115 ∷ []) ∷ slotOf (101 ∷ []) ∷ [])
 
 example-014 : alike (played numbers-014 names-014 []) ((1 ∷ []) ∷ []) ≡ true
-unfolding everything joined historyShown queueShown shown playedIf played alike
+unfolding everything joined historyShown queueShown pendingShown shown playedIf played alike
 example-014 = refl
 
 -- Reading 9: none in the columns parent, id and condition.
@@ -262,10 +264,10 @@ abbrev names-015 : List ℕ
 names-015 = joined (slotOf (115 ∷ []) ∷ slotOf (101 ∷ []) ∷ [])
 
 example-015 : alike (played numbers-015 names-015 (starts 200 ∷ posts (101 ∷ []) ∷ runs 2 200 ∷ [])) ((0 ∷ []) ∷ (0 ∷
-    0 ∷ []) ∷ (196609 ∷ []) ∷ (1 ∷ []) ∷ [] ∷ [] ∷ [] ∷ (1 ∷ []) ∷ (0 ∷ 0 ∷ []) ∷ [] ∷ (1 ∷ []) ∷ [] ∷ [] ∷ (1 ∷ 101 ∷
-    []) ∷ (1 ∷ []) ∷ (101 ∷ 1 ∷ []) ∷ (65537 ∷ 131072 ∷ 458753 ∷ 196609 ∷ []) ∷ (1 ∷ []) ∷ [] ∷ [] ∷ [] ∷ (1 ∷ []) ∷
-    []) ≡ true
-unfolding everything joined historyShown queueShown shown playedIf played alike
+    0 ∷ []) ∷ (196609 ∷ []) ∷ (1 ∷ []) ∷ [] ∷ [] ∷ [] ∷ (1 ∷ []) ∷ (0 ∷ []) ∷ (0 ∷ 0 ∷ []) ∷ [] ∷ (1 ∷ []) ∷ [] ∷ [] ∷
+    (1 ∷ 101 ∷ []) ∷ (1 ∷ []) ∷ (0 ∷ []) ∷ (101 ∷ 1 ∷ []) ∷ (65537 ∷ 131072 ∷ 458753 ∷ 196609 ∷ []) ∷ (1 ∷ []) ∷ [] ∷
+    [] ∷ [] ∷ (1 ∷ []) ∷ (0 ∷ []) ∷ []) ≡ true
+unfolding everything joined historyShown queueShown pendingShown shown playedIf played alike
 example-015 = refl
 
 -- Reading 10: no root and no history is listed.
@@ -282,12 +284,13 @@ names-016 = joined (slotOf (112 ∷ []) ∷ slotOf (104 ∷ []) ∷ slotOf (97 �
 
 example-016 : alike (played numbers-016 names-016 (starts 200 ∷ posts (101 ∷ []) ∷ posts (101 ∷ []) ∷ runs 1 200 ∷
     runs 1 200 ∷ [])) ((0 ∷ []) ∷ (0 ∷ 0 ∷ []) ∷ (196609 ∷ 196611 ∷ 196613 ∷ 196614 ∷ []) ∷ (1 ∷ 3 ∷ 5 ∷ 6 ∷ []) ∷ [] ∷
-    [] ∷ [] ∷ (1 ∷ []) ∷ (0 ∷ 0 ∷ []) ∷ [] ∷ (1 ∷ 3 ∷ 5 ∷ 6 ∷ []) ∷ [] ∷ [] ∷ (1 ∷ 101 ∷ []) ∷ (1 ∷ []) ∷ (0 ∷ 0 ∷
-    []) ∷ [] ∷ (1 ∷ 3 ∷ 5 ∷ 6 ∷ []) ∷ [] ∷ [] ∷ (1 ∷ 101 ∷ 1 ∷ 101 ∷ []) ∷ (1 ∷ []) ∷ (100 ∷ 1 ∷ []) ∷ (65542 ∷ 65541 ∷
-    65539 ∷ 65537 ∷ 131072 ∷ 458757 ∷ 196615 ∷ []) ∷ (7 ∷ []) ∷ (2 ∷ 2 ∷ 3 ∷ 6 ∷ 4 ∷ 1 ∷ 5 ∷ []) ∷ [] ∷ (1 ∷ 101 ∷
-    []) ∷ (1 ∷ []) ∷ (101 ∷ 1 ∷ []) ∷ (65543 ∷ 131073 ∷ 458759 ∷ 196609 ∷ 196611 ∷ 196613 ∷ 196614 ∷ []) ∷ (1 ∷ 3 ∷ 5 ∷
-    6 ∷ []) ∷ (2 ∷ 2 ∷ 3 ∷ 6 ∷ 4 ∷ 1 ∷ 5 ∷ []) ∷ [] ∷ [] ∷ (1 ∷ []) ∷ []) ≡ true
-unfolding everything joined historyShown queueShown shown playedIf played alike
+    [] ∷ [] ∷ (1 ∷ []) ∷ (0 ∷ []) ∷ (0 ∷ 0 ∷ []) ∷ [] ∷ (1 ∷ 3 ∷ 5 ∷ 6 ∷ []) ∷ [] ∷ [] ∷ (1 ∷ 101 ∷ []) ∷ (1 ∷ []) ∷
+    (0 ∷ []) ∷ (0 ∷ 0 ∷ []) ∷ [] ∷ (1 ∷ 3 ∷ 5 ∷ 6 ∷ []) ∷ [] ∷ [] ∷ (1 ∷ 101 ∷ 1 ∷ 101 ∷ []) ∷ (1 ∷ []) ∷ (0 ∷ []) ∷
+    (100 ∷ 1 ∷ []) ∷ (65542 ∷ 65541 ∷ 65539 ∷ 65537 ∷ 131072 ∷ 458757 ∷ 196615 ∷ []) ∷ (7 ∷ []) ∷ (2 ∷ 2 ∷ 3 ∷ 6 ∷ 4 ∷
+    1 ∷ 5 ∷ []) ∷ [] ∷ (1 ∷ 101 ∷ []) ∷ (1 ∷ []) ∷ (0 ∷ []) ∷ (101 ∷ 1 ∷ []) ∷ (65543 ∷ 131073 ∷ 458759 ∷ 196609 ∷
+    196611 ∷ 196613 ∷ 196614 ∷ []) ∷ (1 ∷ 3 ∷ 5 ∷ 6 ∷ []) ∷ (2 ∷ 2 ∷ 3 ∷ 6 ∷ 4 ∷ 1 ∷ 5 ∷ []) ∷ [] ∷ [] ∷ (1 ∷ []) ∷
+    (0 ∷ []) ∷ []) ≡ true
+unfolding everything joined historyShown queueShown pendingShown shown playedIf played alike
 example-016 = refl
 
 -- Reading 11: history stays in the ended session.
@@ -304,14 +307,14 @@ names-017 = joined (slotOf (112 ∷ []) ∷ slotOf (120 ∷ []) ∷ slotOf (121 
 
 example-017 : alike (played numbers-017 names-017 (starts 200 ∷ posts (101 ∷ []) ∷ posts (103 ∷ []) ∷ posts (103 ∷
     []) ∷ posts (103 ∷ []) ∷ runs 3 200 ∷ runs 3 200 ∷ [])) ((0 ∷ []) ∷ (0 ∷ 0 ∷ []) ∷ (196609 ∷ 196610 ∷ []) ∷ (1 ∷
-    2 ∷ []) ∷ [] ∷ [] ∷ [] ∷ (1 ∷ []) ∷ (0 ∷ 0 ∷ []) ∷ [] ∷ (1 ∷ 2 ∷ []) ∷ [] ∷ [] ∷ (1 ∷ 101 ∷ []) ∷ (1 ∷ []) ∷ (0 ∷
-    0 ∷ []) ∷ [] ∷ (1 ∷ 2 ∷ []) ∷ [] ∷ [] ∷ (1 ∷ 101 ∷ 1 ∷ 103 ∷ []) ∷ (1 ∷ []) ∷ (0 ∷ 0 ∷ []) ∷ [] ∷ (1 ∷ 2 ∷ []) ∷
-    [] ∷ [] ∷ (1 ∷ 101 ∷ 1 ∷ 103 ∷ 1 ∷ 103 ∷ []) ∷ (1 ∷ []) ∷ (0 ∷ 0 ∷ []) ∷ [] ∷ (1 ∷ 2 ∷ []) ∷ [] ∷ [] ∷ (1 ∷ 101 ∷
-    1 ∷ 103 ∷ 1 ∷ 103 ∷ 1 ∷ 103 ∷ []) ∷ (1 ∷ []) ∷ (100 ∷ 3 ∷ []) ∷ (65538 ∷ 131073 ∷ 458754 ∷ 196611 ∷ 65539 ∷ 65537 ∷
-    131072 ∷ 458755 ∷ 196613 ∷ 65541 ∷ 131074 ∷ 458757 ∷ 196614 ∷ []) ∷ (6 ∷ []) ∷ (4 ∷ 1 ∷ 3 ∷ []) ∷ [] ∷ (1 ∷ 103 ∷
-    []) ∷ (2 ∷ []) ∷ (102 ∷ 1 ∷ []) ∷ (65542 ∷ 327686 ∷ 262147 ∷ []) ∷ [] ∷ (4 ∷ 1 ∷ 3 ∷ []) ∷ [] ∷ [] ∷ (0 ∷ []) ∷
-    []) ≡ true
-unfolding everything joined historyShown queueShown shown playedIf played alike
+    2 ∷ []) ∷ [] ∷ [] ∷ [] ∷ (1 ∷ []) ∷ (0 ∷ []) ∷ (0 ∷ 0 ∷ []) ∷ [] ∷ (1 ∷ 2 ∷ []) ∷ [] ∷ [] ∷ (1 ∷ 101 ∷ []) ∷ (1 ∷
+    []) ∷ (0 ∷ []) ∷ (0 ∷ 0 ∷ []) ∷ [] ∷ (1 ∷ 2 ∷ []) ∷ [] ∷ [] ∷ (1 ∷ 101 ∷ 1 ∷ 103 ∷ []) ∷ (1 ∷ []) ∷ (0 ∷ []) ∷ (0 ∷
+    0 ∷ []) ∷ [] ∷ (1 ∷ 2 ∷ []) ∷ [] ∷ [] ∷ (1 ∷ 101 ∷ 1 ∷ 103 ∷ 1 ∷ 103 ∷ []) ∷ (1 ∷ []) ∷ (0 ∷ []) ∷ (0 ∷ 0 ∷ []) ∷
+    [] ∷ (1 ∷ 2 ∷ []) ∷ [] ∷ [] ∷ (1 ∷ 101 ∷ 1 ∷ 103 ∷ 1 ∷ 103 ∷ 1 ∷ 103 ∷ []) ∷ (1 ∷ []) ∷ (0 ∷ []) ∷ (100 ∷ 3 ∷ []) ∷
+    (65538 ∷ 131073 ∷ 458754 ∷ 196611 ∷ 65539 ∷ 65537 ∷ 131072 ∷ 458755 ∷ 196613 ∷ 65541 ∷ 131074 ∷ 458757 ∷ 196614 ∷
+    []) ∷ (6 ∷ []) ∷ (4 ∷ 1 ∷ 3 ∷ []) ∷ [] ∷ (1 ∷ 103 ∷ []) ∷ (2 ∷ []) ∷ (0 ∷ []) ∷ (102 ∷ 1 ∷ []) ∷ (65542 ∷ 327686 ∷
+    262147 ∷ []) ∷ [] ∷ (4 ∷ 1 ∷ 3 ∷ []) ∷ [] ∷ [] ∷ (0 ∷ []) ∷ (0 ∷ []) ∷ []) ≡ true
+unfolding everything joined historyShown queueShown pendingShown shown playedIf played alike
 example-017 = refl
 
 -- Reading 12: 7 before 10.
@@ -331,11 +334,11 @@ names-018 = joined (slotOf (115 ∷ []) ∷ slotOf (97 ∷ []) ∷ slotOf (98 �
     slotOf (101 ∷ []) ∷ [])
 
 example-018 : alike (played numbers-018 names-018 (starts 200 ∷ posts (101 ∷ []) ∷ runs 1 0 ∷ runs 1 200 ∷ starts 0 ∷
-    [])) ((0 ∷ []) ∷ (0 ∷ 0 ∷ []) ∷ (196609 ∷ []) ∷ (1 ∷ []) ∷ [] ∷ [] ∷ [] ∷ (1 ∷ []) ∷ (0 ∷ 0 ∷ []) ∷ [] ∷ (1 ∷ []) ∷
-    [] ∷ [] ∷ (1 ∷ 101 ∷ []) ∷ (1 ∷ []) ∷ (7 ∷ 0 ∷ []) ∷ [] ∷ (1 ∷ []) ∷ [] ∷ [] ∷ (1 ∷ 101 ∷ []) ∷ (1 ∷ []) ∷ (7 ∷ 0 ∷
-    []) ∷ [] ∷ (1 ∷ []) ∷ [] ∷ [] ∷ (1 ∷ 101 ∷ []) ∷ (1 ∷ []) ∷ (10 ∷ 0 ∷ []) ∷ [] ∷ [] ∷ [] ∷ [] ∷ [] ∷ (0 ∷ []) ∷
-    []) ≡ true
-unfolding everything joined historyShown queueShown shown playedIf played alike
+    [])) ((0 ∷ []) ∷ (0 ∷ 0 ∷ []) ∷ (196609 ∷ []) ∷ (1 ∷ []) ∷ [] ∷ [] ∷ [] ∷ (1 ∷ []) ∷ (0 ∷ []) ∷ (0 ∷ 0 ∷ []) ∷ [] ∷
+    (1 ∷ []) ∷ [] ∷ [] ∷ (1 ∷ 101 ∷ []) ∷ (1 ∷ []) ∷ (0 ∷ []) ∷ (7 ∷ 0 ∷ []) ∷ [] ∷ (1 ∷ []) ∷ [] ∷ [] ∷ (1 ∷ 101 ∷
+    []) ∷ (1 ∷ []) ∷ (0 ∷ []) ∷ (7 ∷ 0 ∷ []) ∷ [] ∷ (1 ∷ []) ∷ [] ∷ [] ∷ (1 ∷ 101 ∷ []) ∷ (1 ∷ []) ∷ (0 ∷ []) ∷ (10 ∷
+    0 ∷ []) ∷ [] ∷ [] ∷ [] ∷ [] ∷ [] ∷ (0 ∷ []) ∷ (0 ∷ []) ∷ []) ≡ true
+unfolding everything joined historyShown queueShown pendingShown shown playedIf played alike
 example-018 = refl
 
 -- Reading 13: 7 on the way to closing.
@@ -355,10 +358,10 @@ names-019 = joined (slotOf (97 ∷ []) ∷ slotOf (98 ∷ []) ∷ slotOf (102 �
 example-019 : alike (played numbers-019 names-019 (starts 200 ∷ runs 1 200 ∷ runs 1 200 ∷ [])) ((0 ∷ []) ∷ (0 ∷ 0 ∷
     []) ∷ (196609 ∷ 327683 ∷ 327683 ∷ 327683 ∷ 327683 ∷ 327683 ∷ 327683 ∷ 327683 ∷ 327683 ∷ 196610 ∷ []) ∷ (1 ∷ 2 ∷
     []) ∷ [] ∷ (1 ∷ 120 ∷ 1 ∷ 120 ∷ 1 ∷ 120 ∷ 1 ∷ 120 ∷ 1 ∷ 120 ∷ 1 ∷ 120 ∷ 1 ∷ 120 ∷ 1 ∷ 120 ∷ []) ∷ [] ∷ (1 ∷ []) ∷
-    (7 ∷ 0 ∷ []) ∷ [] ∷ (1 ∷ 2 ∷ []) ∷ [] ∷ (1 ∷ 120 ∷ 1 ∷ 120 ∷ 1 ∷ 120 ∷ 1 ∷ 120 ∷ 1 ∷ 120 ∷ 1 ∷ 120 ∷ 1 ∷ 120 ∷ 1 ∷
-    120 ∷ []) ∷ [] ∷ (1 ∷ []) ∷ (7 ∷ 0 ∷ []) ∷ [] ∷ (1 ∷ 2 ∷ []) ∷ [] ∷ (1 ∷ 120 ∷ 1 ∷ 120 ∷ 1 ∷ 120 ∷ 1 ∷ 120 ∷ 1 ∷
-    120 ∷ 1 ∷ 120 ∷ 1 ∷ 120 ∷ 1 ∷ 120 ∷ []) ∷ [] ∷ (1 ∷ []) ∷ []) ≡ true
-unfolding everything joined historyShown queueShown shown playedIf played alike
+    (0 ∷ []) ∷ (7 ∷ 0 ∷ []) ∷ [] ∷ (1 ∷ 2 ∷ []) ∷ [] ∷ (1 ∷ 120 ∷ 1 ∷ 120 ∷ 1 ∷ 120 ∷ 1 ∷ 120 ∷ 1 ∷ 120 ∷ 1 ∷ 120 ∷ 1 ∷
+    120 ∷ 1 ∷ 120 ∷ []) ∷ [] ∷ (1 ∷ []) ∷ (0 ∷ []) ∷ (7 ∷ 0 ∷ []) ∷ [] ∷ (1 ∷ 2 ∷ []) ∷ [] ∷ (1 ∷ 120 ∷ 1 ∷ 120 ∷ 1 ∷
+    120 ∷ 1 ∷ 120 ∷ 1 ∷ 120 ∷ 1 ∷ 120 ∷ 1 ∷ 120 ∷ 1 ∷ 120 ∷ []) ∷ [] ∷ (1 ∷ []) ∷ (0 ∷ []) ∷ []) ≡ true
+unfolding everything joined historyShown queueShown pendingShown shown playedIf played alike
 example-019 = refl
 
 -- Reading 14: the status of a run.
@@ -371,14 +374,15 @@ names-020 = joined (slotOf (115 ∷ []) ∷ slotOf (102 ∷ []) ∷ slotOf (101 
 
 example-020 : alike (played numbers-020 names-020 (runs 0 200 ∷ starts 200 ∷ runs 0 200 ∷ posts (120 ∷ []) ∷
     runs 0 200 ∷ runs 1 200 ∷ posts (101 ∷ []) ∷ runs 1 200 ∷ runs 0 200 ∷ runs 1 200 ∷ runs 0 200 ∷ [])) ((0 ∷ []) ∷
-    (102 ∷ 0 ∷ []) ∷ [] ∷ [] ∷ [] ∷ [] ∷ [] ∷ (0 ∷ []) ∷ (0 ∷ 0 ∷ []) ∷ (196609 ∷ []) ∷ (1 ∷ []) ∷ [] ∷ [] ∷ [] ∷ (1 ∷
-    []) ∷ (101 ∷ 0 ∷ []) ∷ [] ∷ (1 ∷ []) ∷ [] ∷ [] ∷ [] ∷ (1 ∷ []) ∷ (0 ∷ 0 ∷ []) ∷ [] ∷ (1 ∷ []) ∷ [] ∷ [] ∷ (1 ∷
-    120 ∷ []) ∷ (1 ∷ []) ∷ (100 ∷ 0 ∷ []) ∷ [] ∷ (1 ∷ []) ∷ [] ∷ [] ∷ (1 ∷ 120 ∷ []) ∷ (1 ∷ []) ∷ (101 ∷ 1 ∷ []) ∷ [] ∷
-    (1 ∷ []) ∷ [] ∷ [] ∷ [] ∷ (1 ∷ []) ∷ (0 ∷ 0 ∷ []) ∷ [] ∷ (1 ∷ []) ∷ [] ∷ [] ∷ (1 ∷ 101 ∷ []) ∷ (1 ∷ []) ∷ (100 ∷
-    1 ∷ []) ∷ (65537 ∷ 131072 ∷ 458753 ∷ 196610 ∷ []) ∷ (2 ∷ []) ∷ [] ∷ [] ∷ [] ∷ (2 ∷ []) ∷ (100 ∷ 0 ∷ []) ∷ [] ∷ (2 ∷
-    []) ∷ [] ∷ [] ∷ [] ∷ (2 ∷ []) ∷ (102 ∷ 1 ∷ []) ∷ (65538 ∷ []) ∷ [] ∷ [] ∷ [] ∷ [] ∷ (0 ∷ []) ∷ (102 ∷ 0 ∷ []) ∷
-    [] ∷ [] ∷ [] ∷ [] ∷ [] ∷ (0 ∷ []) ∷ []) ≡ true
-unfolding everything joined historyShown queueShown shown playedIf played alike
+    (102 ∷ 0 ∷ []) ∷ [] ∷ [] ∷ [] ∷ [] ∷ [] ∷ (0 ∷ []) ∷ (0 ∷ []) ∷ (0 ∷ 0 ∷ []) ∷ (196609 ∷ []) ∷ (1 ∷ []) ∷ [] ∷ [] ∷
+    [] ∷ (1 ∷ []) ∷ (0 ∷ []) ∷ (101 ∷ 0 ∷ []) ∷ [] ∷ (1 ∷ []) ∷ [] ∷ [] ∷ [] ∷ (1 ∷ []) ∷ (0 ∷ []) ∷ (0 ∷ 0 ∷ []) ∷
+    [] ∷ (1 ∷ []) ∷ [] ∷ [] ∷ (1 ∷ 120 ∷ []) ∷ (1 ∷ []) ∷ (0 ∷ []) ∷ (100 ∷ 0 ∷ []) ∷ [] ∷ (1 ∷ []) ∷ [] ∷ [] ∷ (1 ∷
+    120 ∷ []) ∷ (1 ∷ []) ∷ (0 ∷ []) ∷ (101 ∷ 1 ∷ []) ∷ [] ∷ (1 ∷ []) ∷ [] ∷ [] ∷ [] ∷ (1 ∷ []) ∷ (0 ∷ []) ∷ (0 ∷ 0 ∷
+    []) ∷ [] ∷ (1 ∷ []) ∷ [] ∷ [] ∷ (1 ∷ 101 ∷ []) ∷ (1 ∷ []) ∷ (0 ∷ []) ∷ (100 ∷ 1 ∷ []) ∷ (65537 ∷ 131072 ∷ 458753 ∷
+    196610 ∷ []) ∷ (2 ∷ []) ∷ [] ∷ [] ∷ [] ∷ (2 ∷ []) ∷ (0 ∷ []) ∷ (100 ∷ 0 ∷ []) ∷ [] ∷ (2 ∷ []) ∷ [] ∷ [] ∷ [] ∷ (2 ∷
+    []) ∷ (0 ∷ []) ∷ (102 ∷ 1 ∷ []) ∷ (65538 ∷ []) ∷ [] ∷ [] ∷ [] ∷ [] ∷ (0 ∷ []) ∷ (0 ∷ []) ∷ (102 ∷ 0 ∷ []) ∷ [] ∷
+    [] ∷ [] ∷ [] ∷ [] ∷ (0 ∷ []) ∷ (0 ∷ []) ∷ []) ≡ true
+unfolding everything joined historyShown queueShown pendingShown shown playedIf played alike
 example-020 = refl
 
 -- Reading 15: both histories store.
@@ -396,12 +400,13 @@ names-021 = joined (slotOf (112 ∷ []) ∷ slotOf (97 ∷ []) ∷ slotOf (97 �
 
 example-021 : alike (played numbers-021 names-021 (starts 200 ∷ posts (101 ∷ []) ∷ runs 1 200 ∷ posts (104 ∷ []) ∷
     runs 1 200 ∷ [])) ((0 ∷ []) ∷ (0 ∷ 0 ∷ []) ∷ (196609 ∷ 196610 ∷ 196611 ∷ 196613 ∷ []) ∷ (1 ∷ 2 ∷ 3 ∷ 5 ∷ []) ∷ [] ∷
-    [] ∷ [] ∷ (1 ∷ []) ∷ (0 ∷ 0 ∷ []) ∷ [] ∷ (1 ∷ 2 ∷ 3 ∷ 5 ∷ []) ∷ [] ∷ [] ∷ (1 ∷ 101 ∷ []) ∷ (1 ∷ []) ∷ (101 ∷ 1 ∷
-    []) ∷ (65541 ∷ 65539 ∷ 65538 ∷ 65537 ∷ 131072 ∷ 458755 ∷ 196616 ∷ []) ∷ (8 ∷ []) ∷ (6 ∷ 2 ∷ 2 ∷ 5 ∷ 7 ∷ 2 ∷ 3 ∷ 5 ∷
-    []) ∷ [] ∷ [] ∷ (1 ∷ []) ∷ (0 ∷ 0 ∷ []) ∷ [] ∷ (8 ∷ []) ∷ (6 ∷ 2 ∷ 2 ∷ 5 ∷ 7 ∷ 2 ∷ 3 ∷ 5 ∷ []) ∷ [] ∷ (1 ∷ 104 ∷
-    []) ∷ (1 ∷ []) ∷ (101 ∷ 1 ∷ []) ∷ (65544 ∷ 131074 ∷ 458760 ∷ 196609 ∷ 196610 ∷ 196611 ∷ 196613 ∷ []) ∷ (1 ∷ 2 ∷ 3 ∷
-    5 ∷ []) ∷ (6 ∷ 2 ∷ 2 ∷ 5 ∷ 7 ∷ 2 ∷ 3 ∷ 5 ∷ []) ∷ [] ∷ [] ∷ (1 ∷ []) ∷ []) ≡ true
-unfolding everything joined historyShown queueShown shown playedIf played alike
+    [] ∷ [] ∷ (1 ∷ []) ∷ (0 ∷ []) ∷ (0 ∷ 0 ∷ []) ∷ [] ∷ (1 ∷ 2 ∷ 3 ∷ 5 ∷ []) ∷ [] ∷ [] ∷ (1 ∷ 101 ∷ []) ∷ (1 ∷ []) ∷
+    (0 ∷ []) ∷ (101 ∷ 1 ∷ []) ∷ (65541 ∷ 65539 ∷ 65538 ∷ 65537 ∷ 131072 ∷ 458755 ∷ 196616 ∷ []) ∷ (8 ∷ []) ∷ (6 ∷ 2 ∷
+    2 ∷ 5 ∷ 7 ∷ 2 ∷ 3 ∷ 5 ∷ []) ∷ [] ∷ [] ∷ (1 ∷ []) ∷ (0 ∷ []) ∷ (0 ∷ 0 ∷ []) ∷ [] ∷ (8 ∷ []) ∷ (6 ∷ 2 ∷ 2 ∷ 5 ∷ 7 ∷
+    2 ∷ 3 ∷ 5 ∷ []) ∷ [] ∷ (1 ∷ 104 ∷ []) ∷ (1 ∷ []) ∷ (0 ∷ []) ∷ (101 ∷ 1 ∷ []) ∷ (65544 ∷ 131074 ∷ 458760 ∷ 196609 ∷
+    196610 ∷ 196611 ∷ 196613 ∷ []) ∷ (1 ∷ 2 ∷ 3 ∷ 5 ∷ []) ∷ (6 ∷ 2 ∷ 2 ∷ 5 ∷ 7 ∷ 2 ∷ 3 ∷ 5 ∷ []) ∷ [] ∷ [] ∷ (1 ∷ []) ∷
+    (0 ∷ []) ∷ []) ≡ true
+unfolding everything joined historyShown queueShown pendingShown shown playedIf played alike
 example-021 = refl
 
 -- Reading 16: a star is no event name.
@@ -414,11 +419,12 @@ names-022 = joined (slotOf (115 ∷ []) ∷ slotOf (42 ∷ []) ∷ [])
 
 example-022 : alike (played numbers-022 names-022 (starts 200 ∷ posts (42 ∷ []) ∷ posts (97 ∷ 46 ∷ 42 ∷ []) ∷
     posts (97 ∷ 46 ∷ 98 ∷ []) ∷ posts (97 ∷ 46 ∷ []) ∷ runs 3 200 ∷ [])) ((0 ∷ []) ∷ (0 ∷ 0 ∷ []) ∷ (196609 ∷ []) ∷
-    (1 ∷ []) ∷ [] ∷ [] ∷ [] ∷ (1 ∷ []) ∷ (6 ∷ 0 ∷ []) ∷ [] ∷ (1 ∷ []) ∷ [] ∷ [] ∷ [] ∷ (1 ∷ []) ∷ (6 ∷ 0 ∷ []) ∷ [] ∷
-    (1 ∷ []) ∷ [] ∷ [] ∷ [] ∷ (1 ∷ []) ∷ (0 ∷ 0 ∷ []) ∷ [] ∷ (1 ∷ []) ∷ [] ∷ [] ∷ (3 ∷ 97 ∷ 46 ∷ 98 ∷ []) ∷ (1 ∷ []) ∷
-    (6 ∷ 0 ∷ []) ∷ [] ∷ (1 ∷ []) ∷ [] ∷ [] ∷ (3 ∷ 97 ∷ 46 ∷ 98 ∷ []) ∷ (1 ∷ []) ∷ (101 ∷ 1 ∷ []) ∷ (131072 ∷ 458753 ∷
-    262145 ∷ []) ∷ (1 ∷ []) ∷ [] ∷ [] ∷ [] ∷ (1 ∷ []) ∷ []) ≡ true
-unfolding everything joined historyShown queueShown shown playedIf played alike
+    (1 ∷ []) ∷ [] ∷ [] ∷ [] ∷ (1 ∷ []) ∷ (0 ∷ []) ∷ (6 ∷ 0 ∷ []) ∷ [] ∷ (1 ∷ []) ∷ [] ∷ [] ∷ [] ∷ (1 ∷ []) ∷ (0 ∷ []) ∷
+    (6 ∷ 0 ∷ []) ∷ [] ∷ (1 ∷ []) ∷ [] ∷ [] ∷ [] ∷ (1 ∷ []) ∷ (0 ∷ []) ∷ (0 ∷ 0 ∷ []) ∷ [] ∷ (1 ∷ []) ∷ [] ∷ [] ∷ (3 ∷
+    97 ∷ 46 ∷ 98 ∷ []) ∷ (1 ∷ []) ∷ (0 ∷ []) ∷ (6 ∷ 0 ∷ []) ∷ [] ∷ (1 ∷ []) ∷ [] ∷ [] ∷ (3 ∷ 97 ∷ 46 ∷ 98 ∷ []) ∷ (1 ∷
+    []) ∷ (0 ∷ []) ∷ (101 ∷ 1 ∷ []) ∷ (131072 ∷ 458753 ∷ 262145 ∷ []) ∷ (1 ∷ []) ∷ [] ∷ [] ∷ [] ∷ (1 ∷ []) ∷ (0 ∷ []) ∷
+    []) ≡ true
+unfolding everything joined historyShown queueShown pendingShown shown playedIf played alike
 example-022 = refl
 
 -- Reading 17: a history is no child.
@@ -436,13 +442,13 @@ names-023 = joined (slotOf (112 ∷ []) ∷ slotOf (104 ∷ []) ∷ slotOf (120 
 
 example-023 : alike (played numbers-023 names-023 (starts 200 ∷ posts (101 ∷ []) ∷ posts (101 ∷ []) ∷ runs 2 200 ∷
     runs 3 200 ∷ [])) ((0 ∷ []) ∷ (0 ∷ 0 ∷ []) ∷ (196609 ∷ 196611 ∷ []) ∷ (1 ∷ 3 ∷ []) ∷ [] ∷ [] ∷ [] ∷ (1 ∷ []) ∷ (0 ∷
-    0 ∷ []) ∷ [] ∷ (1 ∷ 3 ∷ []) ∷ [] ∷ [] ∷ (1 ∷ 101 ∷ []) ∷ (1 ∷ []) ∷ (0 ∷ 0 ∷ []) ∷ [] ∷ (1 ∷ 3 ∷ []) ∷ [] ∷ [] ∷
-    (1 ∷ 101 ∷ 1 ∷ 101 ∷ []) ∷ (1 ∷ []) ∷ (100 ∷ 2 ∷ []) ∷ (65539 ∷ 65537 ∷ 131072 ∷ 458755 ∷ 196612 ∷ 196614 ∷
-    196616 ∷ 65544 ∷ 131073 ∷ 458760 ∷ 196617 ∷ 393222 ∷ 393220 ∷ []) ∷ (4 ∷ 6 ∷ 9 ∷ []) ∷ (2 ∷ 1 ∷ 3 ∷ []) ∷ (12 ∷
-    100 ∷ 111 ∷ 110 ∷ 101 ∷ 46 ∷ 115 ∷ 116 ∷ 97 ∷ 116 ∷ 101 ∷ 46 ∷ 97 ∷ 12 ∷ 100 ∷ 111 ∷ 110 ∷ 101 ∷ 46 ∷ 115 ∷ 116 ∷
-    97 ∷ 116 ∷ 101 ∷ 46 ∷ 113 ∷ []) ∷ [] ∷ (1 ∷ []) ∷ (101 ∷ 2 ∷ []) ∷ [] ∷ (4 ∷ 6 ∷ 9 ∷ []) ∷ (2 ∷ 1 ∷ 3 ∷ []) ∷ [] ∷
-    [] ∷ (1 ∷ []) ∷ []) ≡ true
-unfolding everything joined historyShown queueShown shown playedIf played alike
+    []) ∷ (0 ∷ 0 ∷ []) ∷ [] ∷ (1 ∷ 3 ∷ []) ∷ [] ∷ [] ∷ (1 ∷ 101 ∷ []) ∷ (1 ∷ []) ∷ (0 ∷ []) ∷ (0 ∷ 0 ∷ []) ∷ [] ∷ (1 ∷
+    3 ∷ []) ∷ [] ∷ [] ∷ (1 ∷ 101 ∷ 1 ∷ 101 ∷ []) ∷ (1 ∷ []) ∷ (0 ∷ []) ∷ (100 ∷ 2 ∷ []) ∷ (65539 ∷ 65537 ∷ 131072 ∷
+    458755 ∷ 196612 ∷ 196614 ∷ 196616 ∷ 65544 ∷ 131073 ∷ 458760 ∷ 196617 ∷ 393222 ∷ 393220 ∷ []) ∷ (4 ∷ 6 ∷ 9 ∷ []) ∷
+    (2 ∷ 1 ∷ 3 ∷ []) ∷ (12 ∷ 100 ∷ 111 ∷ 110 ∷ 101 ∷ 46 ∷ 115 ∷ 116 ∷ 97 ∷ 116 ∷ 101 ∷ 46 ∷ 97 ∷ 12 ∷ 100 ∷ 111 ∷ 110 ∷
+    101 ∷ 46 ∷ 115 ∷ 116 ∷ 97 ∷ 116 ∷ 101 ∷ 46 ∷ 113 ∷ []) ∷ [] ∷ (1 ∷ []) ∷ (0 ∷ []) ∷ (101 ∷ 2 ∷ []) ∷ [] ∷ (4 ∷ 6 ∷
+    9 ∷ []) ∷ (2 ∷ 1 ∷ 3 ∷ []) ∷ [] ∷ [] ∷ (1 ∷ []) ∷ (0 ∷ []) ∷ []) ≡ true
+unfolding everything joined historyShown queueShown pendingShown shown playedIf played alike
 example-023 = refl
 
 -- Reading 18: done.state.p matches p.q.
@@ -460,12 +466,12 @@ names-024 = joined (slotOf (112 ∷ 46 ∷ 113 ∷ []) ∷ slotOf (120 ∷ []) �
 
 example-024 : alike (played numbers-024 names-024 (starts 200 ∷ posts (102 ∷ []) ∷ runs 1 200 ∷ runs 1 200 ∷
     runs 2 200 ∷ [])) ((0 ∷ []) ∷ (0 ∷ 0 ∷ []) ∷ (196609 ∷ 196610 ∷ []) ∷ (1 ∷ 2 ∷ []) ∷ [] ∷ [] ∷ [] ∷ (1 ∷ []) ∷ (0 ∷
-    0 ∷ []) ∷ [] ∷ (1 ∷ 2 ∷ []) ∷ [] ∷ [] ∷ (1 ∷ 102 ∷ []) ∷ (1 ∷ []) ∷ (100 ∷ 1 ∷ []) ∷ (65538 ∷ 131073 ∷ 458754 ∷
-    196611 ∷ 393217 ∷ []) ∷ (1 ∷ 3 ∷ []) ∷ [] ∷ (14 ∷ 100 ∷ 111 ∷ 110 ∷ 101 ∷ 46 ∷ 115 ∷ 116 ∷ 97 ∷ 116 ∷ 101 ∷ 46 ∷
-    112 ∷ 46 ∷ 113 ∷ []) ∷ [] ∷ (1 ∷ []) ∷ (100 ∷ 1 ∷ []) ∷ (65539 ∷ 65537 ∷ 131072 ∷ 458755 ∷ 196612 ∷ 327688 ∷ []) ∷
-    (4 ∷ []) ∷ [] ∷ (1 ∷ 101 ∷ []) ∷ [] ∷ (1 ∷ []) ∷ (101 ∷ 1 ∷ []) ∷ (65540 ∷ 131074 ∷ 458756 ∷ 196613 ∷ []) ∷ (5 ∷
-    []) ∷ [] ∷ [] ∷ [] ∷ (1 ∷ []) ∷ []) ≡ true
-unfolding everything joined historyShown queueShown shown playedIf played alike
+    []) ∷ (0 ∷ 0 ∷ []) ∷ [] ∷ (1 ∷ 2 ∷ []) ∷ [] ∷ [] ∷ (1 ∷ 102 ∷ []) ∷ (1 ∷ []) ∷ (0 ∷ []) ∷ (100 ∷ 1 ∷ []) ∷ (65538 ∷
+    131073 ∷ 458754 ∷ 196611 ∷ 393217 ∷ []) ∷ (1 ∷ 3 ∷ []) ∷ [] ∷ (14 ∷ 100 ∷ 111 ∷ 110 ∷ 101 ∷ 46 ∷ 115 ∷ 116 ∷ 97 ∷
+    116 ∷ 101 ∷ 46 ∷ 112 ∷ 46 ∷ 113 ∷ []) ∷ [] ∷ (1 ∷ []) ∷ (0 ∷ []) ∷ (100 ∷ 1 ∷ []) ∷ (65539 ∷ 65537 ∷ 131072 ∷
+    458755 ∷ 196612 ∷ 327688 ∷ []) ∷ (4 ∷ []) ∷ [] ∷ (1 ∷ 101 ∷ []) ∷ [] ∷ (1 ∷ []) ∷ (0 ∷ []) ∷ (101 ∷ 1 ∷ []) ∷
+    (65540 ∷ 131074 ∷ 458756 ∷ 196613 ∷ []) ∷ (5 ∷ []) ∷ [] ∷ [] ∷ [] ∷ (1 ∷ []) ∷ (0 ∷ []) ∷ []) ≡ true
+unfolding everything joined historyShown queueShown pendingShown shown playedIf played alike
 example-024 = refl
 
 -- Reading 18: equal ids in two slots.
@@ -477,7 +483,7 @@ abbrev names-025 : List ℕ
 names-025 = joined (slotOf (115 ∷ []) ∷ slotOf (115 ∷ []) ∷ [])
 
 example-025 : alike (played numbers-025 names-025 []) ((2 ∷ []) ∷ []) ≡ true
-unfolding everything joined historyShown queueShown shown playedIf played alike
+unfolding everything joined historyShown queueShown pendingShown shown playedIf played alike
 example-025 = refl
 
 -- Reading 19: chart A, round by round.
@@ -500,19 +506,21 @@ names-026 = joined (slotOf (112 ∷ []) ∷ slotOf (83 ∷ 49 ∷ []) ∷ slotOf
 example-026 : alike (played numbers-026 names-026 (starts 200 ∷ posts (101 ∷ 52 ∷ []) ∷ runs 1 200 ∷ posts (101 ∷ 49 ∷
     []) ∷ runs 1 200 ∷ posts (101 ∷ 50 ∷ []) ∷ runs 1 200 ∷ runs 1 200 ∷ runs 1 200 ∷ runs 1 200 ∷ [])) ((0 ∷ []) ∷
     (0 ∷ 0 ∷ []) ∷ (196609 ∷ 196610 ∷ 196611 ∷ 196614 ∷ 196615 ∷ []) ∷ (1 ∷ 2 ∷ 3 ∷ 6 ∷ 7 ∷ []) ∷ [] ∷ [] ∷ [] ∷ (1 ∷
-    []) ∷ (0 ∷ 0 ∷ []) ∷ [] ∷ (1 ∷ 2 ∷ 3 ∷ 6 ∷ 7 ∷ []) ∷ [] ∷ [] ∷ (2 ∷ 101 ∷ 52 ∷ []) ∷ (1 ∷ []) ∷ (101 ∷ 1 ∷ []) ∷
-    (65539 ∷ 131073 ∷ 458755 ∷ 196612 ∷ []) ∷ (1 ∷ 2 ∷ 4 ∷ 6 ∷ 7 ∷ []) ∷ [] ∷ [] ∷ [] ∷ (1 ∷ []) ∷ (0 ∷ 0 ∷ []) ∷ [] ∷
-    (1 ∷ 2 ∷ 4 ∷ 6 ∷ 7 ∷ []) ∷ [] ∷ [] ∷ (2 ∷ 101 ∷ 49 ∷ []) ∷ (1 ∷ []) ∷ (100 ∷ 1 ∷ []) ∷ (65543 ∷ 65540 ∷ 131074 ∷
-    458756 ∷ 131075 ∷ 458759 ∷ 196613 ∷ 393218 ∷ 196616 ∷ []) ∷ (1 ∷ 2 ∷ 5 ∷ 6 ∷ 8 ∷ []) ∷ [] ∷ (13 ∷ 100 ∷ 111 ∷ 110 ∷
-    101 ∷ 46 ∷ 115 ∷ 116 ∷ 97 ∷ 116 ∷ 101 ∷ 46 ∷ 83 ∷ 49 ∷ []) ∷ [] ∷ (1 ∷ []) ∷ (0 ∷ 0 ∷ []) ∷ [] ∷ (1 ∷ 2 ∷ 5 ∷ 6 ∷
-    8 ∷ []) ∷ [] ∷ (13 ∷ 100 ∷ 111 ∷ 110 ∷ 101 ∷ 46 ∷ 115 ∷ 116 ∷ 97 ∷ 116 ∷ 101 ∷ 46 ∷ 83 ∷ 49 ∷ []) ∷ (2 ∷ 101 ∷ 50 ∷
-    []) ∷ (1 ∷ []) ∷ (100 ∷ 1 ∷ []) ∷ [] ∷ (1 ∷ 2 ∷ 5 ∷ 6 ∷ 8 ∷ []) ∷ [] ∷ [] ∷ (2 ∷ 101 ∷ 50 ∷ []) ∷ (1 ∷ []) ∷ (100 ∷
-    1 ∷ []) ∷ (65544 ∷ 131076 ∷ 458760 ∷ 196617 ∷ 393222 ∷ 393217 ∷ []) ∷ (1 ∷ 2 ∷ 5 ∷ 6 ∷ 9 ∷ []) ∷ [] ∷ (13 ∷ 100 ∷
-    111 ∷ 110 ∷ 101 ∷ 46 ∷ 115 ∷ 116 ∷ 97 ∷ 116 ∷ 101 ∷ 46 ∷ 83 ∷ 50 ∷ 12 ∷ 100 ∷ 111 ∷ 110 ∷ 101 ∷ 46 ∷ 115 ∷ 116 ∷
-    97 ∷ 116 ∷ 101 ∷ 46 ∷ 112 ∷ []) ∷ [] ∷ (1 ∷ []) ∷ (100 ∷ 1 ∷ []) ∷ [] ∷ (1 ∷ 2 ∷ 5 ∷ 6 ∷ 9 ∷ []) ∷ [] ∷ (12 ∷ 100 ∷
-    111 ∷ 110 ∷ 101 ∷ 46 ∷ 115 ∷ 116 ∷ 97 ∷ 116 ∷ 101 ∷ 46 ∷ 112 ∷ []) ∷ [] ∷ (1 ∷ []) ∷ (101 ∷ 1 ∷ []) ∷ (65545 ∷
-    65542 ∷ 65541 ∷ 65538 ∷ 65537 ∷ 131072 ∷ 458757 ∷ 196618 ∷ []) ∷ (10 ∷ []) ∷ [] ∷ [] ∷ [] ∷ (1 ∷ []) ∷ []) ≡ true
-unfolding everything joined historyShown queueShown shown playedIf played alike
+    []) ∷ (0 ∷ []) ∷ (0 ∷ 0 ∷ []) ∷ [] ∷ (1 ∷ 2 ∷ 3 ∷ 6 ∷ 7 ∷ []) ∷ [] ∷ [] ∷ (2 ∷ 101 ∷ 52 ∷ []) ∷ (1 ∷ []) ∷ (0 ∷
+    []) ∷ (101 ∷ 1 ∷ []) ∷ (65539 ∷ 131073 ∷ 458755 ∷ 196612 ∷ []) ∷ (1 ∷ 2 ∷ 4 ∷ 6 ∷ 7 ∷ []) ∷ [] ∷ [] ∷ [] ∷ (1 ∷
+    []) ∷ (0 ∷ []) ∷ (0 ∷ 0 ∷ []) ∷ [] ∷ (1 ∷ 2 ∷ 4 ∷ 6 ∷ 7 ∷ []) ∷ [] ∷ [] ∷ (2 ∷ 101 ∷ 49 ∷ []) ∷ (1 ∷ []) ∷ (0 ∷
+    []) ∷ (100 ∷ 1 ∷ []) ∷ (65543 ∷ 65540 ∷ 131074 ∷ 458756 ∷ 131075 ∷ 458759 ∷ 196613 ∷ 393218 ∷ 196616 ∷ []) ∷ (1 ∷
+    2 ∷ 5 ∷ 6 ∷ 8 ∷ []) ∷ [] ∷ (13 ∷ 100 ∷ 111 ∷ 110 ∷ 101 ∷ 46 ∷ 115 ∷ 116 ∷ 97 ∷ 116 ∷ 101 ∷ 46 ∷ 83 ∷ 49 ∷ []) ∷
+    [] ∷ (1 ∷ []) ∷ (0 ∷ []) ∷ (0 ∷ 0 ∷ []) ∷ [] ∷ (1 ∷ 2 ∷ 5 ∷ 6 ∷ 8 ∷ []) ∷ [] ∷ (13 ∷ 100 ∷ 111 ∷ 110 ∷ 101 ∷ 46 ∷
+    115 ∷ 116 ∷ 97 ∷ 116 ∷ 101 ∷ 46 ∷ 83 ∷ 49 ∷ []) ∷ (2 ∷ 101 ∷ 50 ∷ []) ∷ (1 ∷ []) ∷ (0 ∷ []) ∷ (100 ∷ 1 ∷ []) ∷ [] ∷
+    (1 ∷ 2 ∷ 5 ∷ 6 ∷ 8 ∷ []) ∷ [] ∷ [] ∷ (2 ∷ 101 ∷ 50 ∷ []) ∷ (1 ∷ []) ∷ (0 ∷ []) ∷ (100 ∷ 1 ∷ []) ∷ (65544 ∷ 131076 ∷
+    458760 ∷ 196617 ∷ 393222 ∷ 393217 ∷ []) ∷ (1 ∷ 2 ∷ 5 ∷ 6 ∷ 9 ∷ []) ∷ [] ∷ (13 ∷ 100 ∷ 111 ∷ 110 ∷ 101 ∷ 46 ∷ 115 ∷
+    116 ∷ 97 ∷ 116 ∷ 101 ∷ 46 ∷ 83 ∷ 50 ∷ 12 ∷ 100 ∷ 111 ∷ 110 ∷ 101 ∷ 46 ∷ 115 ∷ 116 ∷ 97 ∷ 116 ∷ 101 ∷ 46 ∷ 112 ∷
+    []) ∷ [] ∷ (1 ∷ []) ∷ (0 ∷ []) ∷ (100 ∷ 1 ∷ []) ∷ [] ∷ (1 ∷ 2 ∷ 5 ∷ 6 ∷ 9 ∷ []) ∷ [] ∷ (12 ∷ 100 ∷ 111 ∷ 110 ∷
+    101 ∷ 46 ∷ 115 ∷ 116 ∷ 97 ∷ 116 ∷ 101 ∷ 46 ∷ 112 ∷ []) ∷ [] ∷ (1 ∷ []) ∷ (0 ∷ []) ∷ (101 ∷ 1 ∷ []) ∷ (65545 ∷
+    65542 ∷ 65541 ∷ 65538 ∷ 65537 ∷ 131072 ∷ 458757 ∷ 196618 ∷ []) ∷ (10 ∷ []) ∷ [] ∷ [] ∷ [] ∷ (1 ∷ []) ∷ (0 ∷ []) ∷
+    []) ≡ true
+unfolding everything joined historyShown queueShown pendingShown shown playedIf played alike
 example-026 = refl
 
 -- Reading 19: chart A, one run of ten.
@@ -534,13 +542,14 @@ names-027 = joined (slotOf (112 ∷ []) ∷ slotOf (83 ∷ 49 ∷ []) ∷ slotOf
 
 example-027 : alike (played numbers-027 names-027 (starts 200 ∷ posts (101 ∷ 52 ∷ []) ∷ posts (101 ∷ 49 ∷ []) ∷
     posts (101 ∷ 50 ∷ []) ∷ runs 10 200 ∷ [])) ((0 ∷ []) ∷ (0 ∷ 0 ∷ []) ∷ (196609 ∷ 196610 ∷ 196611 ∷ 196614 ∷ 196615 ∷
-    []) ∷ (1 ∷ 2 ∷ 3 ∷ 6 ∷ 7 ∷ []) ∷ [] ∷ [] ∷ [] ∷ (1 ∷ []) ∷ (0 ∷ 0 ∷ []) ∷ [] ∷ (1 ∷ 2 ∷ 3 ∷ 6 ∷ 7 ∷ []) ∷ [] ∷ [] ∷
-    (2 ∷ 101 ∷ 52 ∷ []) ∷ (1 ∷ []) ∷ (0 ∷ 0 ∷ []) ∷ [] ∷ (1 ∷ 2 ∷ 3 ∷ 6 ∷ 7 ∷ []) ∷ [] ∷ [] ∷ (2 ∷ 101 ∷ 52 ∷ 2 ∷ 101 ∷
-    49 ∷ []) ∷ (1 ∷ []) ∷ (0 ∷ 0 ∷ []) ∷ [] ∷ (1 ∷ 2 ∷ 3 ∷ 6 ∷ 7 ∷ []) ∷ [] ∷ [] ∷ (2 ∷ 101 ∷ 52 ∷ 2 ∷ 101 ∷ 49 ∷ 2 ∷
-    101 ∷ 50 ∷ []) ∷ (1 ∷ []) ∷ (101 ∷ 6 ∷ []) ∷ (65539 ∷ 131073 ∷ 458755 ∷ 196612 ∷ 65543 ∷ 65540 ∷ 131074 ∷ 458756 ∷
-    131075 ∷ 458759 ∷ 196613 ∷ 393218 ∷ 196616 ∷ 65544 ∷ 131076 ∷ 458760 ∷ 196617 ∷ 393222 ∷ 393217 ∷ 65545 ∷ 65542 ∷
-    65541 ∷ 65538 ∷ 65537 ∷ 131072 ∷ 458757 ∷ 196618 ∷ []) ∷ (10 ∷ []) ∷ [] ∷ [] ∷ [] ∷ (1 ∷ []) ∷ []) ≡ true
-unfolding everything joined historyShown queueShown shown playedIf played alike
+    []) ∷ (1 ∷ 2 ∷ 3 ∷ 6 ∷ 7 ∷ []) ∷ [] ∷ [] ∷ [] ∷ (1 ∷ []) ∷ (0 ∷ []) ∷ (0 ∷ 0 ∷ []) ∷ [] ∷ (1 ∷ 2 ∷ 3 ∷ 6 ∷ 7 ∷
+    []) ∷ [] ∷ [] ∷ (2 ∷ 101 ∷ 52 ∷ []) ∷ (1 ∷ []) ∷ (0 ∷ []) ∷ (0 ∷ 0 ∷ []) ∷ [] ∷ (1 ∷ 2 ∷ 3 ∷ 6 ∷ 7 ∷ []) ∷ [] ∷
+    [] ∷ (2 ∷ 101 ∷ 52 ∷ 2 ∷ 101 ∷ 49 ∷ []) ∷ (1 ∷ []) ∷ (0 ∷ []) ∷ (0 ∷ 0 ∷ []) ∷ [] ∷ (1 ∷ 2 ∷ 3 ∷ 6 ∷ 7 ∷ []) ∷ [] ∷
+    [] ∷ (2 ∷ 101 ∷ 52 ∷ 2 ∷ 101 ∷ 49 ∷ 2 ∷ 101 ∷ 50 ∷ []) ∷ (1 ∷ []) ∷ (0 ∷ []) ∷ (101 ∷ 6 ∷ []) ∷ (65539 ∷ 131073 ∷
+    458755 ∷ 196612 ∷ 65543 ∷ 65540 ∷ 131074 ∷ 458756 ∷ 131075 ∷ 458759 ∷ 196613 ∷ 393218 ∷ 196616 ∷ 65544 ∷ 131076 ∷
+    458760 ∷ 196617 ∷ 393222 ∷ 393217 ∷ 65545 ∷ 65542 ∷ 65541 ∷ 65538 ∷ 65537 ∷ 131072 ∷ 458757 ∷ 196618 ∷ []) ∷ (10 ∷
+    []) ∷ [] ∷ [] ∷ [] ∷ (1 ∷ []) ∷ (0 ∷ []) ∷ []) ≡ true
+unfolding everything joined historyShown queueShown pendingShown shown playedIf played alike
 example-027 = refl
 
 -- Reading 19: chart A, one run of three.
@@ -562,13 +571,13 @@ names-028 = joined (slotOf (112 ∷ []) ∷ slotOf (83 ∷ 49 ∷ []) ∷ slotOf
 
 example-028 : alike (played numbers-028 names-028 (starts 200 ∷ posts (101 ∷ 52 ∷ []) ∷ posts (101 ∷ 49 ∷ []) ∷
     posts (101 ∷ 50 ∷ []) ∷ runs 3 200 ∷ [])) ((0 ∷ []) ∷ (0 ∷ 0 ∷ []) ∷ (196609 ∷ 196610 ∷ 196611 ∷ 196614 ∷ 196615 ∷
-    []) ∷ (1 ∷ 2 ∷ 3 ∷ 6 ∷ 7 ∷ []) ∷ [] ∷ [] ∷ [] ∷ (1 ∷ []) ∷ (0 ∷ 0 ∷ []) ∷ [] ∷ (1 ∷ 2 ∷ 3 ∷ 6 ∷ 7 ∷ []) ∷ [] ∷ [] ∷
-    (2 ∷ 101 ∷ 52 ∷ []) ∷ (1 ∷ []) ∷ (0 ∷ 0 ∷ []) ∷ [] ∷ (1 ∷ 2 ∷ 3 ∷ 6 ∷ 7 ∷ []) ∷ [] ∷ [] ∷ (2 ∷ 101 ∷ 52 ∷ 2 ∷ 101 ∷
-    49 ∷ []) ∷ (1 ∷ []) ∷ (0 ∷ 0 ∷ []) ∷ [] ∷ (1 ∷ 2 ∷ 3 ∷ 6 ∷ 7 ∷ []) ∷ [] ∷ [] ∷ (2 ∷ 101 ∷ 52 ∷ 2 ∷ 101 ∷ 49 ∷ 2 ∷
-    101 ∷ 50 ∷ []) ∷ (1 ∷ []) ∷ (100 ∷ 3 ∷ []) ∷ (65539 ∷ 131073 ∷ 458755 ∷ 196612 ∷ 65543 ∷ 65540 ∷ 131074 ∷ 458756 ∷
-    131075 ∷ 458759 ∷ 196613 ∷ 393218 ∷ 196616 ∷ []) ∷ (1 ∷ 2 ∷ 5 ∷ 6 ∷ 8 ∷ []) ∷ [] ∷ [] ∷ (2 ∷ 101 ∷ 50 ∷ []) ∷ (1 ∷
-    []) ∷ []) ≡ true
-unfolding everything joined historyShown queueShown shown playedIf played alike
+    []) ∷ (1 ∷ 2 ∷ 3 ∷ 6 ∷ 7 ∷ []) ∷ [] ∷ [] ∷ [] ∷ (1 ∷ []) ∷ (0 ∷ []) ∷ (0 ∷ 0 ∷ []) ∷ [] ∷ (1 ∷ 2 ∷ 3 ∷ 6 ∷ 7 ∷
+    []) ∷ [] ∷ [] ∷ (2 ∷ 101 ∷ 52 ∷ []) ∷ (1 ∷ []) ∷ (0 ∷ []) ∷ (0 ∷ 0 ∷ []) ∷ [] ∷ (1 ∷ 2 ∷ 3 ∷ 6 ∷ 7 ∷ []) ∷ [] ∷
+    [] ∷ (2 ∷ 101 ∷ 52 ∷ 2 ∷ 101 ∷ 49 ∷ []) ∷ (1 ∷ []) ∷ (0 ∷ []) ∷ (0 ∷ 0 ∷ []) ∷ [] ∷ (1 ∷ 2 ∷ 3 ∷ 6 ∷ 7 ∷ []) ∷ [] ∷
+    [] ∷ (2 ∷ 101 ∷ 52 ∷ 2 ∷ 101 ∷ 49 ∷ 2 ∷ 101 ∷ 50 ∷ []) ∷ (1 ∷ []) ∷ (0 ∷ []) ∷ (100 ∷ 3 ∷ []) ∷ (65539 ∷ 131073 ∷
+    458755 ∷ 196612 ∷ 65543 ∷ 65540 ∷ 131074 ∷ 458756 ∷ 131075 ∷ 458759 ∷ 196613 ∷ 393218 ∷ 196616 ∷ []) ∷ (1 ∷ 2 ∷ 5 ∷
+    6 ∷ 8 ∷ []) ∷ [] ∷ [] ∷ (2 ∷ 101 ∷ 50 ∷ []) ∷ (1 ∷ []) ∷ (0 ∷ []) ∷ []) ≡ true
+unfolding everything joined historyShown queueShown pendingShown shown playedIf played alike
 example-028 = refl
 
 -- Reading 20: one row.
@@ -579,7 +588,7 @@ abbrev names-029 : List ℕ
 names-029 = joined []
 
 example-029 : alike (played numbers-029 names-029 []) ((3 ∷ []) ∷ []) ≡ true
-unfolding everything joined historyShown queueShown shown playedIf played alike
+unfolding everything joined historyShown queueShown pendingShown shown playedIf played alike
 example-029 = refl
 
 -- Reading 21: a dropped event is a round.
@@ -592,9 +601,10 @@ names-030 = joined (slotOf (115 ∷ []) ∷ slotOf (101 ∷ []) ∷ [])
 
 example-030 : alike (played numbers-030 names-030 (starts 200 ∷ posts (120 ∷ []) ∷ posts (121 ∷ []) ∷ posts (101 ∷
     []) ∷ runs 1 0 ∷ runs 5 0 ∷ [])) ((0 ∷ []) ∷ (0 ∷ 0 ∷ []) ∷ (196609 ∷ []) ∷ (1 ∷ []) ∷ [] ∷ [] ∷ [] ∷ (1 ∷ []) ∷
-    (0 ∷ 0 ∷ []) ∷ [] ∷ (1 ∷ []) ∷ [] ∷ [] ∷ (1 ∷ 120 ∷ []) ∷ (1 ∷ []) ∷ (0 ∷ 0 ∷ []) ∷ [] ∷ (1 ∷ []) ∷ [] ∷ [] ∷ (1 ∷
-    120 ∷ 1 ∷ 121 ∷ []) ∷ (1 ∷ []) ∷ (0 ∷ 0 ∷ []) ∷ [] ∷ (1 ∷ []) ∷ [] ∷ [] ∷ (1 ∷ 120 ∷ 1 ∷ 121 ∷ 1 ∷ 101 ∷ []) ∷ (1 ∷
-    []) ∷ (100 ∷ 1 ∷ []) ∷ [] ∷ (1 ∷ []) ∷ [] ∷ [] ∷ (1 ∷ 121 ∷ 1 ∷ 101 ∷ []) ∷ (1 ∷ []) ∷ (10 ∷ 1 ∷ []) ∷ [] ∷ (1 ∷
-    []) ∷ [] ∷ [] ∷ (1 ∷ 101 ∷ []) ∷ (1 ∷ []) ∷ []) ≡ true
-unfolding everything joined historyShown queueShown shown playedIf played alike
+    (0 ∷ []) ∷ (0 ∷ 0 ∷ []) ∷ [] ∷ (1 ∷ []) ∷ [] ∷ [] ∷ (1 ∷ 120 ∷ []) ∷ (1 ∷ []) ∷ (0 ∷ []) ∷ (0 ∷ 0 ∷ []) ∷ [] ∷ (1 ∷
+    []) ∷ [] ∷ [] ∷ (1 ∷ 120 ∷ 1 ∷ 121 ∷ []) ∷ (1 ∷ []) ∷ (0 ∷ []) ∷ (0 ∷ 0 ∷ []) ∷ [] ∷ (1 ∷ []) ∷ [] ∷ [] ∷ (1 ∷
+    120 ∷ 1 ∷ 121 ∷ 1 ∷ 101 ∷ []) ∷ (1 ∷ []) ∷ (0 ∷ []) ∷ (100 ∷ 1 ∷ []) ∷ [] ∷ (1 ∷ []) ∷ [] ∷ [] ∷ (1 ∷ 121 ∷ 1 ∷
+    101 ∷ []) ∷ (1 ∷ []) ∷ (0 ∷ []) ∷ (10 ∷ 1 ∷ []) ∷ [] ∷ (1 ∷ []) ∷ [] ∷ [] ∷ (1 ∷ 101 ∷ []) ∷ (1 ∷ []) ∷ (0 ∷ []) ∷
+    []) ≡ true
+unfolding everything joined historyShown queueShown pendingShown shown playedIf played alike
 example-030 = refl

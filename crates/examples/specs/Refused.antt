@@ -8,9 +8,10 @@ use Rattle.definition.specs.declared.Mode.{Mode}
 use Rattle.definition.specs.declared.Mode.the-variants.{Running, Closing, Ended}
 use Rattle.definition.specs.Tables.{slotOf}
 use Rattle.follower.specs.Follower.{Follower}
-use Rattle.follower.specs.Calls.{starts, posts, runs}
+use Rattle.follower.specs.Clock.{Timer, Clock}
+use Rattle.follower.specs.Calls.{starts, posts, clocks, runs}
 use Rattle.follower.specs.Open.{everything}
-use Rattle.examples.specs.Play.{joined, historyShown, queueShown, shown, playedIf, played, judged, countsKept, compiledSets, opens, fits, alike}
+use Rattle.examples.specs.Play.{joined, historyShown, queueShown, pendingShown, shown, playedIf, played, judged, countsKept, compiledSets, opens, fits, timer, recordFits, alike}
 
 -- no numbers
 abbrev numbers-001 : List ℕ
@@ -20,7 +21,7 @@ abbrev names-001 : List ℕ
 names-001 = joined (slotOf (115 ∷ []) ∷ slotOf (101 ∷ []) ∷ slotOf (42 ∷ []) ∷ [])
 
 example-001 : alike (played numbers-001 names-001 []) ((1 ∷ []) ∷ []) ≡ true
-unfolding everything joined historyShown queueShown shown playedIf played alike
+unfolding everything joined historyShown queueShown pendingShown shown playedIf played alike
 example-001 = refl
 
 -- half a header
@@ -31,7 +32,7 @@ abbrev names-002 : List ℕ
 names-002 = joined (slotOf (115 ∷ []) ∷ slotOf (101 ∷ []) ∷ slotOf (42 ∷ []) ∷ [])
 
 example-002 : alike (played numbers-002 names-002 []) ((1 ∷ []) ∷ []) ≡ true
-unfolding everything joined historyShown queueShown shown playedIf played alike
+unfolding everything joined historyShown queueShown pendingShown shown playedIf played alike
 example-002 = refl
 
 -- header alone
@@ -42,7 +43,7 @@ abbrev names-003 : List ℕ
 names-003 = joined (slotOf (115 ∷ []) ∷ slotOf (101 ∷ []) ∷ slotOf (42 ∷ []) ∷ [])
 
 example-003 : alike (played numbers-003 names-003 []) ((1 ∷ []) ∷ []) ≡ true
-unfolding everything joined historyShown queueShown shown playedIf played alike
+unfolding everything joined historyShown queueShown pendingShown shown playedIf played alike
 example-003 = refl
 
 -- numbers one short
@@ -54,7 +55,7 @@ abbrev names-004 : List ℕ
 names-004 = joined (slotOf (115 ∷ []) ∷ slotOf (101 ∷ []) ∷ slotOf (42 ∷ []) ∷ [])
 
 example-004 : alike (played numbers-004 names-004 []) ((1 ∷ []) ∷ []) ≡ true
-unfolding everything joined historyShown queueShown shown playedIf played alike
+unfolding everything joined historyShown queueShown pendingShown shown playedIf played alike
 example-004 = refl
 
 -- numbers one long
@@ -66,7 +67,7 @@ abbrev names-005 : List ℕ
 names-005 = joined (slotOf (115 ∷ []) ∷ slotOf (101 ∷ []) ∷ slotOf (42 ∷ []) ∷ [])
 
 example-005 : alike (played numbers-005 names-005 []) ((1 ∷ []) ∷ []) ≡ true
-unfolding everything joined historyShown queueShown shown playedIf played alike
+unfolding everything joined historyShown queueShown pendingShown shown playedIf played alike
 example-005 = refl
 
 -- names one short
@@ -80,7 +81,7 @@ names-006 = joined (slotOf (115 ∷ []) ∷ slotOf (101 ∷ []) ∷ (42 ∷ 0 �
     0 ∷ 0 ∷ 0 ∷ 0 ∷ 0 ∷ 0 ∷ 0 ∷ 0 ∷ 0 ∷ 0 ∷ 0 ∷ 0 ∷ 0 ∷ 0 ∷ 0 ∷ 0 ∷ 0 ∷ 0 ∷ 0 ∷ 0 ∷ []) ∷ [])
 
 example-006 : alike (played numbers-006 names-006 []) ((1 ∷ []) ∷ []) ≡ true
-unfolding everything joined historyShown queueShown shown playedIf played alike
+unfolding everything joined historyShown queueShown pendingShown shown playedIf played alike
 example-006 = refl
 
 -- names one long
@@ -92,7 +93,7 @@ abbrev names-007 : List ℕ
 names-007 = joined (slotOf (115 ∷ []) ∷ slotOf (101 ∷ []) ∷ slotOf (42 ∷ []) ∷ (0 ∷ []) ∷ [])
 
 example-007 : alike (played numbers-007 names-007 []) ((1 ∷ []) ∷ []) ≡ true
-unfolding everything joined historyShown queueShown shown playedIf played alike
+unfolding everything joined historyShown queueShown pendingShown shown playedIf played alike
 example-007 = refl
 
 -- no names
@@ -104,7 +105,7 @@ abbrev names-008 : List ℕ
 names-008 = joined []
 
 example-008 : alike (played numbers-008 names-008 []) ((1 ∷ []) ∷ []) ≡ true
-unfolding everything joined historyShown queueShown shown playedIf played alike
+unfolding everything joined historyShown queueShown pendingShown shown playedIf played alike
 example-008 = refl
 
 -- a huge count
@@ -117,7 +118,7 @@ abbrev names-009 : List ℕ
 names-009 = joined (slotOf (115 ∷ []) ∷ slotOf (101 ∷ []) ∷ slotOf (42 ∷ []) ∷ [])
 
 example-009 : alike (played numbers-009 names-009 []) ((1 ∷ []) ∷ []) ≡ true
-unfolding everything joined historyShown queueShown shown playedIf played alike
+unfolding everything joined historyShown queueShown pendingShown shown playedIf played alike
 example-009 = refl
 
 -- a count that wraps
@@ -130,7 +131,7 @@ abbrev names-010 : List ℕ
 names-010 = joined (slotOf (115 ∷ []) ∷ slotOf (101 ∷ []) ∷ slotOf (42 ∷ []) ∷ [])
 
 example-010 : alike (played numbers-010 names-010 []) ((1 ∷ []) ∷ []) ≡ true
-unfolding everything joined historyShown queueShown shown playedIf played alike
+unfolding everything joined historyShown queueShown pendingShown shown playedIf played alike
 example-010 = refl
 
 -- no rows
@@ -142,7 +143,7 @@ abbrev names-011 : List ℕ
 names-011 = joined (slotOf (115 ∷ []) ∷ slotOf (101 ∷ []) ∷ slotOf (42 ∷ []) ∷ [])
 
 example-011 : alike (played numbers-011 names-011 []) ((1 ∷ []) ∷ []) ≡ true
-unfolding everything joined historyShown queueShown shown playedIf played alike
+unfolding everything joined historyShown queueShown pendingShown shown playedIf played alike
 example-011 = refl
 
 -- one slot too many
@@ -495,7 +496,7 @@ names-012 = joined (slotOf (115 ∷ []) ∷ slotOf (101 ∷ []) ∷ slotOf (42 �
     100 ∷ []) ∷ [])
 
 example-012 : alike (played numbers-012 names-012 []) ((1 ∷ []) ∷ []) ≡ true
-unfolding everything joined historyShown queueShown shown playedIf played alike
+unfolding everything joined historyShown queueShown pendingShown shown playedIf played alike
 example-012 = refl
 
 -- thirty-three actions on entry
@@ -512,7 +513,7 @@ abbrev names-013 : List ℕ
 names-013 = joined (slotOf (115 ∷ []) ∷ slotOf (101 ∷ []) ∷ slotOf (42 ∷ []) ∷ [])
 
 example-013 : alike (played numbers-013 names-013 []) ((1 ∷ []) ∷ []) ≡ true
-unfolding everything joined historyShown queueShown shown playedIf played alike
+unfolding everything joined historyShown queueShown pendingShown shown playedIf played alike
 example-013 = refl
 
 -- thirty-three actions on exit
@@ -529,7 +530,7 @@ abbrev names-014 : List ℕ
 names-014 = joined (slotOf (115 ∷ []) ∷ slotOf (101 ∷ []) ∷ slotOf (42 ∷ []) ∷ [])
 
 example-014 : alike (played numbers-014 names-014 []) ((1 ∷ []) ∷ []) ≡ true
-unfolding everything joined historyShown queueShown shown playedIf played alike
+unfolding everything joined historyShown queueShown pendingShown shown playedIf played alike
 example-014 = refl
 
 -- thirty-three actions of a list
@@ -546,7 +547,7 @@ abbrev names-015 : List ℕ
 names-015 = joined (slotOf (115 ∷ []) ∷ slotOf (101 ∷ []) ∷ slotOf (42 ∷ []) ∷ [])
 
 example-015 : alike (played numbers-015 names-015 []) ((1 ∷ []) ∷ []) ≡ true
-unfolding everything joined historyShown queueShown shown playedIf played alike
+unfolding everything joined historyShown queueShown pendingShown shown playedIf played alike
 example-015 = refl
 
 -- thirty-three actions of a transition
@@ -563,7 +564,7 @@ abbrev names-016 : List ℕ
 names-016 = joined (slotOf (115 ∷ []) ∷ slotOf (101 ∷ []) ∷ slotOf (42 ∷ []) ∷ [])
 
 example-016 : alike (played numbers-016 names-016 []) ((1 ∷ []) ∷ []) ≡ true
-unfolding everything joined historyShown queueShown shown playedIf played alike
+unfolding everything joined historyShown queueShown pendingShown shown playedIf played alike
 example-016 = refl
 
 -- five descriptors
@@ -575,7 +576,7 @@ abbrev names-017 : List ℕ
 names-017 = joined (slotOf (115 ∷ []) ∷ slotOf (101 ∷ []) ∷ slotOf (42 ∷ []) ∷ [])
 
 example-017 : alike (played numbers-017 names-017 []) ((1 ∷ []) ∷ []) ≡ true
-unfolding everything joined historyShown queueShown shown playedIf played alike
+unfolding everything joined historyShown queueShown pendingShown shown playedIf played alike
 example-017 = refl
 
 -- nine targets
@@ -588,7 +589,7 @@ abbrev names-018 : List ℕ
 names-018 = joined (slotOf (115 ∷ []) ∷ slotOf (101 ∷ []) ∷ slotOf (42 ∷ []) ∷ [])
 
 example-018 : alike (played numbers-018 names-018 []) ((1 ∷ []) ∷ []) ≡ true
-unfolding everything joined historyShown queueShown shown playedIf played alike
+unfolding everything joined historyShown queueShown pendingShown shown playedIf played alike
 example-018 = refl
 
 -- kind 6
@@ -600,7 +601,7 @@ abbrev names-019 : List ℕ
 names-019 = joined (slotOf (115 ∷ []) ∷ slotOf (101 ∷ []) ∷ slotOf (42 ∷ []) ∷ [])
 
 example-019 : alike (played numbers-019 names-019 []) ((1 ∷ []) ∷ []) ≡ true
-unfolding everything joined historyShown queueShown shown playedIf played alike
+unfolding everything joined historyShown queueShown pendingShown shown playedIf played alike
 example-019 = refl
 
 -- parent past the rows
@@ -612,7 +613,7 @@ abbrev names-020 : List ℕ
 names-020 = joined (slotOf (115 ∷ []) ∷ slotOf (101 ∷ []) ∷ slotOf (42 ∷ []) ∷ [])
 
 example-020 : alike (played numbers-020 names-020 []) ((1 ∷ []) ∷ []) ≡ true
-unfolding everything joined historyShown queueShown shown playedIf played alike
+unfolding everything joined historyShown queueShown pendingShown shown playedIf played alike
 example-020 = refl
 
 -- parent 65,536
@@ -624,7 +625,7 @@ abbrev names-021 : List ℕ
 names-021 = joined (slotOf (115 ∷ []) ∷ slotOf (101 ∷ []) ∷ slotOf (42 ∷ []) ∷ [])
 
 example-021 : alike (played numbers-021 names-021 []) ((1 ∷ []) ∷ []) ≡ true
-unfolding everything joined historyShown queueShown shown playedIf played alike
+unfolding everything joined historyShown queueShown pendingShown shown playedIf played alike
 example-021 = refl
 
 -- id past the slots
@@ -636,7 +637,7 @@ abbrev names-022 : List ℕ
 names-022 = joined (slotOf (115 ∷ []) ∷ slotOf (101 ∷ []) ∷ slotOf (42 ∷ []) ∷ [])
 
 example-022 : alike (played numbers-022 names-022 []) ((1 ∷ []) ∷ []) ≡ true
-unfolding everything joined historyShown queueShown shown playedIf played alike
+unfolding everything joined historyShown queueShown pendingShown shown playedIf played alike
 example-022 = refl
 
 -- entry block past the actions
@@ -648,7 +649,7 @@ abbrev names-023 : List ℕ
 names-023 = joined (slotOf (115 ∷ []) ∷ slotOf (101 ∷ []) ∷ slotOf (42 ∷ []) ∷ [])
 
 example-023 : alike (played numbers-023 names-023 []) ((1 ∷ []) ∷ []) ≡ true
-unfolding everything joined historyShown queueShown shown playedIf played alike
+unfolding everything joined historyShown queueShown pendingShown shown playedIf played alike
 example-023 = refl
 
 -- exit block past the actions
@@ -660,7 +661,7 @@ abbrev names-024 : List ℕ
 names-024 = joined (slotOf (115 ∷ []) ∷ slotOf (101 ∷ []) ∷ slotOf (42 ∷ []) ∷ [])
 
 example-024 : alike (played numbers-024 names-024 []) ((1 ∷ []) ∷ []) ≡ true
-unfolding everything joined historyShown queueShown shown playedIf played alike
+unfolding everything joined historyShown queueShown pendingShown shown playedIf played alike
 example-024 = refl
 
 -- list past the references
@@ -672,7 +673,7 @@ abbrev names-025 : List ℕ
 names-025 = joined (slotOf (115 ∷ []) ∷ slotOf (101 ∷ []) ∷ slotOf (42 ∷ []) ∷ [])
 
 example-025 : alike (played numbers-025 names-025 []) ((1 ∷ []) ∷ []) ≡ true
-unfolding everything joined historyShown queueShown shown playedIf played alike
+unfolding everything joined historyShown queueShown pendingShown shown playedIf played alike
 example-025 = refl
 
 -- list longer than the references
@@ -684,7 +685,7 @@ abbrev names-026 : List ℕ
 names-026 = joined (slotOf (115 ∷ []) ∷ slotOf (101 ∷ []) ∷ slotOf (42 ∷ []) ∷ [])
 
 example-026 : alike (played numbers-026 names-026 []) ((1 ∷ []) ∷ []) ≡ true
-unfolding everything joined historyShown queueShown shown playedIf played alike
+unfolding everything joined historyShown queueShown pendingShown shown playedIf played alike
 example-026 = refl
 
 -- list that wraps around
@@ -697,7 +698,7 @@ abbrev names-027 : List ℕ
 names-027 = joined (slotOf (115 ∷ []) ∷ slotOf (101 ∷ []) ∷ slotOf (42 ∷ []) ∷ [])
 
 example-027 : alike (played numbers-027 names-027 []) ((1 ∷ []) ∷ []) ≡ true
-unfolding everything joined historyShown queueShown shown playedIf played alike
+unfolding everything joined historyShown queueShown pendingShown shown playedIf played alike
 example-027 = refl
 
 -- huge list
@@ -710,7 +711,7 @@ abbrev names-028 : List ℕ
 names-028 = joined (slotOf (115 ∷ []) ∷ slotOf (101 ∷ []) ∷ slotOf (42 ∷ []) ∷ [])
 
 example-028 : alike (played numbers-028 names-028 []) ((1 ∷ []) ∷ []) ≡ true
-unfolding everything joined historyShown queueShown shown playedIf played alike
+unfolding everything joined historyShown queueShown pendingShown shown playedIf played alike
 example-028 = refl
 
 -- list block past the actions
@@ -722,7 +723,7 @@ abbrev names-029 : List ℕ
 names-029 = joined (slotOf (115 ∷ []) ∷ slotOf (101 ∷ []) ∷ slotOf (42 ∷ []) ∷ [])
 
 example-029 : alike (played numbers-029 names-029 []) ((1 ∷ []) ∷ []) ≡ true
-unfolding everything joined historyShown queueShown shown playedIf played alike
+unfolding everything joined historyShown queueShown pendingShown shown playedIf played alike
 example-029 = refl
 
 -- source past the rows
@@ -734,7 +735,7 @@ abbrev names-030 : List ℕ
 names-030 = joined (slotOf (115 ∷ []) ∷ slotOf (101 ∷ []) ∷ slotOf (42 ∷ []) ∷ [])
 
 example-030 : alike (played numbers-030 names-030 []) ((1 ∷ []) ∷ []) ≡ true
-unfolding everything joined historyShown queueShown shown playedIf played alike
+unfolding everything joined historyShown queueShown pendingShown shown playedIf played alike
 example-030 = refl
 
 -- source none
@@ -746,7 +747,7 @@ abbrev names-031 : List ℕ
 names-031 = joined (slotOf (115 ∷ []) ∷ slotOf (101 ∷ []) ∷ slotOf (42 ∷ []) ∷ [])
 
 example-031 : alike (played numbers-031 names-031 []) ((1 ∷ []) ∷ []) ≡ true
-unfolding everything joined historyShown queueShown shown playedIf played alike
+unfolding everything joined historyShown queueShown pendingShown shown playedIf played alike
 example-031 = refl
 
 -- descriptors past their table
@@ -758,7 +759,7 @@ abbrev names-032 : List ℕ
 names-032 = joined (slotOf (115 ∷ []) ∷ slotOf (101 ∷ []) ∷ slotOf (42 ∷ []) ∷ [])
 
 example-032 : alike (played numbers-032 names-032 []) ((1 ∷ []) ∷ []) ≡ true
-unfolding everything joined historyShown queueShown shown playedIf played alike
+unfolding everything joined historyShown queueShown pendingShown shown playedIf played alike
 example-032 = refl
 
 -- condition past the rows
@@ -770,7 +771,7 @@ abbrev names-033 : List ℕ
 names-033 = joined (slotOf (115 ∷ []) ∷ slotOf (101 ∷ []) ∷ slotOf (42 ∷ []) ∷ [])
 
 example-033 : alike (played numbers-033 names-033 []) ((1 ∷ []) ∷ []) ≡ true
-unfolding everything joined historyShown queueShown shown playedIf played alike
+unfolding everything joined historyShown queueShown pendingShown shown playedIf played alike
 example-033 = refl
 
 -- type 2
@@ -782,7 +783,7 @@ abbrev names-034 : List ℕ
 names-034 = joined (slotOf (115 ∷ []) ∷ slotOf (101 ∷ []) ∷ slotOf (42 ∷ []) ∷ [])
 
 example-034 : alike (played numbers-034 names-034 []) ((1 ∷ []) ∷ []) ≡ true
-unfolding everything joined historyShown queueShown shown playedIf played alike
+unfolding everything joined historyShown queueShown pendingShown shown playedIf played alike
 example-034 = refl
 
 -- targets past the references
@@ -794,7 +795,7 @@ abbrev names-035 : List ℕ
 names-035 = joined (slotOf (115 ∷ []) ∷ slotOf (101 ∷ []) ∷ slotOf (42 ∷ []) ∷ [])
 
 example-035 : alike (played numbers-035 names-035 []) ((1 ∷ []) ∷ []) ≡ true
-unfolding everything joined historyShown queueShown shown playedIf played alike
+unfolding everything joined historyShown queueShown pendingShown shown playedIf played alike
 example-035 = refl
 
 -- transition block past the actions
@@ -806,7 +807,7 @@ abbrev names-036 : List ℕ
 names-036 = joined (slotOf (115 ∷ []) ∷ slotOf (101 ∷ []) ∷ slotOf (42 ∷ []) ∷ [])
 
 example-036 : alike (played numbers-036 names-036 []) ((1 ∷ []) ∷ []) ≡ true
-unfolding everything joined historyShown queueShown shown playedIf played alike
+unfolding everything joined historyShown queueShown pendingShown shown playedIf played alike
 example-036 = refl
 
 -- reference past the rows
@@ -818,7 +819,7 @@ abbrev names-037 : List ℕ
 names-037 = joined (slotOf (115 ∷ []) ∷ slotOf (101 ∷ []) ∷ slotOf (42 ∷ []) ∷ [])
 
 example-037 : alike (played numbers-037 names-037 []) ((1 ∷ []) ∷ []) ≡ true
-unfolding everything joined historyShown queueShown shown playedIf played alike
+unfolding everything joined historyShown queueShown pendingShown shown playedIf played alike
 example-037 = refl
 
 -- unused reference past the rows
@@ -830,7 +831,7 @@ abbrev names-038 : List ℕ
 names-038 = joined (slotOf (115 ∷ []) ∷ slotOf (101 ∷ []) ∷ slotOf (42 ∷ []) ∷ [])
 
 example-038 : alike (played numbers-038 names-038 []) ((1 ∷ []) ∷ []) ≡ true
-unfolding everything joined historyShown queueShown shown playedIf played alike
+unfolding everything joined historyShown queueShown pendingShown shown playedIf played alike
 example-038 = refl
 
 -- unused reference none
@@ -842,7 +843,7 @@ abbrev names-039 : List ℕ
 names-039 = joined (slotOf (115 ∷ []) ∷ slotOf (101 ∷ []) ∷ slotOf (42 ∷ []) ∷ [])
 
 example-039 : alike (played numbers-039 names-039 []) ((1 ∷ []) ∷ []) ≡ true
-unfolding everything joined historyShown queueShown shown playedIf played alike
+unfolding everything joined historyShown queueShown pendingShown shown playedIf played alike
 example-039 = refl
 
 -- descriptor past the slots
@@ -854,7 +855,7 @@ abbrev names-040 : List ℕ
 names-040 = joined (slotOf (115 ∷ []) ∷ slotOf (101 ∷ []) ∷ slotOf (42 ∷ []) ∷ [])
 
 example-040 : alike (played numbers-040 names-040 []) ((1 ∷ []) ∷ []) ≡ true
-unfolding everything joined historyShown queueShown shown playedIf played alike
+unfolding everything joined historyShown queueShown pendingShown shown playedIf played alike
 example-040 = refl
 
 -- unused descriptor past the slots
@@ -866,634 +867,642 @@ abbrev names-041 : List ℕ
 names-041 = joined (slotOf (115 ∷ []) ∷ slotOf (101 ∷ []) ∷ slotOf (42 ∷ []) ∷ [])
 
 example-041 : alike (played numbers-041 names-041 []) ((1 ∷ []) ∷ []) ≡ true
-unfolding everything joined historyShown queueShown shown playedIf played alike
+unfolding everything joined historyShown queueShown pendingShown shown playedIf played alike
 example-041 = refl
 
--- action 6
+-- unused raise past the slots
 abbrev numbers-042 : List ℕ
-numbers-042 = 2 ∷ 1 ∷ 1 ∷ 2 ∷ 2 ∷ 3 ∷ 0 ∷ 65535 ∷ 65535 ∷ 0 ∷ 0 ∷ 0 ∷ 0 ∷ 0 ∷ 0 ∷ 0 ∷ 0 ∷ 1 ∷ 0 ∷ 0 ∷ 0 ∷ 0 ∷ 0 ∷ 0 ∷
-    0 ∷ 0 ∷ 0 ∷ 0 ∷ 1 ∷ 0 ∷ 2 ∷ 65535 ∷ 0 ∷ 0 ∷ 1 ∷ 0 ∷ 2 ∷ 1 ∷ 1 ∷ 2 ∷ 0 ∷ 1 ∷ 0 ∷ 0 ∷ 6 ∷ 1 ∷ 0 ∷ 0 ∷ []
+numbers-042 = 2 ∷ 1 ∷ 1 ∷ 2 ∷ 3 ∷ 3 ∷ 0 ∷ 65535 ∷ 65535 ∷ 0 ∷ 0 ∷ 0 ∷ 0 ∷ 0 ∷ 0 ∷ 0 ∷ 0 ∷ 1 ∷ 0 ∷ 0 ∷ 0 ∷ 0 ∷ 0 ∷ 0 ∷
+    0 ∷ 0 ∷ 0 ∷ 0 ∷ 1 ∷ 0 ∷ 2 ∷ 65535 ∷ 0 ∷ 0 ∷ 1 ∷ 0 ∷ 2 ∷ 1 ∷ 1 ∷ 2 ∷ 0 ∷ 1 ∷ 0 ∷ 0 ∷ 1 ∷ 1 ∷ 0 ∷ 0 ∷ 0 ∷ 3 ∷ 0 ∷ 0 ∷
+    []
 
 abbrev names-042 : List ℕ
 names-042 = joined (slotOf (115 ∷ []) ∷ slotOf (101 ∷ []) ∷ slotOf (42 ∷ []) ∷ [])
 
 example-042 : alike (played numbers-042 names-042 []) ((1 ∷ []) ∷ []) ≡ true
-unfolding everything joined historyShown queueShown shown playedIf played alike
+unfolding everything joined historyShown queueShown pendingShown shown playedIf played alike
 example-042 = refl
 
--- unused raise past the slots
+-- unused host action 65,536
 abbrev numbers-043 : List ℕ
 numbers-043 = 2 ∷ 1 ∷ 1 ∷ 2 ∷ 3 ∷ 3 ∷ 0 ∷ 65535 ∷ 65535 ∷ 0 ∷ 0 ∷ 0 ∷ 0 ∷ 0 ∷ 0 ∷ 0 ∷ 0 ∷ 1 ∷ 0 ∷ 0 ∷ 0 ∷ 0 ∷ 0 ∷ 0 ∷
-    0 ∷ 0 ∷ 0 ∷ 0 ∷ 1 ∷ 0 ∷ 2 ∷ 65535 ∷ 0 ∷ 0 ∷ 1 ∷ 0 ∷ 2 ∷ 1 ∷ 1 ∷ 2 ∷ 0 ∷ 1 ∷ 0 ∷ 0 ∷ 1 ∷ 1 ∷ 0 ∷ 0 ∷ 0 ∷ 3 ∷ 0 ∷ 0 ∷
-    []
+    0 ∷ 0 ∷ 0 ∷ 0 ∷ 1 ∷ 0 ∷ 2 ∷ 65535 ∷ 0 ∷ 0 ∷ 1 ∷ 0 ∷ 2 ∷ 1 ∷ 1 ∷ 2 ∷ 0 ∷ 1 ∷ 0 ∷ 0 ∷ 1 ∷ 1 ∷ 0 ∷ 0 ∷ 1 ∷ 65536 ∷ 0 ∷
+    0 ∷ []
 
 abbrev names-043 : List ℕ
 names-043 = joined (slotOf (115 ∷ []) ∷ slotOf (101 ∷ []) ∷ slotOf (42 ∷ []) ∷ [])
 
 example-043 : alike (played numbers-043 names-043 []) ((1 ∷ []) ∷ []) ≡ true
-unfolding everything joined historyShown queueShown shown playedIf played alike
+unfolding everything joined historyShown queueShown pendingShown shown playedIf played alike
 example-043 = refl
 
--- unused host action 65,536
+-- action argument past all
 abbrev numbers-044 : List ℕ
-numbers-044 = 2 ∷ 1 ∷ 1 ∷ 2 ∷ 3 ∷ 3 ∷ 0 ∷ 65535 ∷ 65535 ∷ 0 ∷ 0 ∷ 0 ∷ 0 ∷ 0 ∷ 0 ∷ 0 ∷ 0 ∷ 1 ∷ 0 ∷ 0 ∷ 0 ∷ 0 ∷ 0 ∷ 0 ∷
-    0 ∷ 0 ∷ 0 ∷ 0 ∷ 1 ∷ 0 ∷ 2 ∷ 65535 ∷ 0 ∷ 0 ∷ 1 ∷ 0 ∷ 2 ∷ 1 ∷ 1 ∷ 2 ∷ 0 ∷ 1 ∷ 0 ∷ 0 ∷ 1 ∷ 1 ∷ 0 ∷ 0 ∷ 1 ∷ 65536 ∷ 0 ∷
-    0 ∷ []
+numbers-044 = 2 ∷ 1 ∷ 1 ∷ 2 ∷ 2 ∷ 3 ∷ 0 ∷ 65535 ∷ 65535 ∷ 0 ∷ 0 ∷ 0 ∷ 0 ∷ 0 ∷ 0 ∷ 0 ∷ 0 ∷ 1 ∷ 0 ∷ 0 ∷ 0 ∷ 0 ∷ 0 ∷ 0 ∷
+    0 ∷ 0 ∷ 0 ∷ 0 ∷ 1 ∷ 0 ∷ 2 ∷ 65535 ∷ 0 ∷ 0 ∷ 1 ∷ 0 ∷ 2 ∷ 1 ∷ 1 ∷ 2 ∷ 0 ∷ 1 ∷ 0 ∷ 0 ∷ 1 ∷ 65536 ∷ 0 ∷ 0 ∷ []
 
 abbrev names-044 : List ℕ
 names-044 = joined (slotOf (115 ∷ []) ∷ slotOf (101 ∷ []) ∷ slotOf (42 ∷ []) ∷ [])
 
 example-044 : alike (played numbers-044 names-044 []) ((1 ∷ []) ∷ []) ≡ true
-unfolding everything joined historyShown queueShown shown playedIf played alike
+unfolding everything joined historyShown queueShown pendingShown shown playedIf played alike
 example-044 = refl
 
--- action argument past all
+-- slot with no text
 abbrev numbers-045 : List ℕ
-numbers-045 = 2 ∷ 1 ∷ 1 ∷ 2 ∷ 2 ∷ 3 ∷ 0 ∷ 65535 ∷ 65535 ∷ 0 ∷ 0 ∷ 0 ∷ 0 ∷ 0 ∷ 0 ∷ 0 ∷ 0 ∷ 1 ∷ 0 ∷ 0 ∷ 0 ∷ 0 ∷ 0 ∷ 0 ∷
-    0 ∷ 0 ∷ 0 ∷ 0 ∷ 1 ∷ 0 ∷ 2 ∷ 65535 ∷ 0 ∷ 0 ∷ 1 ∷ 0 ∷ 2 ∷ 1 ∷ 1 ∷ 2 ∷ 0 ∷ 1 ∷ 0 ∷ 0 ∷ 1 ∷ 65536 ∷ 0 ∷ 0 ∷ []
+numbers-045 = 2 ∷ 1 ∷ 1 ∷ 2 ∷ 2 ∷ 4 ∷ 0 ∷ 65535 ∷ 65535 ∷ 0 ∷ 0 ∷ 0 ∷ 0 ∷ 0 ∷ 0 ∷ 0 ∷ 0 ∷ 1 ∷ 0 ∷ 0 ∷ 0 ∷ 0 ∷ 0 ∷ 0 ∷
+    0 ∷ 0 ∷ 0 ∷ 0 ∷ 1 ∷ 0 ∷ 2 ∷ 65535 ∷ 0 ∷ 0 ∷ 1 ∷ 0 ∷ 2 ∷ 1 ∷ 1 ∷ 2 ∷ 0 ∷ 1 ∷ 0 ∷ 0 ∷ 1 ∷ 1 ∷ 0 ∷ 0 ∷ []
 
 abbrev names-045 : List ℕ
-names-045 = joined (slotOf (115 ∷ []) ∷ slotOf (101 ∷ []) ∷ slotOf (42 ∷ []) ∷ [])
+names-045 = joined (slotOf (115 ∷ []) ∷ slotOf (101 ∷ []) ∷ slotOf (42 ∷ []) ∷ (0 ∷ 0 ∷ 0 ∷ 0 ∷ 0 ∷ 0 ∷ 0 ∷ 0 ∷ 0 ∷ 0 ∷
+    0 ∷ 0 ∷ 0 ∷ 0 ∷ 0 ∷ 0 ∷ 0 ∷ 0 ∷ 0 ∷ 0 ∷ 0 ∷ 0 ∷ 0 ∷ 0 ∷ 0 ∷ 0 ∷ 0 ∷ 0 ∷ 0 ∷ 0 ∷ 0 ∷ 0 ∷ 0 ∷ 0 ∷ 0 ∷ 0 ∷ 0 ∷ 0 ∷ 0 ∷
+    0 ∷ 0 ∷ 0 ∷ 0 ∷ 0 ∷ 0 ∷ 0 ∷ 0 ∷ 0 ∷ 0 ∷ 0 ∷ 0 ∷ 0 ∷ 0 ∷ 0 ∷ 0 ∷ 0 ∷ 0 ∷ 0 ∷ 0 ∷ 0 ∷ 0 ∷ 0 ∷ 0 ∷ 0 ∷ []) ∷ [])
 
-example-045 : alike (played numbers-045 names-045 []) ((1 ∷ []) ∷ []) ≡ true
-unfolding everything joined historyShown queueShown shown playedIf played alike
+example-045 : alike (played numbers-045 names-045 []) ((2 ∷ []) ∷ []) ≡ true
+unfolding everything joined historyShown queueShown pendingShown shown playedIf played alike
 example-045 = refl
 
--- delay 1
+-- slot without a zero
 abbrev numbers-046 : List ℕ
-numbers-046 = 2 ∷ 1 ∷ 1 ∷ 2 ∷ 2 ∷ 3 ∷ 0 ∷ 65535 ∷ 65535 ∷ 0 ∷ 0 ∷ 0 ∷ 0 ∷ 0 ∷ 0 ∷ 0 ∷ 0 ∷ 1 ∷ 0 ∷ 0 ∷ 0 ∷ 0 ∷ 0 ∷ 0 ∷
-    0 ∷ 0 ∷ 0 ∷ 0 ∷ 1 ∷ 0 ∷ 2 ∷ 65535 ∷ 0 ∷ 0 ∷ 1 ∷ 0 ∷ 2 ∷ 1 ∷ 1 ∷ 2 ∷ 0 ∷ 1 ∷ 0 ∷ 0 ∷ 1 ∷ 1 ∷ 1 ∷ 0 ∷ []
+numbers-046 = 2 ∷ 1 ∷ 1 ∷ 2 ∷ 2 ∷ 4 ∷ 0 ∷ 65535 ∷ 65535 ∷ 0 ∷ 0 ∷ 0 ∷ 0 ∷ 0 ∷ 0 ∷ 0 ∷ 0 ∷ 1 ∷ 0 ∷ 0 ∷ 0 ∷ 0 ∷ 0 ∷ 0 ∷
+    0 ∷ 0 ∷ 0 ∷ 0 ∷ 1 ∷ 0 ∷ 2 ∷ 65535 ∷ 0 ∷ 0 ∷ 1 ∷ 0 ∷ 2 ∷ 1 ∷ 1 ∷ 2 ∷ 0 ∷ 1 ∷ 0 ∷ 0 ∷ 1 ∷ 1 ∷ 0 ∷ 0 ∷ []
 
 abbrev names-046 : List ℕ
-names-046 = joined (slotOf (115 ∷ []) ∷ slotOf (101 ∷ []) ∷ slotOf (42 ∷ []) ∷ [])
+names-046 = joined (slotOf (115 ∷ []) ∷ slotOf (101 ∷ []) ∷ slotOf (42 ∷ []) ∷ (97 ∷ 97 ∷ 97 ∷ 97 ∷ 97 ∷ 97 ∷ 97 ∷ 97 ∷
+    97 ∷ 97 ∷ 97 ∷ 97 ∷ 97 ∷ 97 ∷ 97 ∷ 97 ∷ 97 ∷ 97 ∷ 97 ∷ 97 ∷ 97 ∷ 97 ∷ 97 ∷ 97 ∷ 97 ∷ 97 ∷ 97 ∷ 97 ∷ 97 ∷ 97 ∷ 97 ∷
+    97 ∷ 97 ∷ 97 ∷ 97 ∷ 97 ∷ 97 ∷ 97 ∷ 97 ∷ 97 ∷ 97 ∷ 97 ∷ 97 ∷ 97 ∷ 97 ∷ 97 ∷ 97 ∷ 97 ∷ 97 ∷ 97 ∷ 97 ∷ 97 ∷ 97 ∷ 97 ∷
+    97 ∷ 97 ∷ 97 ∷ 97 ∷ 97 ∷ 97 ∷ 97 ∷ 97 ∷ 97 ∷ 97 ∷ []) ∷ [])
 
-example-046 : alike (played numbers-046 names-046 []) ((1 ∷ []) ∷ []) ≡ true
-unfolding everything joined historyShown queueShown shown playedIf played alike
+example-046 : alike (played numbers-046 names-046 []) ((2 ∷ []) ∷ []) ≡ true
+unfolding everything joined historyShown queueShown pendingShown shown playedIf played alike
 example-046 = refl
 
--- send id 1
+-- descriptor of 64 bytes
 abbrev numbers-047 : List ℕ
-numbers-047 = 2 ∷ 1 ∷ 1 ∷ 2 ∷ 2 ∷ 3 ∷ 0 ∷ 65535 ∷ 65535 ∷ 0 ∷ 0 ∷ 0 ∷ 0 ∷ 0 ∷ 0 ∷ 0 ∷ 0 ∷ 1 ∷ 0 ∷ 0 ∷ 0 ∷ 0 ∷ 0 ∷ 0 ∷
-    0 ∷ 0 ∷ 0 ∷ 0 ∷ 1 ∷ 0 ∷ 2 ∷ 65535 ∷ 0 ∷ 0 ∷ 1 ∷ 0 ∷ 2 ∷ 1 ∷ 1 ∷ 2 ∷ 0 ∷ 1 ∷ 0 ∷ 0 ∷ 1 ∷ 1 ∷ 0 ∷ 1 ∷ []
+numbers-047 = 2 ∷ 1 ∷ 1 ∷ 2 ∷ 2 ∷ 4 ∷ 0 ∷ 65535 ∷ 65535 ∷ 0 ∷ 0 ∷ 0 ∷ 0 ∷ 0 ∷ 0 ∷ 0 ∷ 0 ∷ 1 ∷ 0 ∷ 0 ∷ 0 ∷ 0 ∷ 0 ∷ 0 ∷
+    0 ∷ 0 ∷ 0 ∷ 0 ∷ 1 ∷ 0 ∷ 2 ∷ 65535 ∷ 0 ∷ 0 ∷ 1 ∷ 0 ∷ 2 ∷ 1 ∷ 1 ∷ 2 ∷ 0 ∷ 1 ∷ 0 ∷ 0 ∷ 1 ∷ 1 ∷ 0 ∷ 0 ∷ []
 
 abbrev names-047 : List ℕ
-names-047 = joined (slotOf (115 ∷ []) ∷ slotOf (101 ∷ []) ∷ slotOf (42 ∷ []) ∷ [])
+names-047 = joined (slotOf (115 ∷ []) ∷ slotOf (101 ∷ []) ∷ slotOf (42 ∷ []) ∷ (97 ∷ 97 ∷ 97 ∷ 97 ∷ 97 ∷ 97 ∷ 97 ∷ 97 ∷
+    97 ∷ 97 ∷ 97 ∷ 97 ∷ 97 ∷ 97 ∷ 97 ∷ 97 ∷ 97 ∷ 97 ∷ 97 ∷ 97 ∷ 97 ∷ 97 ∷ 97 ∷ 97 ∷ 97 ∷ 97 ∷ 97 ∷ 97 ∷ 97 ∷ 97 ∷ 97 ∷
+    97 ∷ 97 ∷ 97 ∷ 97 ∷ 97 ∷ 97 ∷ 97 ∷ 97 ∷ 97 ∷ 97 ∷ 97 ∷ 97 ∷ 97 ∷ 97 ∷ 97 ∷ 97 ∷ 97 ∷ 97 ∷ 97 ∷ 97 ∷ 97 ∷ 97 ∷ 97 ∷
+    97 ∷ 97 ∷ 97 ∷ 97 ∷ 97 ∷ 97 ∷ 97 ∷ 97 ∷ 46 ∷ 42 ∷ []) ∷ [])
 
-example-047 : alike (played numbers-047 names-047 []) ((1 ∷ []) ∷ []) ≡ true
-unfolding everything joined historyShown queueShown shown playedIf played alike
+example-047 : alike (played numbers-047 names-047 []) ((2 ∷ []) ∷ []) ≡ true
+unfolding everything joined historyShown queueShown pendingShown shown playedIf played alike
 example-047 = refl
 
--- send id none
+-- slot with text behind a zero
 abbrev numbers-048 : List ℕ
-numbers-048 = 2 ∷ 1 ∷ 1 ∷ 2 ∷ 2 ∷ 3 ∷ 0 ∷ 65535 ∷ 65535 ∷ 0 ∷ 0 ∷ 0 ∷ 0 ∷ 0 ∷ 0 ∷ 0 ∷ 0 ∷ 1 ∷ 0 ∷ 0 ∷ 0 ∷ 0 ∷ 0 ∷ 0 ∷
-    0 ∷ 0 ∷ 0 ∷ 0 ∷ 1 ∷ 0 ∷ 2 ∷ 65535 ∷ 0 ∷ 0 ∷ 1 ∷ 0 ∷ 2 ∷ 1 ∷ 1 ∷ 2 ∷ 0 ∷ 1 ∷ 0 ∷ 0 ∷ 1 ∷ 1 ∷ 0 ∷ 65535 ∷ []
+numbers-048 = 2 ∷ 1 ∷ 1 ∷ 2 ∷ 2 ∷ 4 ∷ 0 ∷ 65535 ∷ 65535 ∷ 0 ∷ 0 ∷ 0 ∷ 0 ∷ 0 ∷ 0 ∷ 0 ∷ 0 ∷ 1 ∷ 0 ∷ 0 ∷ 0 ∷ 0 ∷ 0 ∷ 0 ∷
+    0 ∷ 0 ∷ 0 ∷ 0 ∷ 1 ∷ 0 ∷ 2 ∷ 65535 ∷ 0 ∷ 0 ∷ 1 ∷ 0 ∷ 2 ∷ 1 ∷ 1 ∷ 2 ∷ 0 ∷ 1 ∷ 0 ∷ 0 ∷ 1 ∷ 1 ∷ 0 ∷ 0 ∷ []
 
 abbrev names-048 : List ℕ
-names-048 = joined (slotOf (115 ∷ []) ∷ slotOf (101 ∷ []) ∷ slotOf (42 ∷ []) ∷ [])
+names-048 = joined (slotOf (115 ∷ []) ∷ slotOf (101 ∷ []) ∷ slotOf (42 ∷ []) ∷ (103 ∷ 111 ∷ 111 ∷ 100 ∷ 0 ∷ 0 ∷ 0 ∷ 0 ∷
+    0 ∷ 0 ∷ 0 ∷ 0 ∷ 0 ∷ 0 ∷ 0 ∷ 0 ∷ 0 ∷ 0 ∷ 0 ∷ 0 ∷ 0 ∷ 0 ∷ 0 ∷ 0 ∷ 0 ∷ 0 ∷ 0 ∷ 0 ∷ 0 ∷ 0 ∷ 0 ∷ 0 ∷ 0 ∷ 0 ∷ 0 ∷ 0 ∷ 0 ∷
+    0 ∷ 0 ∷ 0 ∷ 0 ∷ 0 ∷ 0 ∷ 0 ∷ 0 ∷ 0 ∷ 0 ∷ 0 ∷ 0 ∷ 0 ∷ 0 ∷ 0 ∷ 0 ∷ 0 ∷ 0 ∷ 0 ∷ 0 ∷ 0 ∷ 0 ∷ 0 ∷ 0 ∷ 0 ∷ 0 ∷ 120 ∷ []) ∷
+    [])
 
-example-048 : alike (played numbers-048 names-048 []) ((1 ∷ []) ∷ []) ≡ true
-unfolding everything joined historyShown queueShown shown playedIf played alike
+example-048 : alike (played numbers-048 names-048 []) ((2 ∷ []) ∷ []) ≡ true
+unfolding everything joined historyShown queueShown pendingShown shown playedIf played alike
 example-048 = refl
 
--- slot with no text
+-- slot that begins with a zero
 abbrev numbers-049 : List ℕ
 numbers-049 = 2 ∷ 1 ∷ 1 ∷ 2 ∷ 2 ∷ 4 ∷ 0 ∷ 65535 ∷ 65535 ∷ 0 ∷ 0 ∷ 0 ∷ 0 ∷ 0 ∷ 0 ∷ 0 ∷ 0 ∷ 1 ∷ 0 ∷ 0 ∷ 0 ∷ 0 ∷ 0 ∷ 0 ∷
     0 ∷ 0 ∷ 0 ∷ 0 ∷ 1 ∷ 0 ∷ 2 ∷ 65535 ∷ 0 ∷ 0 ∷ 1 ∷ 0 ∷ 2 ∷ 1 ∷ 1 ∷ 2 ∷ 0 ∷ 1 ∷ 0 ∷ 0 ∷ 1 ∷ 1 ∷ 0 ∷ 0 ∷ []
 
 abbrev names-049 : List ℕ
-names-049 = joined (slotOf (115 ∷ []) ∷ slotOf (101 ∷ []) ∷ slotOf (42 ∷ []) ∷ (0 ∷ 0 ∷ 0 ∷ 0 ∷ 0 ∷ 0 ∷ 0 ∷ 0 ∷ 0 ∷ 0 ∷
+names-049 = joined (slotOf (115 ∷ []) ∷ slotOf (101 ∷ []) ∷ slotOf (42 ∷ []) ∷ (0 ∷ 120 ∷ 0 ∷ 0 ∷ 0 ∷ 0 ∷ 0 ∷ 0 ∷ 0 ∷
     0 ∷ 0 ∷ 0 ∷ 0 ∷ 0 ∷ 0 ∷ 0 ∷ 0 ∷ 0 ∷ 0 ∷ 0 ∷ 0 ∷ 0 ∷ 0 ∷ 0 ∷ 0 ∷ 0 ∷ 0 ∷ 0 ∷ 0 ∷ 0 ∷ 0 ∷ 0 ∷ 0 ∷ 0 ∷ 0 ∷ 0 ∷ 0 ∷ 0 ∷
-    0 ∷ 0 ∷ 0 ∷ 0 ∷ 0 ∷ 0 ∷ 0 ∷ 0 ∷ 0 ∷ 0 ∷ 0 ∷ 0 ∷ 0 ∷ 0 ∷ 0 ∷ 0 ∷ 0 ∷ 0 ∷ 0 ∷ 0 ∷ 0 ∷ 0 ∷ 0 ∷ 0 ∷ 0 ∷ []) ∷ [])
+    0 ∷ 0 ∷ 0 ∷ 0 ∷ 0 ∷ 0 ∷ 0 ∷ 0 ∷ 0 ∷ 0 ∷ 0 ∷ 0 ∷ 0 ∷ 0 ∷ 0 ∷ 0 ∷ 0 ∷ 0 ∷ 0 ∷ 0 ∷ 0 ∷ 0 ∷ 0 ∷ 0 ∷ 0 ∷ 0 ∷ []) ∷ [])
 
 example-049 : alike (played numbers-049 names-049 []) ((2 ∷ []) ∷ []) ≡ true
-unfolding everything joined historyShown queueShown shown playedIf played alike
+unfolding everything joined historyShown queueShown pendingShown shown playedIf played alike
 example-049 = refl
 
--- slot without a zero
+-- used slot spoilt
 abbrev numbers-050 : List ℕ
-numbers-050 = 2 ∷ 1 ∷ 1 ∷ 2 ∷ 2 ∷ 4 ∷ 0 ∷ 65535 ∷ 65535 ∷ 0 ∷ 0 ∷ 0 ∷ 0 ∷ 0 ∷ 0 ∷ 0 ∷ 0 ∷ 1 ∷ 0 ∷ 0 ∷ 0 ∷ 0 ∷ 0 ∷ 0 ∷
+numbers-050 = 2 ∷ 1 ∷ 1 ∷ 2 ∷ 2 ∷ 3 ∷ 0 ∷ 65535 ∷ 65535 ∷ 0 ∷ 0 ∷ 0 ∷ 0 ∷ 0 ∷ 0 ∷ 0 ∷ 0 ∷ 1 ∷ 0 ∷ 0 ∷ 0 ∷ 0 ∷ 0 ∷ 0 ∷
     0 ∷ 0 ∷ 0 ∷ 0 ∷ 1 ∷ 0 ∷ 2 ∷ 65535 ∷ 0 ∷ 0 ∷ 1 ∷ 0 ∷ 2 ∷ 1 ∷ 1 ∷ 2 ∷ 0 ∷ 1 ∷ 0 ∷ 0 ∷ 1 ∷ 1 ∷ 0 ∷ 0 ∷ []
 
 abbrev names-050 : List ℕ
-names-050 = joined (slotOf (115 ∷ []) ∷ slotOf (101 ∷ []) ∷ slotOf (42 ∷ []) ∷ (97 ∷ 97 ∷ 97 ∷ 97 ∷ 97 ∷ 97 ∷ 97 ∷ 97 ∷
-    97 ∷ 97 ∷ 97 ∷ 97 ∷ 97 ∷ 97 ∷ 97 ∷ 97 ∷ 97 ∷ 97 ∷ 97 ∷ 97 ∷ 97 ∷ 97 ∷ 97 ∷ 97 ∷ 97 ∷ 97 ∷ 97 ∷ 97 ∷ 97 ∷ 97 ∷ 97 ∷
-    97 ∷ 97 ∷ 97 ∷ 97 ∷ 97 ∷ 97 ∷ 97 ∷ 97 ∷ 97 ∷ 97 ∷ 97 ∷ 97 ∷ 97 ∷ 97 ∷ 97 ∷ 97 ∷ 97 ∷ 97 ∷ 97 ∷ 97 ∷ 97 ∷ 97 ∷ 97 ∷
-    97 ∷ 97 ∷ 97 ∷ 97 ∷ 97 ∷ 97 ∷ 97 ∷ 97 ∷ 97 ∷ 97 ∷ []) ∷ [])
+names-050 = joined (slotOf (115 ∷ []) ∷ slotOf (101 ∷ []) ∷ (32 ∷ 0 ∷ 0 ∷ 0 ∷ 0 ∷ 0 ∷ 0 ∷ 0 ∷ 0 ∷ 0 ∷ 0 ∷ 0 ∷ 0 ∷ 0 ∷
+    0 ∷ 0 ∷ 0 ∷ 0 ∷ 0 ∷ 0 ∷ 0 ∷ 0 ∷ 0 ∷ 0 ∷ 0 ∷ 0 ∷ 0 ∷ 0 ∷ 0 ∷ 0 ∷ 0 ∷ 0 ∷ 0 ∷ 0 ∷ 0 ∷ 0 ∷ 0 ∷ 0 ∷ 0 ∷ 0 ∷ 0 ∷ 0 ∷ 0 ∷
+    0 ∷ 0 ∷ 0 ∷ 0 ∷ 0 ∷ 0 ∷ 0 ∷ 0 ∷ 0 ∷ 0 ∷ 0 ∷ 0 ∷ 0 ∷ 0 ∷ 0 ∷ 0 ∷ 0 ∷ 0 ∷ 0 ∷ 0 ∷ 0 ∷ []) ∷ [])
 
 example-050 : alike (played numbers-050 names-050 []) ((2 ∷ []) ∷ []) ≡ true
-unfolding everything joined historyShown queueShown shown playedIf played alike
+unfolding everything joined historyShown queueShown pendingShown shown playedIf played alike
 example-050 = refl
 
--- descriptor of 64 bytes
+-- name with a blank
 abbrev numbers-051 : List ℕ
 numbers-051 = 2 ∷ 1 ∷ 1 ∷ 2 ∷ 2 ∷ 4 ∷ 0 ∷ 65535 ∷ 65535 ∷ 0 ∷ 0 ∷ 0 ∷ 0 ∷ 0 ∷ 0 ∷ 0 ∷ 0 ∷ 1 ∷ 0 ∷ 0 ∷ 0 ∷ 0 ∷ 0 ∷ 0 ∷
     0 ∷ 0 ∷ 0 ∷ 0 ∷ 1 ∷ 0 ∷ 2 ∷ 65535 ∷ 0 ∷ 0 ∷ 1 ∷ 0 ∷ 2 ∷ 1 ∷ 1 ∷ 2 ∷ 0 ∷ 1 ∷ 0 ∷ 0 ∷ 1 ∷ 1 ∷ 0 ∷ 0 ∷ []
 
 abbrev names-051 : List ℕ
-names-051 = joined (slotOf (115 ∷ []) ∷ slotOf (101 ∷ []) ∷ slotOf (42 ∷ []) ∷ (97 ∷ 97 ∷ 97 ∷ 97 ∷ 97 ∷ 97 ∷ 97 ∷ 97 ∷
-    97 ∷ 97 ∷ 97 ∷ 97 ∷ 97 ∷ 97 ∷ 97 ∷ 97 ∷ 97 ∷ 97 ∷ 97 ∷ 97 ∷ 97 ∷ 97 ∷ 97 ∷ 97 ∷ 97 ∷ 97 ∷ 97 ∷ 97 ∷ 97 ∷ 97 ∷ 97 ∷
-    97 ∷ 97 ∷ 97 ∷ 97 ∷ 97 ∷ 97 ∷ 97 ∷ 97 ∷ 97 ∷ 97 ∷ 97 ∷ 97 ∷ 97 ∷ 97 ∷ 97 ∷ 97 ∷ 97 ∷ 97 ∷ 97 ∷ 97 ∷ 97 ∷ 97 ∷ 97 ∷
-    97 ∷ 97 ∷ 97 ∷ 97 ∷ 97 ∷ 97 ∷ 97 ∷ 97 ∷ 46 ∷ 42 ∷ []) ∷ [])
+names-051 = joined (slotOf (115 ∷ []) ∷ slotOf (101 ∷ []) ∷ slotOf (42 ∷ []) ∷ (97 ∷ 32 ∷ 98 ∷ 0 ∷ 0 ∷ 0 ∷ 0 ∷ 0 ∷ 0 ∷
+    0 ∷ 0 ∷ 0 ∷ 0 ∷ 0 ∷ 0 ∷ 0 ∷ 0 ∷ 0 ∷ 0 ∷ 0 ∷ 0 ∷ 0 ∷ 0 ∷ 0 ∷ 0 ∷ 0 ∷ 0 ∷ 0 ∷ 0 ∷ 0 ∷ 0 ∷ 0 ∷ 0 ∷ 0 ∷ 0 ∷ 0 ∷ 0 ∷ 0 ∷
+    0 ∷ 0 ∷ 0 ∷ 0 ∷ 0 ∷ 0 ∷ 0 ∷ 0 ∷ 0 ∷ 0 ∷ 0 ∷ 0 ∷ 0 ∷ 0 ∷ 0 ∷ 0 ∷ 0 ∷ 0 ∷ 0 ∷ 0 ∷ 0 ∷ 0 ∷ 0 ∷ 0 ∷ 0 ∷ 0 ∷ []) ∷ [])
 
 example-051 : alike (played numbers-051 names-051 []) ((2 ∷ []) ∷ []) ≡ true
-unfolding everything joined historyShown queueShown shown playedIf played alike
+unfolding everything joined historyShown queueShown pendingShown shown playedIf played alike
 example-051 = refl
 
--- slot with text behind a zero
+-- name with byte 128
 abbrev numbers-052 : List ℕ
 numbers-052 = 2 ∷ 1 ∷ 1 ∷ 2 ∷ 2 ∷ 4 ∷ 0 ∷ 65535 ∷ 65535 ∷ 0 ∷ 0 ∷ 0 ∷ 0 ∷ 0 ∷ 0 ∷ 0 ∷ 0 ∷ 1 ∷ 0 ∷ 0 ∷ 0 ∷ 0 ∷ 0 ∷ 0 ∷
     0 ∷ 0 ∷ 0 ∷ 0 ∷ 1 ∷ 0 ∷ 2 ∷ 65535 ∷ 0 ∷ 0 ∷ 1 ∷ 0 ∷ 2 ∷ 1 ∷ 1 ∷ 2 ∷ 0 ∷ 1 ∷ 0 ∷ 0 ∷ 1 ∷ 1 ∷ 0 ∷ 0 ∷ []
 
 abbrev names-052 : List ℕ
-names-052 = joined (slotOf (115 ∷ []) ∷ slotOf (101 ∷ []) ∷ slotOf (42 ∷ []) ∷ (103 ∷ 111 ∷ 111 ∷ 100 ∷ 0 ∷ 0 ∷ 0 ∷ 0 ∷
+names-052 = joined (slotOf (115 ∷ []) ∷ slotOf (101 ∷ []) ∷ slotOf (42 ∷ []) ∷ (97 ∷ 128 ∷ 0 ∷ 0 ∷ 0 ∷ 0 ∷ 0 ∷ 0 ∷ 0 ∷
     0 ∷ 0 ∷ 0 ∷ 0 ∷ 0 ∷ 0 ∷ 0 ∷ 0 ∷ 0 ∷ 0 ∷ 0 ∷ 0 ∷ 0 ∷ 0 ∷ 0 ∷ 0 ∷ 0 ∷ 0 ∷ 0 ∷ 0 ∷ 0 ∷ 0 ∷ 0 ∷ 0 ∷ 0 ∷ 0 ∷ 0 ∷ 0 ∷ 0 ∷
-    0 ∷ 0 ∷ 0 ∷ 0 ∷ 0 ∷ 0 ∷ 0 ∷ 0 ∷ 0 ∷ 0 ∷ 0 ∷ 0 ∷ 0 ∷ 0 ∷ 0 ∷ 0 ∷ 0 ∷ 0 ∷ 0 ∷ 0 ∷ 0 ∷ 0 ∷ 0 ∷ 0 ∷ 0 ∷ 0 ∷ 120 ∷ []) ∷
-    [])
+    0 ∷ 0 ∷ 0 ∷ 0 ∷ 0 ∷ 0 ∷ 0 ∷ 0 ∷ 0 ∷ 0 ∷ 0 ∷ 0 ∷ 0 ∷ 0 ∷ 0 ∷ 0 ∷ 0 ∷ 0 ∷ 0 ∷ 0 ∷ 0 ∷ 0 ∷ 0 ∷ 0 ∷ 0 ∷ 0 ∷ []) ∷ [])
 
 example-052 : alike (played numbers-052 names-052 []) ((2 ∷ []) ∷ []) ≡ true
-unfolding everything joined historyShown queueShown shown playedIf played alike
+unfolding everything joined historyShown queueShown pendingShown shown playedIf played alike
 example-052 = refl
 
--- slot that begins with a zero
+-- name with a slash
 abbrev numbers-053 : List ℕ
 numbers-053 = 2 ∷ 1 ∷ 1 ∷ 2 ∷ 2 ∷ 4 ∷ 0 ∷ 65535 ∷ 65535 ∷ 0 ∷ 0 ∷ 0 ∷ 0 ∷ 0 ∷ 0 ∷ 0 ∷ 0 ∷ 1 ∷ 0 ∷ 0 ∷ 0 ∷ 0 ∷ 0 ∷ 0 ∷
     0 ∷ 0 ∷ 0 ∷ 0 ∷ 1 ∷ 0 ∷ 2 ∷ 65535 ∷ 0 ∷ 0 ∷ 1 ∷ 0 ∷ 2 ∷ 1 ∷ 1 ∷ 2 ∷ 0 ∷ 1 ∷ 0 ∷ 0 ∷ 1 ∷ 1 ∷ 0 ∷ 0 ∷ []
 
 abbrev names-053 : List ℕ
-names-053 = joined (slotOf (115 ∷ []) ∷ slotOf (101 ∷ []) ∷ slotOf (42 ∷ []) ∷ (0 ∷ 120 ∷ 0 ∷ 0 ∷ 0 ∷ 0 ∷ 0 ∷ 0 ∷ 0 ∷
+names-053 = joined (slotOf (115 ∷ []) ∷ slotOf (101 ∷ []) ∷ slotOf (42 ∷ []) ∷ (97 ∷ 47 ∷ 98 ∷ 0 ∷ 0 ∷ 0 ∷ 0 ∷ 0 ∷ 0 ∷
     0 ∷ 0 ∷ 0 ∷ 0 ∷ 0 ∷ 0 ∷ 0 ∷ 0 ∷ 0 ∷ 0 ∷ 0 ∷ 0 ∷ 0 ∷ 0 ∷ 0 ∷ 0 ∷ 0 ∷ 0 ∷ 0 ∷ 0 ∷ 0 ∷ 0 ∷ 0 ∷ 0 ∷ 0 ∷ 0 ∷ 0 ∷ 0 ∷ 0 ∷
     0 ∷ 0 ∷ 0 ∷ 0 ∷ 0 ∷ 0 ∷ 0 ∷ 0 ∷ 0 ∷ 0 ∷ 0 ∷ 0 ∷ 0 ∷ 0 ∷ 0 ∷ 0 ∷ 0 ∷ 0 ∷ 0 ∷ 0 ∷ 0 ∷ 0 ∷ 0 ∷ 0 ∷ 0 ∷ 0 ∷ []) ∷ [])
 
 example-053 : alike (played numbers-053 names-053 []) ((2 ∷ []) ∷ []) ≡ true
-unfolding everything joined historyShown queueShown shown playedIf played alike
+unfolding everything joined historyShown queueShown pendingShown shown playedIf played alike
 example-053 = refl
 
--- used slot spoilt
+-- name that begins with a dot
 abbrev numbers-054 : List ℕ
-numbers-054 = 2 ∷ 1 ∷ 1 ∷ 2 ∷ 2 ∷ 3 ∷ 0 ∷ 65535 ∷ 65535 ∷ 0 ∷ 0 ∷ 0 ∷ 0 ∷ 0 ∷ 0 ∷ 0 ∷ 0 ∷ 1 ∷ 0 ∷ 0 ∷ 0 ∷ 0 ∷ 0 ∷ 0 ∷
+numbers-054 = 2 ∷ 1 ∷ 1 ∷ 2 ∷ 2 ∷ 4 ∷ 0 ∷ 65535 ∷ 65535 ∷ 0 ∷ 0 ∷ 0 ∷ 0 ∷ 0 ∷ 0 ∷ 0 ∷ 0 ∷ 1 ∷ 0 ∷ 0 ∷ 0 ∷ 0 ∷ 0 ∷ 0 ∷
     0 ∷ 0 ∷ 0 ∷ 0 ∷ 1 ∷ 0 ∷ 2 ∷ 65535 ∷ 0 ∷ 0 ∷ 1 ∷ 0 ∷ 2 ∷ 1 ∷ 1 ∷ 2 ∷ 0 ∷ 1 ∷ 0 ∷ 0 ∷ 1 ∷ 1 ∷ 0 ∷ 0 ∷ []
 
 abbrev names-054 : List ℕ
-names-054 = joined (slotOf (115 ∷ []) ∷ slotOf (101 ∷ []) ∷ (32 ∷ 0 ∷ 0 ∷ 0 ∷ 0 ∷ 0 ∷ 0 ∷ 0 ∷ 0 ∷ 0 ∷ 0 ∷ 0 ∷ 0 ∷ 0 ∷
+names-054 = joined (slotOf (115 ∷ []) ∷ slotOf (101 ∷ []) ∷ slotOf (42 ∷ []) ∷ (46 ∷ 97 ∷ 0 ∷ 0 ∷ 0 ∷ 0 ∷ 0 ∷ 0 ∷ 0 ∷
     0 ∷ 0 ∷ 0 ∷ 0 ∷ 0 ∷ 0 ∷ 0 ∷ 0 ∷ 0 ∷ 0 ∷ 0 ∷ 0 ∷ 0 ∷ 0 ∷ 0 ∷ 0 ∷ 0 ∷ 0 ∷ 0 ∷ 0 ∷ 0 ∷ 0 ∷ 0 ∷ 0 ∷ 0 ∷ 0 ∷ 0 ∷ 0 ∷ 0 ∷
-    0 ∷ 0 ∷ 0 ∷ 0 ∷ 0 ∷ 0 ∷ 0 ∷ 0 ∷ 0 ∷ 0 ∷ 0 ∷ 0 ∷ 0 ∷ 0 ∷ 0 ∷ 0 ∷ 0 ∷ 0 ∷ 0 ∷ 0 ∷ 0 ∷ []) ∷ [])
+    0 ∷ 0 ∷ 0 ∷ 0 ∷ 0 ∷ 0 ∷ 0 ∷ 0 ∷ 0 ∷ 0 ∷ 0 ∷ 0 ∷ 0 ∷ 0 ∷ 0 ∷ 0 ∷ 0 ∷ 0 ∷ 0 ∷ 0 ∷ 0 ∷ 0 ∷ 0 ∷ 0 ∷ 0 ∷ 0 ∷ []) ∷ [])
 
 example-054 : alike (played numbers-054 names-054 []) ((2 ∷ []) ∷ []) ≡ true
-unfolding everything joined historyShown queueShown shown playedIf played alike
+unfolding everything joined historyShown queueShown pendingShown shown playedIf played alike
 example-054 = refl
 
--- name with a blank
+-- name that ends with a dot
 abbrev numbers-055 : List ℕ
 numbers-055 = 2 ∷ 1 ∷ 1 ∷ 2 ∷ 2 ∷ 4 ∷ 0 ∷ 65535 ∷ 65535 ∷ 0 ∷ 0 ∷ 0 ∷ 0 ∷ 0 ∷ 0 ∷ 0 ∷ 0 ∷ 1 ∷ 0 ∷ 0 ∷ 0 ∷ 0 ∷ 0 ∷ 0 ∷
     0 ∷ 0 ∷ 0 ∷ 0 ∷ 1 ∷ 0 ∷ 2 ∷ 65535 ∷ 0 ∷ 0 ∷ 1 ∷ 0 ∷ 2 ∷ 1 ∷ 1 ∷ 2 ∷ 0 ∷ 1 ∷ 0 ∷ 0 ∷ 1 ∷ 1 ∷ 0 ∷ 0 ∷ []
 
 abbrev names-055 : List ℕ
-names-055 = joined (slotOf (115 ∷ []) ∷ slotOf (101 ∷ []) ∷ slotOf (42 ∷ []) ∷ (97 ∷ 32 ∷ 98 ∷ 0 ∷ 0 ∷ 0 ∷ 0 ∷ 0 ∷ 0 ∷
+names-055 = joined (slotOf (115 ∷ []) ∷ slotOf (101 ∷ []) ∷ slotOf (42 ∷ []) ∷ (97 ∷ 46 ∷ 0 ∷ 0 ∷ 0 ∷ 0 ∷ 0 ∷ 0 ∷ 0 ∷
     0 ∷ 0 ∷ 0 ∷ 0 ∷ 0 ∷ 0 ∷ 0 ∷ 0 ∷ 0 ∷ 0 ∷ 0 ∷ 0 ∷ 0 ∷ 0 ∷ 0 ∷ 0 ∷ 0 ∷ 0 ∷ 0 ∷ 0 ∷ 0 ∷ 0 ∷ 0 ∷ 0 ∷ 0 ∷ 0 ∷ 0 ∷ 0 ∷ 0 ∷
     0 ∷ 0 ∷ 0 ∷ 0 ∷ 0 ∷ 0 ∷ 0 ∷ 0 ∷ 0 ∷ 0 ∷ 0 ∷ 0 ∷ 0 ∷ 0 ∷ 0 ∷ 0 ∷ 0 ∷ 0 ∷ 0 ∷ 0 ∷ 0 ∷ 0 ∷ 0 ∷ 0 ∷ 0 ∷ 0 ∷ []) ∷ [])
 
 example-055 : alike (played numbers-055 names-055 []) ((2 ∷ []) ∷ []) ≡ true
-unfolding everything joined historyShown queueShown shown playedIf played alike
+unfolding everything joined historyShown queueShown pendingShown shown playedIf played alike
 example-055 = refl
 
--- name with byte 128
+-- name with two dots
 abbrev numbers-056 : List ℕ
 numbers-056 = 2 ∷ 1 ∷ 1 ∷ 2 ∷ 2 ∷ 4 ∷ 0 ∷ 65535 ∷ 65535 ∷ 0 ∷ 0 ∷ 0 ∷ 0 ∷ 0 ∷ 0 ∷ 0 ∷ 0 ∷ 1 ∷ 0 ∷ 0 ∷ 0 ∷ 0 ∷ 0 ∷ 0 ∷
     0 ∷ 0 ∷ 0 ∷ 0 ∷ 1 ∷ 0 ∷ 2 ∷ 65535 ∷ 0 ∷ 0 ∷ 1 ∷ 0 ∷ 2 ∷ 1 ∷ 1 ∷ 2 ∷ 0 ∷ 1 ∷ 0 ∷ 0 ∷ 1 ∷ 1 ∷ 0 ∷ 0 ∷ []
 
 abbrev names-056 : List ℕ
-names-056 = joined (slotOf (115 ∷ []) ∷ slotOf (101 ∷ []) ∷ slotOf (42 ∷ []) ∷ (97 ∷ 128 ∷ 0 ∷ 0 ∷ 0 ∷ 0 ∷ 0 ∷ 0 ∷ 0 ∷
+names-056 = joined (slotOf (115 ∷ []) ∷ slotOf (101 ∷ []) ∷ slotOf (42 ∷ []) ∷ (97 ∷ 46 ∷ 46 ∷ 98 ∷ 0 ∷ 0 ∷ 0 ∷ 0 ∷ 0 ∷
     0 ∷ 0 ∷ 0 ∷ 0 ∷ 0 ∷ 0 ∷ 0 ∷ 0 ∷ 0 ∷ 0 ∷ 0 ∷ 0 ∷ 0 ∷ 0 ∷ 0 ∷ 0 ∷ 0 ∷ 0 ∷ 0 ∷ 0 ∷ 0 ∷ 0 ∷ 0 ∷ 0 ∷ 0 ∷ 0 ∷ 0 ∷ 0 ∷ 0 ∷
     0 ∷ 0 ∷ 0 ∷ 0 ∷ 0 ∷ 0 ∷ 0 ∷ 0 ∷ 0 ∷ 0 ∷ 0 ∷ 0 ∷ 0 ∷ 0 ∷ 0 ∷ 0 ∷ 0 ∷ 0 ∷ 0 ∷ 0 ∷ 0 ∷ 0 ∷ 0 ∷ 0 ∷ 0 ∷ 0 ∷ []) ∷ [])
 
 example-056 : alike (played numbers-056 names-056 []) ((2 ∷ []) ∷ []) ≡ true
-unfolding everything joined historyShown queueShown shown playedIf played alike
+unfolding everything joined historyShown queueShown pendingShown shown playedIf played alike
 example-056 = refl
 
--- name with a slash
+-- name of a dot
 abbrev numbers-057 : List ℕ
 numbers-057 = 2 ∷ 1 ∷ 1 ∷ 2 ∷ 2 ∷ 4 ∷ 0 ∷ 65535 ∷ 65535 ∷ 0 ∷ 0 ∷ 0 ∷ 0 ∷ 0 ∷ 0 ∷ 0 ∷ 0 ∷ 1 ∷ 0 ∷ 0 ∷ 0 ∷ 0 ∷ 0 ∷ 0 ∷
     0 ∷ 0 ∷ 0 ∷ 0 ∷ 1 ∷ 0 ∷ 2 ∷ 65535 ∷ 0 ∷ 0 ∷ 1 ∷ 0 ∷ 2 ∷ 1 ∷ 1 ∷ 2 ∷ 0 ∷ 1 ∷ 0 ∷ 0 ∷ 1 ∷ 1 ∷ 0 ∷ 0 ∷ []
 
 abbrev names-057 : List ℕ
-names-057 = joined (slotOf (115 ∷ []) ∷ slotOf (101 ∷ []) ∷ slotOf (42 ∷ []) ∷ (97 ∷ 47 ∷ 98 ∷ 0 ∷ 0 ∷ 0 ∷ 0 ∷ 0 ∷ 0 ∷
+names-057 = joined (slotOf (115 ∷ []) ∷ slotOf (101 ∷ []) ∷ slotOf (42 ∷ []) ∷ (46 ∷ 0 ∷ 0 ∷ 0 ∷ 0 ∷ 0 ∷ 0 ∷ 0 ∷ 0 ∷
     0 ∷ 0 ∷ 0 ∷ 0 ∷ 0 ∷ 0 ∷ 0 ∷ 0 ∷ 0 ∷ 0 ∷ 0 ∷ 0 ∷ 0 ∷ 0 ∷ 0 ∷ 0 ∷ 0 ∷ 0 ∷ 0 ∷ 0 ∷ 0 ∷ 0 ∷ 0 ∷ 0 ∷ 0 ∷ 0 ∷ 0 ∷ 0 ∷ 0 ∷
     0 ∷ 0 ∷ 0 ∷ 0 ∷ 0 ∷ 0 ∷ 0 ∷ 0 ∷ 0 ∷ 0 ∷ 0 ∷ 0 ∷ 0 ∷ 0 ∷ 0 ∷ 0 ∷ 0 ∷ 0 ∷ 0 ∷ 0 ∷ 0 ∷ 0 ∷ 0 ∷ 0 ∷ 0 ∷ 0 ∷ []) ∷ [])
 
 example-057 : alike (played numbers-057 names-057 []) ((2 ∷ []) ∷ []) ≡ true
-unfolding everything joined historyShown queueShown shown playedIf played alike
+unfolding everything joined historyShown queueShown pendingShown shown playedIf played alike
 example-057 = refl
 
--- name that begins with a dot
+-- star behind a name
 abbrev numbers-058 : List ℕ
 numbers-058 = 2 ∷ 1 ∷ 1 ∷ 2 ∷ 2 ∷ 4 ∷ 0 ∷ 65535 ∷ 65535 ∷ 0 ∷ 0 ∷ 0 ∷ 0 ∷ 0 ∷ 0 ∷ 0 ∷ 0 ∷ 1 ∷ 0 ∷ 0 ∷ 0 ∷ 0 ∷ 0 ∷ 0 ∷
     0 ∷ 0 ∷ 0 ∷ 0 ∷ 1 ∷ 0 ∷ 2 ∷ 65535 ∷ 0 ∷ 0 ∷ 1 ∷ 0 ∷ 2 ∷ 1 ∷ 1 ∷ 2 ∷ 0 ∷ 1 ∷ 0 ∷ 0 ∷ 1 ∷ 1 ∷ 0 ∷ 0 ∷ []
 
 abbrev names-058 : List ℕ
-names-058 = joined (slotOf (115 ∷ []) ∷ slotOf (101 ∷ []) ∷ slotOf (42 ∷ []) ∷ (46 ∷ 97 ∷ 0 ∷ 0 ∷ 0 ∷ 0 ∷ 0 ∷ 0 ∷ 0 ∷
+names-058 = joined (slotOf (115 ∷ []) ∷ slotOf (101 ∷ []) ∷ slotOf (42 ∷ []) ∷ (97 ∷ 42 ∷ 0 ∷ 0 ∷ 0 ∷ 0 ∷ 0 ∷ 0 ∷ 0 ∷
     0 ∷ 0 ∷ 0 ∷ 0 ∷ 0 ∷ 0 ∷ 0 ∷ 0 ∷ 0 ∷ 0 ∷ 0 ∷ 0 ∷ 0 ∷ 0 ∷ 0 ∷ 0 ∷ 0 ∷ 0 ∷ 0 ∷ 0 ∷ 0 ∷ 0 ∷ 0 ∷ 0 ∷ 0 ∷ 0 ∷ 0 ∷ 0 ∷ 0 ∷
     0 ∷ 0 ∷ 0 ∷ 0 ∷ 0 ∷ 0 ∷ 0 ∷ 0 ∷ 0 ∷ 0 ∷ 0 ∷ 0 ∷ 0 ∷ 0 ∷ 0 ∷ 0 ∷ 0 ∷ 0 ∷ 0 ∷ 0 ∷ 0 ∷ 0 ∷ 0 ∷ 0 ∷ 0 ∷ 0 ∷ []) ∷ [])
 
 example-058 : alike (played numbers-058 names-058 []) ((2 ∷ []) ∷ []) ≡ true
-unfolding everything joined historyShown queueShown shown playedIf played alike
+unfolding everything joined historyShown queueShown pendingShown shown playedIf played alike
 example-058 = refl
 
--- name that ends with a dot
+-- star before a name
 abbrev numbers-059 : List ℕ
 numbers-059 = 2 ∷ 1 ∷ 1 ∷ 2 ∷ 2 ∷ 4 ∷ 0 ∷ 65535 ∷ 65535 ∷ 0 ∷ 0 ∷ 0 ∷ 0 ∷ 0 ∷ 0 ∷ 0 ∷ 0 ∷ 1 ∷ 0 ∷ 0 ∷ 0 ∷ 0 ∷ 0 ∷ 0 ∷
     0 ∷ 0 ∷ 0 ∷ 0 ∷ 1 ∷ 0 ∷ 2 ∷ 65535 ∷ 0 ∷ 0 ∷ 1 ∷ 0 ∷ 2 ∷ 1 ∷ 1 ∷ 2 ∷ 0 ∷ 1 ∷ 0 ∷ 0 ∷ 1 ∷ 1 ∷ 0 ∷ 0 ∷ []
 
 abbrev names-059 : List ℕ
-names-059 = joined (slotOf (115 ∷ []) ∷ slotOf (101 ∷ []) ∷ slotOf (42 ∷ []) ∷ (97 ∷ 46 ∷ 0 ∷ 0 ∷ 0 ∷ 0 ∷ 0 ∷ 0 ∷ 0 ∷
+names-059 = joined (slotOf (115 ∷ []) ∷ slotOf (101 ∷ []) ∷ slotOf (42 ∷ []) ∷ (42 ∷ 46 ∷ 97 ∷ 0 ∷ 0 ∷ 0 ∷ 0 ∷ 0 ∷ 0 ∷
     0 ∷ 0 ∷ 0 ∷ 0 ∷ 0 ∷ 0 ∷ 0 ∷ 0 ∷ 0 ∷ 0 ∷ 0 ∷ 0 ∷ 0 ∷ 0 ∷ 0 ∷ 0 ∷ 0 ∷ 0 ∷ 0 ∷ 0 ∷ 0 ∷ 0 ∷ 0 ∷ 0 ∷ 0 ∷ 0 ∷ 0 ∷ 0 ∷ 0 ∷
     0 ∷ 0 ∷ 0 ∷ 0 ∷ 0 ∷ 0 ∷ 0 ∷ 0 ∷ 0 ∷ 0 ∷ 0 ∷ 0 ∷ 0 ∷ 0 ∷ 0 ∷ 0 ∷ 0 ∷ 0 ∷ 0 ∷ 0 ∷ 0 ∷ 0 ∷ 0 ∷ 0 ∷ 0 ∷ 0 ∷ []) ∷ [])
 
 example-059 : alike (played numbers-059 names-059 []) ((2 ∷ []) ∷ []) ≡ true
-unfolding everything joined historyShown queueShown shown playedIf played alike
+unfolding everything joined historyShown queueShown pendingShown shown playedIf played alike
 example-059 = refl
 
--- name with two dots
+-- two stars
 abbrev numbers-060 : List ℕ
 numbers-060 = 2 ∷ 1 ∷ 1 ∷ 2 ∷ 2 ∷ 4 ∷ 0 ∷ 65535 ∷ 65535 ∷ 0 ∷ 0 ∷ 0 ∷ 0 ∷ 0 ∷ 0 ∷ 0 ∷ 0 ∷ 1 ∷ 0 ∷ 0 ∷ 0 ∷ 0 ∷ 0 ∷ 0 ∷
     0 ∷ 0 ∷ 0 ∷ 0 ∷ 1 ∷ 0 ∷ 2 ∷ 65535 ∷ 0 ∷ 0 ∷ 1 ∷ 0 ∷ 2 ∷ 1 ∷ 1 ∷ 2 ∷ 0 ∷ 1 ∷ 0 ∷ 0 ∷ 1 ∷ 1 ∷ 0 ∷ 0 ∷ []
 
 abbrev names-060 : List ℕ
-names-060 = joined (slotOf (115 ∷ []) ∷ slotOf (101 ∷ []) ∷ slotOf (42 ∷ []) ∷ (97 ∷ 46 ∷ 46 ∷ 98 ∷ 0 ∷ 0 ∷ 0 ∷ 0 ∷ 0 ∷
+names-060 = joined (slotOf (115 ∷ []) ∷ slotOf (101 ∷ []) ∷ slotOf (42 ∷ []) ∷ (42 ∷ 42 ∷ 0 ∷ 0 ∷ 0 ∷ 0 ∷ 0 ∷ 0 ∷ 0 ∷
     0 ∷ 0 ∷ 0 ∷ 0 ∷ 0 ∷ 0 ∷ 0 ∷ 0 ∷ 0 ∷ 0 ∷ 0 ∷ 0 ∷ 0 ∷ 0 ∷ 0 ∷ 0 ∷ 0 ∷ 0 ∷ 0 ∷ 0 ∷ 0 ∷ 0 ∷ 0 ∷ 0 ∷ 0 ∷ 0 ∷ 0 ∷ 0 ∷ 0 ∷
     0 ∷ 0 ∷ 0 ∷ 0 ∷ 0 ∷ 0 ∷ 0 ∷ 0 ∷ 0 ∷ 0 ∷ 0 ∷ 0 ∷ 0 ∷ 0 ∷ 0 ∷ 0 ∷ 0 ∷ 0 ∷ 0 ∷ 0 ∷ 0 ∷ 0 ∷ 0 ∷ 0 ∷ 0 ∷ 0 ∷ []) ∷ [])
 
 example-060 : alike (played numbers-060 names-060 []) ((2 ∷ []) ∷ []) ≡ true
-unfolding everything joined historyShown queueShown shown playedIf played alike
+unfolding everything joined historyShown queueShown pendingShown shown playedIf played alike
 example-060 = refl
 
--- name of a dot
+-- star inside
 abbrev numbers-061 : List ℕ
 numbers-061 = 2 ∷ 1 ∷ 1 ∷ 2 ∷ 2 ∷ 4 ∷ 0 ∷ 65535 ∷ 65535 ∷ 0 ∷ 0 ∷ 0 ∷ 0 ∷ 0 ∷ 0 ∷ 0 ∷ 0 ∷ 1 ∷ 0 ∷ 0 ∷ 0 ∷ 0 ∷ 0 ∷ 0 ∷
     0 ∷ 0 ∷ 0 ∷ 0 ∷ 1 ∷ 0 ∷ 2 ∷ 65535 ∷ 0 ∷ 0 ∷ 1 ∷ 0 ∷ 2 ∷ 1 ∷ 1 ∷ 2 ∷ 0 ∷ 1 ∷ 0 ∷ 0 ∷ 1 ∷ 1 ∷ 0 ∷ 0 ∷ []
 
 abbrev names-061 : List ℕ
-names-061 = joined (slotOf (115 ∷ []) ∷ slotOf (101 ∷ []) ∷ slotOf (42 ∷ []) ∷ (46 ∷ 0 ∷ 0 ∷ 0 ∷ 0 ∷ 0 ∷ 0 ∷ 0 ∷ 0 ∷
+names-061 = joined (slotOf (115 ∷ []) ∷ slotOf (101 ∷ []) ∷ slotOf (42 ∷ []) ∷ (97 ∷ 46 ∷ 42 ∷ 46 ∷ 98 ∷ 0 ∷ 0 ∷ 0 ∷
     0 ∷ 0 ∷ 0 ∷ 0 ∷ 0 ∷ 0 ∷ 0 ∷ 0 ∷ 0 ∷ 0 ∷ 0 ∷ 0 ∷ 0 ∷ 0 ∷ 0 ∷ 0 ∷ 0 ∷ 0 ∷ 0 ∷ 0 ∷ 0 ∷ 0 ∷ 0 ∷ 0 ∷ 0 ∷ 0 ∷ 0 ∷ 0 ∷ 0 ∷
-    0 ∷ 0 ∷ 0 ∷ 0 ∷ 0 ∷ 0 ∷ 0 ∷ 0 ∷ 0 ∷ 0 ∷ 0 ∷ 0 ∷ 0 ∷ 0 ∷ 0 ∷ 0 ∷ 0 ∷ 0 ∷ 0 ∷ 0 ∷ 0 ∷ 0 ∷ 0 ∷ 0 ∷ 0 ∷ 0 ∷ []) ∷ [])
+    0 ∷ 0 ∷ 0 ∷ 0 ∷ 0 ∷ 0 ∷ 0 ∷ 0 ∷ 0 ∷ 0 ∷ 0 ∷ 0 ∷ 0 ∷ 0 ∷ 0 ∷ 0 ∷ 0 ∷ 0 ∷ 0 ∷ 0 ∷ 0 ∷ 0 ∷ 0 ∷ 0 ∷ 0 ∷ 0 ∷ 0 ∷ []) ∷
+    [])
 
 example-061 : alike (played numbers-061 names-061 []) ((2 ∷ []) ∷ []) ≡ true
-unfolding everything joined historyShown queueShown shown playedIf played alike
+unfolding everything joined historyShown queueShown pendingShown shown playedIf played alike
 example-061 = refl
 
--- star behind a name
+-- star behind a dot alone
 abbrev numbers-062 : List ℕ
 numbers-062 = 2 ∷ 1 ∷ 1 ∷ 2 ∷ 2 ∷ 4 ∷ 0 ∷ 65535 ∷ 65535 ∷ 0 ∷ 0 ∷ 0 ∷ 0 ∷ 0 ∷ 0 ∷ 0 ∷ 0 ∷ 1 ∷ 0 ∷ 0 ∷ 0 ∷ 0 ∷ 0 ∷ 0 ∷
     0 ∷ 0 ∷ 0 ∷ 0 ∷ 1 ∷ 0 ∷ 2 ∷ 65535 ∷ 0 ∷ 0 ∷ 1 ∷ 0 ∷ 2 ∷ 1 ∷ 1 ∷ 2 ∷ 0 ∷ 1 ∷ 0 ∷ 0 ∷ 1 ∷ 1 ∷ 0 ∷ 0 ∷ []
 
 abbrev names-062 : List ℕ
-names-062 = joined (slotOf (115 ∷ []) ∷ slotOf (101 ∷ []) ∷ slotOf (42 ∷ []) ∷ (97 ∷ 42 ∷ 0 ∷ 0 ∷ 0 ∷ 0 ∷ 0 ∷ 0 ∷ 0 ∷
+names-062 = joined (slotOf (115 ∷ []) ∷ slotOf (101 ∷ []) ∷ slotOf (42 ∷ []) ∷ (46 ∷ 42 ∷ 0 ∷ 0 ∷ 0 ∷ 0 ∷ 0 ∷ 0 ∷ 0 ∷
     0 ∷ 0 ∷ 0 ∷ 0 ∷ 0 ∷ 0 ∷ 0 ∷ 0 ∷ 0 ∷ 0 ∷ 0 ∷ 0 ∷ 0 ∷ 0 ∷ 0 ∷ 0 ∷ 0 ∷ 0 ∷ 0 ∷ 0 ∷ 0 ∷ 0 ∷ 0 ∷ 0 ∷ 0 ∷ 0 ∷ 0 ∷ 0 ∷ 0 ∷
     0 ∷ 0 ∷ 0 ∷ 0 ∷ 0 ∷ 0 ∷ 0 ∷ 0 ∷ 0 ∷ 0 ∷ 0 ∷ 0 ∷ 0 ∷ 0 ∷ 0 ∷ 0 ∷ 0 ∷ 0 ∷ 0 ∷ 0 ∷ 0 ∷ 0 ∷ 0 ∷ 0 ∷ 0 ∷ 0 ∷ []) ∷ [])
 
 example-062 : alike (played numbers-062 names-062 []) ((2 ∷ []) ∷ []) ≡ true
-unfolding everything joined historyShown queueShown shown playedIf played alike
+unfolding everything joined historyShown queueShown pendingShown shown playedIf played alike
 example-062 = refl
 
--- star before a name
+-- star behind two dots
 abbrev numbers-063 : List ℕ
 numbers-063 = 2 ∷ 1 ∷ 1 ∷ 2 ∷ 2 ∷ 4 ∷ 0 ∷ 65535 ∷ 65535 ∷ 0 ∷ 0 ∷ 0 ∷ 0 ∷ 0 ∷ 0 ∷ 0 ∷ 0 ∷ 1 ∷ 0 ∷ 0 ∷ 0 ∷ 0 ∷ 0 ∷ 0 ∷
     0 ∷ 0 ∷ 0 ∷ 0 ∷ 1 ∷ 0 ∷ 2 ∷ 65535 ∷ 0 ∷ 0 ∷ 1 ∷ 0 ∷ 2 ∷ 1 ∷ 1 ∷ 2 ∷ 0 ∷ 1 ∷ 0 ∷ 0 ∷ 1 ∷ 1 ∷ 0 ∷ 0 ∷ []
 
 abbrev names-063 : List ℕ
-names-063 = joined (slotOf (115 ∷ []) ∷ slotOf (101 ∷ []) ∷ slotOf (42 ∷ []) ∷ (42 ∷ 46 ∷ 97 ∷ 0 ∷ 0 ∷ 0 ∷ 0 ∷ 0 ∷ 0 ∷
+names-063 = joined (slotOf (115 ∷ []) ∷ slotOf (101 ∷ []) ∷ slotOf (42 ∷ []) ∷ (97 ∷ 46 ∷ 46 ∷ 42 ∷ 0 ∷ 0 ∷ 0 ∷ 0 ∷ 0 ∷
     0 ∷ 0 ∷ 0 ∷ 0 ∷ 0 ∷ 0 ∷ 0 ∷ 0 ∷ 0 ∷ 0 ∷ 0 ∷ 0 ∷ 0 ∷ 0 ∷ 0 ∷ 0 ∷ 0 ∷ 0 ∷ 0 ∷ 0 ∷ 0 ∷ 0 ∷ 0 ∷ 0 ∷ 0 ∷ 0 ∷ 0 ∷ 0 ∷ 0 ∷
     0 ∷ 0 ∷ 0 ∷ 0 ∷ 0 ∷ 0 ∷ 0 ∷ 0 ∷ 0 ∷ 0 ∷ 0 ∷ 0 ∷ 0 ∷ 0 ∷ 0 ∷ 0 ∷ 0 ∷ 0 ∷ 0 ∷ 0 ∷ 0 ∷ 0 ∷ 0 ∷ 0 ∷ 0 ∷ 0 ∷ []) ∷ [])
 
 example-063 : alike (played numbers-063 names-063 []) ((2 ∷ []) ∷ []) ≡ true
-unfolding everything joined historyShown queueShown shown playedIf played alike
+unfolding everything joined historyShown queueShown pendingShown shown playedIf played alike
 example-063 = refl
 
--- two stars
+-- star behind a star
 abbrev numbers-064 : List ℕ
 numbers-064 = 2 ∷ 1 ∷ 1 ∷ 2 ∷ 2 ∷ 4 ∷ 0 ∷ 65535 ∷ 65535 ∷ 0 ∷ 0 ∷ 0 ∷ 0 ∷ 0 ∷ 0 ∷ 0 ∷ 0 ∷ 1 ∷ 0 ∷ 0 ∷ 0 ∷ 0 ∷ 0 ∷ 0 ∷
     0 ∷ 0 ∷ 0 ∷ 0 ∷ 1 ∷ 0 ∷ 2 ∷ 65535 ∷ 0 ∷ 0 ∷ 1 ∷ 0 ∷ 2 ∷ 1 ∷ 1 ∷ 2 ∷ 0 ∷ 1 ∷ 0 ∷ 0 ∷ 1 ∷ 1 ∷ 0 ∷ 0 ∷ []
 
 abbrev names-064 : List ℕ
-names-064 = joined (slotOf (115 ∷ []) ∷ slotOf (101 ∷ []) ∷ slotOf (42 ∷ []) ∷ (42 ∷ 42 ∷ 0 ∷ 0 ∷ 0 ∷ 0 ∷ 0 ∷ 0 ∷ 0 ∷
+names-064 = joined (slotOf (115 ∷ []) ∷ slotOf (101 ∷ []) ∷ slotOf (42 ∷ []) ∷ (42 ∷ 46 ∷ 42 ∷ 0 ∷ 0 ∷ 0 ∷ 0 ∷ 0 ∷ 0 ∷
     0 ∷ 0 ∷ 0 ∷ 0 ∷ 0 ∷ 0 ∷ 0 ∷ 0 ∷ 0 ∷ 0 ∷ 0 ∷ 0 ∷ 0 ∷ 0 ∷ 0 ∷ 0 ∷ 0 ∷ 0 ∷ 0 ∷ 0 ∷ 0 ∷ 0 ∷ 0 ∷ 0 ∷ 0 ∷ 0 ∷ 0 ∷ 0 ∷ 0 ∷
     0 ∷ 0 ∷ 0 ∷ 0 ∷ 0 ∷ 0 ∷ 0 ∷ 0 ∷ 0 ∷ 0 ∷ 0 ∷ 0 ∷ 0 ∷ 0 ∷ 0 ∷ 0 ∷ 0 ∷ 0 ∷ 0 ∷ 0 ∷ 0 ∷ 0 ∷ 0 ∷ 0 ∷ 0 ∷ 0 ∷ []) ∷ [])
 
 example-064 : alike (played numbers-064 names-064 []) ((2 ∷ []) ∷ []) ≡ true
-unfolding everything joined historyShown queueShown shown playedIf played alike
+unfolding everything joined historyShown queueShown pendingShown shown playedIf played alike
 example-064 = refl
 
--- star inside
+-- id of 53 bytes
 abbrev numbers-065 : List ℕ
-numbers-065 = 2 ∷ 1 ∷ 1 ∷ 2 ∷ 2 ∷ 4 ∷ 0 ∷ 65535 ∷ 65535 ∷ 0 ∷ 0 ∷ 0 ∷ 0 ∷ 0 ∷ 0 ∷ 0 ∷ 0 ∷ 1 ∷ 0 ∷ 0 ∷ 0 ∷ 0 ∷ 0 ∷ 0 ∷
+numbers-065 = 2 ∷ 1 ∷ 1 ∷ 2 ∷ 2 ∷ 4 ∷ 0 ∷ 65535 ∷ 65535 ∷ 0 ∷ 0 ∷ 0 ∷ 0 ∷ 0 ∷ 0 ∷ 0 ∷ 0 ∷ 1 ∷ 0 ∷ 3 ∷ 0 ∷ 0 ∷ 0 ∷ 0 ∷
     0 ∷ 0 ∷ 0 ∷ 0 ∷ 1 ∷ 0 ∷ 2 ∷ 65535 ∷ 0 ∷ 0 ∷ 1 ∷ 0 ∷ 2 ∷ 1 ∷ 1 ∷ 2 ∷ 0 ∷ 1 ∷ 0 ∷ 0 ∷ 1 ∷ 1 ∷ 0 ∷ 0 ∷ []
 
 abbrev names-065 : List ℕ
-names-065 = joined (slotOf (115 ∷ []) ∷ slotOf (101 ∷ []) ∷ slotOf (42 ∷ []) ∷ (97 ∷ 46 ∷ 42 ∷ 46 ∷ 98 ∷ 0 ∷ 0 ∷ 0 ∷
-    0 ∷ 0 ∷ 0 ∷ 0 ∷ 0 ∷ 0 ∷ 0 ∷ 0 ∷ 0 ∷ 0 ∷ 0 ∷ 0 ∷ 0 ∷ 0 ∷ 0 ∷ 0 ∷ 0 ∷ 0 ∷ 0 ∷ 0 ∷ 0 ∷ 0 ∷ 0 ∷ 0 ∷ 0 ∷ 0 ∷ 0 ∷ 0 ∷ 0 ∷
-    0 ∷ 0 ∷ 0 ∷ 0 ∷ 0 ∷ 0 ∷ 0 ∷ 0 ∷ 0 ∷ 0 ∷ 0 ∷ 0 ∷ 0 ∷ 0 ∷ 0 ∷ 0 ∷ 0 ∷ 0 ∷ 0 ∷ 0 ∷ 0 ∷ 0 ∷ 0 ∷ 0 ∷ 0 ∷ 0 ∷ 0 ∷ []) ∷
-    [])
-
-example-065 : alike (played numbers-065 names-065 []) ((2 ∷ []) ∷ []) ≡ true
-unfolding everything joined historyShown queueShown shown playedIf played alike
-example-065 = refl
-
--- star behind a dot alone
-abbrev numbers-066 : List ℕ
-numbers-066 = 2 ∷ 1 ∷ 1 ∷ 2 ∷ 2 ∷ 4 ∷ 0 ∷ 65535 ∷ 65535 ∷ 0 ∷ 0 ∷ 0 ∷ 0 ∷ 0 ∷ 0 ∷ 0 ∷ 0 ∷ 1 ∷ 0 ∷ 0 ∷ 0 ∷ 0 ∷ 0 ∷ 0 ∷
-    0 ∷ 0 ∷ 0 ∷ 0 ∷ 1 ∷ 0 ∷ 2 ∷ 65535 ∷ 0 ∷ 0 ∷ 1 ∷ 0 ∷ 2 ∷ 1 ∷ 1 ∷ 2 ∷ 0 ∷ 1 ∷ 0 ∷ 0 ∷ 1 ∷ 1 ∷ 0 ∷ 0 ∷ []
-
-abbrev names-066 : List ℕ
-names-066 = joined (slotOf (115 ∷ []) ∷ slotOf (101 ∷ []) ∷ slotOf (42 ∷ []) ∷ (46 ∷ 42 ∷ 0 ∷ 0 ∷ 0 ∷ 0 ∷ 0 ∷ 0 ∷ 0 ∷
-    0 ∷ 0 ∷ 0 ∷ 0 ∷ 0 ∷ 0 ∷ 0 ∷ 0 ∷ 0 ∷ 0 ∷ 0 ∷ 0 ∷ 0 ∷ 0 ∷ 0 ∷ 0 ∷ 0 ∷ 0 ∷ 0 ∷ 0 ∷ 0 ∷ 0 ∷ 0 ∷ 0 ∷ 0 ∷ 0 ∷ 0 ∷ 0 ∷ 0 ∷
-    0 ∷ 0 ∷ 0 ∷ 0 ∷ 0 ∷ 0 ∷ 0 ∷ 0 ∷ 0 ∷ 0 ∷ 0 ∷ 0 ∷ 0 ∷ 0 ∷ 0 ∷ 0 ∷ 0 ∷ 0 ∷ 0 ∷ 0 ∷ 0 ∷ 0 ∷ 0 ∷ 0 ∷ 0 ∷ 0 ∷ []) ∷ [])
-
-example-066 : alike (played numbers-066 names-066 []) ((2 ∷ []) ∷ []) ≡ true
-unfolding everything joined historyShown queueShown shown playedIf played alike
-example-066 = refl
-
--- star behind two dots
-abbrev numbers-067 : List ℕ
-numbers-067 = 2 ∷ 1 ∷ 1 ∷ 2 ∷ 2 ∷ 4 ∷ 0 ∷ 65535 ∷ 65535 ∷ 0 ∷ 0 ∷ 0 ∷ 0 ∷ 0 ∷ 0 ∷ 0 ∷ 0 ∷ 1 ∷ 0 ∷ 0 ∷ 0 ∷ 0 ∷ 0 ∷ 0 ∷
-    0 ∷ 0 ∷ 0 ∷ 0 ∷ 1 ∷ 0 ∷ 2 ∷ 65535 ∷ 0 ∷ 0 ∷ 1 ∷ 0 ∷ 2 ∷ 1 ∷ 1 ∷ 2 ∷ 0 ∷ 1 ∷ 0 ∷ 0 ∷ 1 ∷ 1 ∷ 0 ∷ 0 ∷ []
-
-abbrev names-067 : List ℕ
-names-067 = joined (slotOf (115 ∷ []) ∷ slotOf (101 ∷ []) ∷ slotOf (42 ∷ []) ∷ (97 ∷ 46 ∷ 46 ∷ 42 ∷ 0 ∷ 0 ∷ 0 ∷ 0 ∷ 0 ∷
-    0 ∷ 0 ∷ 0 ∷ 0 ∷ 0 ∷ 0 ∷ 0 ∷ 0 ∷ 0 ∷ 0 ∷ 0 ∷ 0 ∷ 0 ∷ 0 ∷ 0 ∷ 0 ∷ 0 ∷ 0 ∷ 0 ∷ 0 ∷ 0 ∷ 0 ∷ 0 ∷ 0 ∷ 0 ∷ 0 ∷ 0 ∷ 0 ∷ 0 ∷
-    0 ∷ 0 ∷ 0 ∷ 0 ∷ 0 ∷ 0 ∷ 0 ∷ 0 ∷ 0 ∷ 0 ∷ 0 ∷ 0 ∷ 0 ∷ 0 ∷ 0 ∷ 0 ∷ 0 ∷ 0 ∷ 0 ∷ 0 ∷ 0 ∷ 0 ∷ 0 ∷ 0 ∷ 0 ∷ 0 ∷ []) ∷ [])
-
-example-067 : alike (played numbers-067 names-067 []) ((2 ∷ []) ∷ []) ≡ true
-unfolding everything joined historyShown queueShown shown playedIf played alike
-example-067 = refl
-
--- star behind a star
-abbrev numbers-068 : List ℕ
-numbers-068 = 2 ∷ 1 ∷ 1 ∷ 2 ∷ 2 ∷ 4 ∷ 0 ∷ 65535 ∷ 65535 ∷ 0 ∷ 0 ∷ 0 ∷ 0 ∷ 0 ∷ 0 ∷ 0 ∷ 0 ∷ 1 ∷ 0 ∷ 0 ∷ 0 ∷ 0 ∷ 0 ∷ 0 ∷
-    0 ∷ 0 ∷ 0 ∷ 0 ∷ 1 ∷ 0 ∷ 2 ∷ 65535 ∷ 0 ∷ 0 ∷ 1 ∷ 0 ∷ 2 ∷ 1 ∷ 1 ∷ 2 ∷ 0 ∷ 1 ∷ 0 ∷ 0 ∷ 1 ∷ 1 ∷ 0 ∷ 0 ∷ []
-
-abbrev names-068 : List ℕ
-names-068 = joined (slotOf (115 ∷ []) ∷ slotOf (101 ∷ []) ∷ slotOf (42 ∷ []) ∷ (42 ∷ 46 ∷ 42 ∷ 0 ∷ 0 ∷ 0 ∷ 0 ∷ 0 ∷ 0 ∷
-    0 ∷ 0 ∷ 0 ∷ 0 ∷ 0 ∷ 0 ∷ 0 ∷ 0 ∷ 0 ∷ 0 ∷ 0 ∷ 0 ∷ 0 ∷ 0 ∷ 0 ∷ 0 ∷ 0 ∷ 0 ∷ 0 ∷ 0 ∷ 0 ∷ 0 ∷ 0 ∷ 0 ∷ 0 ∷ 0 ∷ 0 ∷ 0 ∷ 0 ∷
-    0 ∷ 0 ∷ 0 ∷ 0 ∷ 0 ∷ 0 ∷ 0 ∷ 0 ∷ 0 ∷ 0 ∷ 0 ∷ 0 ∷ 0 ∷ 0 ∷ 0 ∷ 0 ∷ 0 ∷ 0 ∷ 0 ∷ 0 ∷ 0 ∷ 0 ∷ 0 ∷ 0 ∷ 0 ∷ 0 ∷ []) ∷ [])
-
-example-068 : alike (played numbers-068 names-068 []) ((2 ∷ []) ∷ []) ≡ true
-unfolding everything joined historyShown queueShown shown playedIf played alike
-example-068 = refl
-
--- id of 53 bytes
-abbrev numbers-069 : List ℕ
-numbers-069 = 2 ∷ 1 ∷ 1 ∷ 2 ∷ 2 ∷ 4 ∷ 0 ∷ 65535 ∷ 65535 ∷ 0 ∷ 0 ∷ 0 ∷ 0 ∷ 0 ∷ 0 ∷ 0 ∷ 0 ∷ 1 ∷ 0 ∷ 3 ∷ 0 ∷ 0 ∷ 0 ∷ 0 ∷
-    0 ∷ 0 ∷ 0 ∷ 0 ∷ 1 ∷ 0 ∷ 2 ∷ 65535 ∷ 0 ∷ 0 ∷ 1 ∷ 0 ∷ 2 ∷ 1 ∷ 1 ∷ 2 ∷ 0 ∷ 1 ∷ 0 ∷ 0 ∷ 1 ∷ 1 ∷ 0 ∷ 0 ∷ []
-
-abbrev names-069 : List ℕ
-names-069 = joined (slotOf (115 ∷ []) ∷ slotOf (101 ∷ []) ∷ slotOf (42 ∷ []) ∷ slotOf (105 ∷ 105 ∷ 105 ∷ 105 ∷ 105 ∷
+names-065 = joined (slotOf (115 ∷ []) ∷ slotOf (101 ∷ []) ∷ slotOf (42 ∷ []) ∷ slotOf (105 ∷ 105 ∷ 105 ∷ 105 ∷ 105 ∷
     105 ∷ 105 ∷ 105 ∷ 105 ∷ 105 ∷ 105 ∷ 105 ∷ 105 ∷ 105 ∷ 105 ∷ 105 ∷ 105 ∷ 105 ∷ 105 ∷ 105 ∷ 105 ∷ 105 ∷ 105 ∷ 105 ∷
     105 ∷ 105 ∷ 105 ∷ 105 ∷ 105 ∷ 105 ∷ 105 ∷ 105 ∷ 105 ∷ 105 ∷ 105 ∷ 105 ∷ 105 ∷ 105 ∷ 105 ∷ 105 ∷ 105 ∷ 105 ∷ 105 ∷
     105 ∷ 105 ∷ 105 ∷ 105 ∷ 105 ∷ 105 ∷ 105 ∷ 105 ∷ 105 ∷ 105 ∷ []) ∷ [])
 
-example-069 : alike (played numbers-069 names-069 []) ((2 ∷ []) ∷ []) ≡ true
-unfolding everything joined historyShown queueShown shown playedIf played alike
-example-069 = refl
+example-065 : alike (played numbers-065 names-065 []) ((2 ∷ []) ∷ []) ≡ true
+unfolding everything joined historyShown queueShown pendingShown shown playedIf played alike
+example-065 = refl
 
 -- id of 63 bytes
-abbrev numbers-070 : List ℕ
-numbers-070 = 2 ∷ 1 ∷ 1 ∷ 2 ∷ 2 ∷ 4 ∷ 0 ∷ 65535 ∷ 65535 ∷ 0 ∷ 0 ∷ 0 ∷ 0 ∷ 0 ∷ 0 ∷ 0 ∷ 0 ∷ 1 ∷ 0 ∷ 3 ∷ 0 ∷ 0 ∷ 0 ∷ 0 ∷
+abbrev numbers-066 : List ℕ
+numbers-066 = 2 ∷ 1 ∷ 1 ∷ 2 ∷ 2 ∷ 4 ∷ 0 ∷ 65535 ∷ 65535 ∷ 0 ∷ 0 ∷ 0 ∷ 0 ∷ 0 ∷ 0 ∷ 0 ∷ 0 ∷ 1 ∷ 0 ∷ 3 ∷ 0 ∷ 0 ∷ 0 ∷ 0 ∷
     0 ∷ 0 ∷ 0 ∷ 0 ∷ 1 ∷ 0 ∷ 2 ∷ 65535 ∷ 0 ∷ 0 ∷ 1 ∷ 0 ∷ 2 ∷ 1 ∷ 1 ∷ 2 ∷ 0 ∷ 1 ∷ 0 ∷ 0 ∷ 1 ∷ 1 ∷ 0 ∷ 0 ∷ []
 
-abbrev names-070 : List ℕ
-names-070 = joined (slotOf (115 ∷ []) ∷ slotOf (101 ∷ []) ∷ slotOf (42 ∷ []) ∷ slotOf (105 ∷ 105 ∷ 105 ∷ 105 ∷ 105 ∷
+abbrev names-066 : List ℕ
+names-066 = joined (slotOf (115 ∷ []) ∷ slotOf (101 ∷ []) ∷ slotOf (42 ∷ []) ∷ slotOf (105 ∷ 105 ∷ 105 ∷ 105 ∷ 105 ∷
     105 ∷ 105 ∷ 105 ∷ 105 ∷ 105 ∷ 105 ∷ 105 ∷ 105 ∷ 105 ∷ 105 ∷ 105 ∷ 105 ∷ 105 ∷ 105 ∷ 105 ∷ 105 ∷ 105 ∷ 105 ∷ 105 ∷
     105 ∷ 105 ∷ 105 ∷ 105 ∷ 105 ∷ 105 ∷ 105 ∷ 105 ∷ 105 ∷ 105 ∷ 105 ∷ 105 ∷ 105 ∷ 105 ∷ 105 ∷ 105 ∷ 105 ∷ 105 ∷ 105 ∷
     105 ∷ 105 ∷ 105 ∷ 105 ∷ 105 ∷ 105 ∷ 105 ∷ 105 ∷ 105 ∷ 105 ∷ 105 ∷ 105 ∷ 105 ∷ 105 ∷ 105 ∷ 105 ∷ 105 ∷ 105 ∷ 105 ∷
     105 ∷ []) ∷ [])
 
-example-070 : alike (played numbers-070 names-070 []) ((2 ∷ []) ∷ []) ≡ true
-unfolding everything joined historyShown queueShown shown playedIf played alike
-example-070 = refl
+example-066 : alike (played numbers-066 names-066 []) ((2 ∷ []) ∷ []) ≡ true
+unfolding everything joined historyShown queueShown pendingShown shown playedIf played alike
+example-066 = refl
 
 -- id that begins with a digit
-abbrev numbers-071 : List ℕ
-numbers-071 = 2 ∷ 1 ∷ 1 ∷ 2 ∷ 2 ∷ 4 ∷ 0 ∷ 65535 ∷ 65535 ∷ 0 ∷ 0 ∷ 0 ∷ 0 ∷ 0 ∷ 0 ∷ 0 ∷ 0 ∷ 1 ∷ 0 ∷ 3 ∷ 0 ∷ 0 ∷ 0 ∷ 0 ∷
+abbrev numbers-067 : List ℕ
+numbers-067 = 2 ∷ 1 ∷ 1 ∷ 2 ∷ 2 ∷ 4 ∷ 0 ∷ 65535 ∷ 65535 ∷ 0 ∷ 0 ∷ 0 ∷ 0 ∷ 0 ∷ 0 ∷ 0 ∷ 0 ∷ 1 ∷ 0 ∷ 3 ∷ 0 ∷ 0 ∷ 0 ∷ 0 ∷
     0 ∷ 0 ∷ 0 ∷ 0 ∷ 1 ∷ 0 ∷ 2 ∷ 65535 ∷ 0 ∷ 0 ∷ 1 ∷ 0 ∷ 2 ∷ 1 ∷ 1 ∷ 2 ∷ 0 ∷ 1 ∷ 0 ∷ 0 ∷ 1 ∷ 1 ∷ 0 ∷ 0 ∷ []
 
-abbrev names-071 : List ℕ
-names-071 = joined (slotOf (115 ∷ []) ∷ slotOf (101 ∷ []) ∷ slotOf (42 ∷ []) ∷ slotOf (49 ∷ 97 ∷ []) ∷ [])
+abbrev names-067 : List ℕ
+names-067 = joined (slotOf (115 ∷ []) ∷ slotOf (101 ∷ []) ∷ slotOf (42 ∷ []) ∷ slotOf (49 ∷ 97 ∷ []) ∷ [])
 
-example-071 : alike (played numbers-071 names-071 []) ((2 ∷ []) ∷ []) ≡ true
-unfolding everything joined historyShown queueShown shown playedIf played alike
-example-071 = refl
+example-067 : alike (played numbers-067 names-067 []) ((2 ∷ []) ∷ []) ≡ true
+unfolding everything joined historyShown queueShown pendingShown shown playedIf played alike
+example-067 = refl
 
 -- id that begins with a dash
-abbrev numbers-072 : List ℕ
-numbers-072 = 2 ∷ 1 ∷ 1 ∷ 2 ∷ 2 ∷ 4 ∷ 0 ∷ 65535 ∷ 65535 ∷ 0 ∷ 0 ∷ 0 ∷ 0 ∷ 0 ∷ 0 ∷ 0 ∷ 0 ∷ 1 ∷ 0 ∷ 3 ∷ 0 ∷ 0 ∷ 0 ∷ 0 ∷
+abbrev numbers-068 : List ℕ
+numbers-068 = 2 ∷ 1 ∷ 1 ∷ 2 ∷ 2 ∷ 4 ∷ 0 ∷ 65535 ∷ 65535 ∷ 0 ∷ 0 ∷ 0 ∷ 0 ∷ 0 ∷ 0 ∷ 0 ∷ 0 ∷ 1 ∷ 0 ∷ 3 ∷ 0 ∷ 0 ∷ 0 ∷ 0 ∷
     0 ∷ 0 ∷ 0 ∷ 0 ∷ 1 ∷ 0 ∷ 2 ∷ 65535 ∷ 0 ∷ 0 ∷ 1 ∷ 0 ∷ 2 ∷ 1 ∷ 1 ∷ 2 ∷ 0 ∷ 1 ∷ 0 ∷ 0 ∷ 1 ∷ 1 ∷ 0 ∷ 0 ∷ []
 
-abbrev names-072 : List ℕ
-names-072 = joined (slotOf (115 ∷ []) ∷ slotOf (101 ∷ []) ∷ slotOf (42 ∷ []) ∷ slotOf (45 ∷ 97 ∷ []) ∷ [])
+abbrev names-068 : List ℕ
+names-068 = joined (slotOf (115 ∷ []) ∷ slotOf (101 ∷ []) ∷ slotOf (42 ∷ []) ∷ slotOf (45 ∷ 97 ∷ []) ∷ [])
 
-example-072 : alike (played numbers-072 names-072 []) ((2 ∷ []) ∷ []) ≡ true
-unfolding everything joined historyShown queueShown shown playedIf played alike
-example-072 = refl
+example-068 : alike (played numbers-068 names-068 []) ((2 ∷ []) ∷ []) ≡ true
+unfolding everything joined historyShown queueShown pendingShown shown playedIf played alike
+example-068 = refl
 
 -- id that is a star
-abbrev numbers-073 : List ℕ
-numbers-073 = 2 ∷ 1 ∷ 1 ∷ 2 ∷ 2 ∷ 4 ∷ 0 ∷ 65535 ∷ 65535 ∷ 0 ∷ 0 ∷ 0 ∷ 0 ∷ 0 ∷ 0 ∷ 0 ∷ 0 ∷ 1 ∷ 0 ∷ 3 ∷ 0 ∷ 0 ∷ 0 ∷ 0 ∷
+abbrev numbers-069 : List ℕ
+numbers-069 = 2 ∷ 1 ∷ 1 ∷ 2 ∷ 2 ∷ 4 ∷ 0 ∷ 65535 ∷ 65535 ∷ 0 ∷ 0 ∷ 0 ∷ 0 ∷ 0 ∷ 0 ∷ 0 ∷ 0 ∷ 1 ∷ 0 ∷ 3 ∷ 0 ∷ 0 ∷ 0 ∷ 0 ∷
     0 ∷ 0 ∷ 0 ∷ 0 ∷ 1 ∷ 0 ∷ 2 ∷ 65535 ∷ 0 ∷ 0 ∷ 1 ∷ 0 ∷ 2 ∷ 1 ∷ 1 ∷ 2 ∷ 0 ∷ 1 ∷ 0 ∷ 0 ∷ 1 ∷ 1 ∷ 0 ∷ 0 ∷ []
 
-abbrev names-073 : List ℕ
-names-073 = joined (slotOf (115 ∷ []) ∷ slotOf (101 ∷ []) ∷ slotOf (42 ∷ []) ∷ slotOf (42 ∷ []) ∷ [])
+abbrev names-069 : List ℕ
+names-069 = joined (slotOf (115 ∷ []) ∷ slotOf (101 ∷ []) ∷ slotOf (42 ∷ []) ∷ slotOf (42 ∷ []) ∷ [])
 
-example-073 : alike (played numbers-073 names-073 []) ((2 ∷ []) ∷ []) ≡ true
-unfolding everything joined historyShown queueShown shown playedIf played alike
-example-073 = refl
+example-069 : alike (played numbers-069 names-069 []) ((2 ∷ []) ∷ []) ≡ true
+unfolding everything joined historyShown queueShown pendingShown shown playedIf played alike
+example-069 = refl
 
 -- id that is a descriptor
-abbrev numbers-074 : List ℕ
-numbers-074 = 2 ∷ 1 ∷ 1 ∷ 2 ∷ 2 ∷ 4 ∷ 0 ∷ 65535 ∷ 65535 ∷ 0 ∷ 0 ∷ 0 ∷ 0 ∷ 0 ∷ 0 ∷ 0 ∷ 0 ∷ 1 ∷ 0 ∷ 3 ∷ 0 ∷ 0 ∷ 0 ∷ 0 ∷
+abbrev numbers-070 : List ℕ
+numbers-070 = 2 ∷ 1 ∷ 1 ∷ 2 ∷ 2 ∷ 4 ∷ 0 ∷ 65535 ∷ 65535 ∷ 0 ∷ 0 ∷ 0 ∷ 0 ∷ 0 ∷ 0 ∷ 0 ∷ 0 ∷ 1 ∷ 0 ∷ 3 ∷ 0 ∷ 0 ∷ 0 ∷ 0 ∷
     0 ∷ 0 ∷ 0 ∷ 0 ∷ 1 ∷ 0 ∷ 2 ∷ 65535 ∷ 0 ∷ 0 ∷ 1 ∷ 0 ∷ 2 ∷ 1 ∷ 1 ∷ 2 ∷ 0 ∷ 1 ∷ 0 ∷ 0 ∷ 1 ∷ 1 ∷ 0 ∷ 0 ∷ []
 
-abbrev names-074 : List ℕ
-names-074 = joined (slotOf (115 ∷ []) ∷ slotOf (101 ∷ []) ∷ slotOf (42 ∷ []) ∷ slotOf (97 ∷ 46 ∷ 42 ∷ []) ∷ [])
+abbrev names-070 : List ℕ
+names-070 = joined (slotOf (115 ∷ []) ∷ slotOf (101 ∷ []) ∷ slotOf (42 ∷ []) ∷ slotOf (97 ∷ 46 ∷ 42 ∷ []) ∷ [])
 
-example-074 : alike (played numbers-074 names-074 []) ((2 ∷ []) ∷ []) ≡ true
-unfolding everything joined historyShown queueShown shown playedIf played alike
-example-074 = refl
+example-070 : alike (played numbers-070 names-070 []) ((2 ∷ []) ∷ []) ≡ true
+unfolding everything joined historyShown queueShown pendingShown shown playedIf played alike
+example-070 = refl
 
 -- one slot for two ids
-abbrev numbers-075 : List ℕ
-numbers-075 = 3 ∷ 1 ∷ 1 ∷ 1 ∷ 0 ∷ 3 ∷ 0 ∷ 65535 ∷ 65535 ∷ 0 ∷ 0 ∷ 0 ∷ 0 ∷ 0 ∷ 0 ∷ 0 ∷ 0 ∷ 1 ∷ 0 ∷ 0 ∷ 0 ∷ 0 ∷ 0 ∷ 0 ∷
+abbrev numbers-071 : List ℕ
+numbers-071 = 3 ∷ 1 ∷ 1 ∷ 1 ∷ 0 ∷ 3 ∷ 0 ∷ 65535 ∷ 65535 ∷ 0 ∷ 0 ∷ 0 ∷ 0 ∷ 0 ∷ 0 ∷ 0 ∷ 0 ∷ 1 ∷ 0 ∷ 0 ∷ 0 ∷ 0 ∷ 0 ∷ 0 ∷
     0 ∷ 0 ∷ 0 ∷ 0 ∷ 3 ∷ 0 ∷ 0 ∷ 0 ∷ 0 ∷ 0 ∷ 0 ∷ 0 ∷ 0 ∷ 0 ∷ 0 ∷ 1 ∷ 0 ∷ 1 ∷ 65535 ∷ 0 ∷ 0 ∷ 1 ∷ 0 ∷ 0 ∷ 2 ∷ 2 ∷ []
 
-abbrev names-075 : List ℕ
-names-075 = joined (slotOf (115 ∷ []) ∷ slotOf (102 ∷ []) ∷ slotOf (101 ∷ []) ∷ [])
+abbrev names-071 : List ℕ
+names-071 = joined (slotOf (115 ∷ []) ∷ slotOf (102 ∷ []) ∷ slotOf (101 ∷ []) ∷ [])
 
-example-075 : alike (played numbers-075 names-075 []) ((2 ∷ []) ∷ []) ≡ true
-unfolding everything joined historyShown queueShown shown playedIf played alike
-example-075 = refl
+example-071 : alike (played numbers-071 names-071 []) ((2 ∷ []) ∷ []) ≡ true
+unfolding everything joined historyShown queueShown pendingShown shown playedIf played alike
+example-071 = refl
 
 -- two slots for equal ids
-abbrev numbers-076 : List ℕ
-numbers-076 = 3 ∷ 1 ∷ 1 ∷ 1 ∷ 0 ∷ 4 ∷ 0 ∷ 65535 ∷ 65535 ∷ 0 ∷ 0 ∷ 0 ∷ 0 ∷ 0 ∷ 0 ∷ 0 ∷ 0 ∷ 1 ∷ 0 ∷ 0 ∷ 0 ∷ 0 ∷ 0 ∷ 0 ∷
+abbrev numbers-072 : List ℕ
+numbers-072 = 3 ∷ 1 ∷ 1 ∷ 1 ∷ 0 ∷ 4 ∷ 0 ∷ 65535 ∷ 65535 ∷ 0 ∷ 0 ∷ 0 ∷ 0 ∷ 0 ∷ 0 ∷ 0 ∷ 0 ∷ 1 ∷ 0 ∷ 0 ∷ 0 ∷ 0 ∷ 0 ∷ 0 ∷
     0 ∷ 0 ∷ 0 ∷ 0 ∷ 3 ∷ 0 ∷ 3 ∷ 0 ∷ 0 ∷ 0 ∷ 0 ∷ 0 ∷ 0 ∷ 0 ∷ 0 ∷ 1 ∷ 0 ∷ 1 ∷ 65535 ∷ 0 ∷ 0 ∷ 1 ∷ 0 ∷ 0 ∷ 2 ∷ 2 ∷ []
 
-abbrev names-076 : List ℕ
-names-076 = joined (slotOf (115 ∷ []) ∷ slotOf (102 ∷ []) ∷ slotOf (101 ∷ []) ∷ slotOf (115 ∷ []) ∷ [])
+abbrev names-072 : List ℕ
+names-072 = joined (slotOf (115 ∷ []) ∷ slotOf (102 ∷ []) ∷ slotOf (101 ∷ []) ∷ slotOf (115 ∷ []) ∷ [])
 
-example-076 : alike (played numbers-076 names-076 []) ((2 ∷ []) ∷ []) ≡ true
-unfolding everything joined historyShown queueShown shown playedIf played alike
-example-076 = refl
+example-072 : alike (played numbers-072 names-072 []) ((2 ∷ []) ∷ []) ≡ true
+unfolding everything joined historyShown queueShown pendingShown shown playedIf played alike
+example-072 = refl
 
 -- root with an id
-abbrev numbers-077 : List ℕ
-numbers-077 = 2 ∷ 1 ∷ 1 ∷ 2 ∷ 2 ∷ 4 ∷ 0 ∷ 65535 ∷ 3 ∷ 0 ∷ 0 ∷ 0 ∷ 0 ∷ 0 ∷ 0 ∷ 0 ∷ 0 ∷ 1 ∷ 0 ∷ 0 ∷ 0 ∷ 0 ∷ 0 ∷ 0 ∷ 0 ∷
+abbrev numbers-073 : List ℕ
+numbers-073 = 2 ∷ 1 ∷ 1 ∷ 2 ∷ 2 ∷ 4 ∷ 0 ∷ 65535 ∷ 3 ∷ 0 ∷ 0 ∷ 0 ∷ 0 ∷ 0 ∷ 0 ∷ 0 ∷ 0 ∷ 1 ∷ 0 ∷ 0 ∷ 0 ∷ 0 ∷ 0 ∷ 0 ∷ 0 ∷
     0 ∷ 0 ∷ 0 ∷ 1 ∷ 0 ∷ 2 ∷ 65535 ∷ 0 ∷ 0 ∷ 1 ∷ 0 ∷ 2 ∷ 1 ∷ 1 ∷ 2 ∷ 0 ∷ 1 ∷ 0 ∷ 0 ∷ 1 ∷ 1 ∷ 0 ∷ 0 ∷ []
 
-abbrev names-077 : List ℕ
-names-077 = joined (slotOf (115 ∷ []) ∷ slotOf (101 ∷ []) ∷ slotOf (42 ∷ []) ∷ slotOf (116 ∷ 104 ∷ 101 ∷ 114 ∷ 111 ∷
+abbrev names-073 : List ℕ
+names-073 = joined (slotOf (115 ∷ []) ∷ slotOf (101 ∷ []) ∷ slotOf (42 ∷ []) ∷ slotOf (116 ∷ 104 ∷ 101 ∷ 114 ∷ 111 ∷
     111 ∷ 116 ∷ []) ∷ [])
 
-example-077 : alike (played numbers-077 names-077 []) ((2 ∷ []) ∷ []) ≡ true
-unfolding everything joined historyShown queueShown shown playedIf played alike
-example-077 = refl
+example-073 : alike (played numbers-073 names-073 []) ((2 ∷ []) ∷ []) ≡ true
+unfolding everything joined historyShown queueShown pendingShown shown playedIf played alike
+example-073 = refl
 
 -- row without an id
-abbrev numbers-078 : List ℕ
-numbers-078 = 2 ∷ 1 ∷ 1 ∷ 2 ∷ 2 ∷ 3 ∷ 0 ∷ 65535 ∷ 65535 ∷ 0 ∷ 0 ∷ 0 ∷ 0 ∷ 0 ∷ 0 ∷ 0 ∷ 0 ∷ 1 ∷ 0 ∷ 65535 ∷ 0 ∷ 0 ∷ 0 ∷
+abbrev numbers-074 : List ℕ
+numbers-074 = 2 ∷ 1 ∷ 1 ∷ 2 ∷ 2 ∷ 3 ∷ 0 ∷ 65535 ∷ 65535 ∷ 0 ∷ 0 ∷ 0 ∷ 0 ∷ 0 ∷ 0 ∷ 0 ∷ 0 ∷ 1 ∷ 0 ∷ 65535 ∷ 0 ∷ 0 ∷ 0 ∷
     0 ∷ 0 ∷ 0 ∷ 0 ∷ 0 ∷ 1 ∷ 0 ∷ 2 ∷ 65535 ∷ 0 ∷ 0 ∷ 1 ∷ 0 ∷ 2 ∷ 1 ∷ 1 ∷ 2 ∷ 0 ∷ 1 ∷ 0 ∷ 0 ∷ 1 ∷ 1 ∷ 0 ∷ 0 ∷ []
 
-abbrev names-078 : List ℕ
-names-078 = joined (slotOf (115 ∷ []) ∷ slotOf (101 ∷ []) ∷ slotOf (42 ∷ []) ∷ [])
+abbrev names-074 : List ℕ
+names-074 = joined (slotOf (115 ∷ []) ∷ slotOf (101 ∷ []) ∷ slotOf (42 ∷ []) ∷ [])
 
-example-078 : alike (played numbers-078 names-078 []) ((2 ∷ []) ∷ []) ≡ true
-unfolding everything joined historyShown queueShown shown playedIf played alike
-example-078 = refl
+example-074 : alike (played numbers-074 names-074 []) ((2 ∷ []) ∷ []) ≡ true
+unfolding everything joined historyShown queueShown pendingShown shown playedIf played alike
+example-074 = refl
 
 -- raise of a star
-abbrev numbers-079 : List ℕ
-numbers-079 = 2 ∷ 1 ∷ 1 ∷ 2 ∷ 1 ∷ 4 ∷ 0 ∷ 65535 ∷ 65535 ∷ 0 ∷ 0 ∷ 0 ∷ 0 ∷ 0 ∷ 0 ∷ 0 ∷ 0 ∷ 1 ∷ 0 ∷ 0 ∷ 0 ∷ 0 ∷ 0 ∷ 0 ∷
+abbrev numbers-075 : List ℕ
+numbers-075 = 2 ∷ 1 ∷ 1 ∷ 2 ∷ 1 ∷ 4 ∷ 0 ∷ 65535 ∷ 65535 ∷ 0 ∷ 0 ∷ 0 ∷ 0 ∷ 0 ∷ 0 ∷ 0 ∷ 0 ∷ 1 ∷ 0 ∷ 0 ∷ 0 ∷ 0 ∷ 0 ∷ 0 ∷
     0 ∷ 0 ∷ 0 ∷ 0 ∷ 1 ∷ 0 ∷ 2 ∷ 65535 ∷ 0 ∷ 0 ∷ 1 ∷ 0 ∷ 1 ∷ 1 ∷ 1 ∷ 2 ∷ 0 ∷ 3 ∷ 0 ∷ 0 ∷ []
 
-abbrev names-079 : List ℕ
-names-079 = joined (slotOf (115 ∷ []) ∷ slotOf (101 ∷ []) ∷ slotOf (42 ∷ []) ∷ slotOf (42 ∷ []) ∷ [])
+abbrev names-075 : List ℕ
+names-075 = joined (slotOf (115 ∷ []) ∷ slotOf (101 ∷ []) ∷ slotOf (42 ∷ []) ∷ slotOf (42 ∷ []) ∷ [])
 
-example-079 : alike (played numbers-079 names-079 []) ((2 ∷ []) ∷ []) ≡ true
-unfolding everything joined historyShown queueShown shown playedIf played alike
-example-079 = refl
+example-075 : alike (played numbers-075 names-075 []) ((2 ∷ []) ∷ []) ≡ true
+unfolding everything joined historyShown queueShown pendingShown shown playedIf played alike
+example-075 = refl
 
 -- raise of a descriptor
-abbrev numbers-080 : List ℕ
-numbers-080 = 2 ∷ 1 ∷ 1 ∷ 2 ∷ 1 ∷ 4 ∷ 0 ∷ 65535 ∷ 65535 ∷ 0 ∷ 0 ∷ 0 ∷ 0 ∷ 0 ∷ 0 ∷ 0 ∷ 0 ∷ 1 ∷ 0 ∷ 0 ∷ 0 ∷ 0 ∷ 0 ∷ 0 ∷
+abbrev numbers-076 : List ℕ
+numbers-076 = 2 ∷ 1 ∷ 1 ∷ 2 ∷ 1 ∷ 4 ∷ 0 ∷ 65535 ∷ 65535 ∷ 0 ∷ 0 ∷ 0 ∷ 0 ∷ 0 ∷ 0 ∷ 0 ∷ 0 ∷ 1 ∷ 0 ∷ 0 ∷ 0 ∷ 0 ∷ 0 ∷ 0 ∷
     0 ∷ 0 ∷ 0 ∷ 0 ∷ 1 ∷ 0 ∷ 2 ∷ 65535 ∷ 0 ∷ 0 ∷ 1 ∷ 0 ∷ 1 ∷ 1 ∷ 1 ∷ 2 ∷ 0 ∷ 3 ∷ 0 ∷ 0 ∷ []
 
-abbrev names-080 : List ℕ
-names-080 = joined (slotOf (115 ∷ []) ∷ slotOf (101 ∷ []) ∷ slotOf (42 ∷ []) ∷ slotOf (97 ∷ 46 ∷ 42 ∷ []) ∷ [])
+abbrev names-076 : List ℕ
+names-076 = joined (slotOf (115 ∷ []) ∷ slotOf (101 ∷ []) ∷ slotOf (42 ∷ []) ∷ slotOf (97 ∷ 46 ∷ 42 ∷ []) ∷ [])
 
-example-080 : alike (played numbers-080 names-080 []) ((2 ∷ []) ∷ []) ≡ true
-unfolding everything joined historyShown queueShown shown playedIf played alike
-example-080 = refl
+example-076 : alike (played numbers-076 names-076 []) ((2 ∷ []) ∷ []) ≡ true
+unfolding everything joined historyShown queueShown pendingShown shown playedIf played alike
+example-076 = refl
 
 -- unused raise of a descriptor
-abbrev numbers-081 : List ℕ
-numbers-081 = 2 ∷ 1 ∷ 1 ∷ 2 ∷ 3 ∷ 3 ∷ 0 ∷ 65535 ∷ 65535 ∷ 0 ∷ 0 ∷ 0 ∷ 0 ∷ 0 ∷ 0 ∷ 0 ∷ 0 ∷ 1 ∷ 0 ∷ 0 ∷ 0 ∷ 0 ∷ 0 ∷ 0 ∷
+abbrev numbers-077 : List ℕ
+numbers-077 = 2 ∷ 1 ∷ 1 ∷ 2 ∷ 3 ∷ 3 ∷ 0 ∷ 65535 ∷ 65535 ∷ 0 ∷ 0 ∷ 0 ∷ 0 ∷ 0 ∷ 0 ∷ 0 ∷ 0 ∷ 1 ∷ 0 ∷ 0 ∷ 0 ∷ 0 ∷ 0 ∷ 0 ∷
     0 ∷ 0 ∷ 0 ∷ 0 ∷ 1 ∷ 0 ∷ 2 ∷ 65535 ∷ 0 ∷ 0 ∷ 1 ∷ 0 ∷ 2 ∷ 1 ∷ 1 ∷ 2 ∷ 0 ∷ 1 ∷ 0 ∷ 0 ∷ 1 ∷ 1 ∷ 0 ∷ 0 ∷ 0 ∷ 2 ∷ 0 ∷ 0 ∷
     []
+
+abbrev names-077 : List ℕ
+names-077 = joined (slotOf (115 ∷ []) ∷ slotOf (101 ∷ []) ∷ slotOf (42 ∷ []) ∷ [])
+
+example-077 : alike (played numbers-077 names-077 []) ((2 ∷ []) ∷ []) ≡ true
+unfolding everything joined historyShown queueShown pendingShown shown playedIf played alike
+example-077 = refl
+
+-- raise of a star on entry
+abbrev numbers-078 : List ℕ
+numbers-078 = 2 ∷ 1 ∷ 1 ∷ 2 ∷ 3 ∷ 4 ∷ 0 ∷ 65535 ∷ 65535 ∷ 0 ∷ 0 ∷ 0 ∷ 0 ∷ 0 ∷ 0 ∷ 0 ∷ 0 ∷ 1 ∷ 0 ∷ 0 ∷ 0 ∷ 1 ∷ 0 ∷ 0 ∷
+    0 ∷ 0 ∷ 0 ∷ 0 ∷ 1 ∷ 0 ∷ 2 ∷ 65535 ∷ 0 ∷ 0 ∷ 1 ∷ 1 ∷ 2 ∷ 1 ∷ 1 ∷ 2 ∷ 0 ∷ 3 ∷ 0 ∷ 0 ∷ 0 ∷ 1 ∷ 0 ∷ 0 ∷ 1 ∷ 1 ∷ 0 ∷ 0 ∷
+    []
+
+abbrev names-078 : List ℕ
+names-078 = joined (slotOf (115 ∷ []) ∷ slotOf (101 ∷ []) ∷ slotOf (42 ∷ []) ∷ slotOf (42 ∷ []) ∷ [])
+
+example-078 : alike (played numbers-078 names-078 []) ((2 ∷ []) ∷ []) ≡ true
+unfolding everything joined historyShown queueShown pendingShown shown playedIf played alike
+example-078 = refl
+
+-- row 0 is a state
+abbrev numbers-079 : List ℕ
+numbers-079 = 2 ∷ 1 ∷ 1 ∷ 2 ∷ 2 ∷ 3 ∷ 1 ∷ 65535 ∷ 65535 ∷ 0 ∷ 0 ∷ 0 ∷ 0 ∷ 0 ∷ 0 ∷ 0 ∷ 0 ∷ 1 ∷ 0 ∷ 0 ∷ 0 ∷ 0 ∷ 0 ∷ 0 ∷
+    0 ∷ 0 ∷ 0 ∷ 0 ∷ 1 ∷ 0 ∷ 2 ∷ 65535 ∷ 0 ∷ 0 ∷ 1 ∷ 0 ∷ 2 ∷ 1 ∷ 1 ∷ 2 ∷ 0 ∷ 1 ∷ 0 ∷ 0 ∷ 1 ∷ 1 ∷ 0 ∷ 0 ∷ []
+
+abbrev names-079 : List ℕ
+names-079 = joined (slotOf (115 ∷ []) ∷ slotOf (101 ∷ []) ∷ slotOf (42 ∷ []) ∷ [])
+
+example-079 : alike (played numbers-079 names-079 []) ((3 ∷ []) ∷ []) ≡ true
+unfolding everything joined historyShown queueShown pendingShown shown playedIf played alike
+example-079 = refl
+
+-- a second root
+abbrev numbers-080 : List ℕ
+numbers-080 = 2 ∷ 1 ∷ 1 ∷ 2 ∷ 2 ∷ 3 ∷ 0 ∷ 65535 ∷ 65535 ∷ 0 ∷ 0 ∷ 0 ∷ 0 ∷ 0 ∷ 0 ∷ 0 ∷ 0 ∷ 0 ∷ 0 ∷ 0 ∷ 0 ∷ 0 ∷ 0 ∷ 0 ∷
+    0 ∷ 0 ∷ 0 ∷ 0 ∷ 1 ∷ 0 ∷ 2 ∷ 65535 ∷ 0 ∷ 0 ∷ 1 ∷ 0 ∷ 2 ∷ 1 ∷ 1 ∷ 2 ∷ 0 ∷ 1 ∷ 0 ∷ 0 ∷ 1 ∷ 1 ∷ 0 ∷ 0 ∷ []
+
+abbrev names-080 : List ℕ
+names-080 = joined (slotOf (115 ∷ []) ∷ slotOf (101 ∷ []) ∷ slotOf (42 ∷ []) ∷ [])
+
+example-080 : alike (played numbers-080 names-080 []) ((3 ∷ []) ∷ []) ≡ true
+unfolding everything joined historyShown queueShown pendingShown shown playedIf played alike
+example-080 = refl
+
+-- root with a parent
+abbrev numbers-081 : List ℕ
+numbers-081 = 2 ∷ 1 ∷ 1 ∷ 2 ∷ 2 ∷ 3 ∷ 0 ∷ 1 ∷ 65535 ∷ 0 ∷ 0 ∷ 0 ∷ 0 ∷ 0 ∷ 0 ∷ 0 ∷ 0 ∷ 1 ∷ 0 ∷ 0 ∷ 0 ∷ 0 ∷ 0 ∷ 0 ∷ 0 ∷
+    0 ∷ 0 ∷ 0 ∷ 1 ∷ 0 ∷ 2 ∷ 65535 ∷ 0 ∷ 0 ∷ 1 ∷ 0 ∷ 2 ∷ 1 ∷ 1 ∷ 2 ∷ 0 ∷ 1 ∷ 0 ∷ 0 ∷ 1 ∷ 1 ∷ 0 ∷ 0 ∷ []
 
 abbrev names-081 : List ℕ
 names-081 = joined (slotOf (115 ∷ []) ∷ slotOf (101 ∷ []) ∷ slotOf (42 ∷ []) ∷ [])
 
-example-081 : alike (played numbers-081 names-081 []) ((2 ∷ []) ∷ []) ≡ true
-unfolding everything joined historyShown queueShown shown playedIf played alike
+example-081 : alike (played numbers-081 names-081 []) ((3 ∷ []) ∷ []) ≡ true
+unfolding everything joined historyShown queueShown pendingShown shown playedIf played alike
 example-081 = refl
 
--- raise of a star on entry
+-- row without a parent
 abbrev numbers-082 : List ℕ
-numbers-082 = 2 ∷ 1 ∷ 1 ∷ 2 ∷ 3 ∷ 4 ∷ 0 ∷ 65535 ∷ 65535 ∷ 0 ∷ 0 ∷ 0 ∷ 0 ∷ 0 ∷ 0 ∷ 0 ∷ 0 ∷ 1 ∷ 0 ∷ 0 ∷ 0 ∷ 1 ∷ 0 ∷ 0 ∷
-    0 ∷ 0 ∷ 0 ∷ 0 ∷ 1 ∷ 0 ∷ 2 ∷ 65535 ∷ 0 ∷ 0 ∷ 1 ∷ 1 ∷ 2 ∷ 1 ∷ 1 ∷ 2 ∷ 0 ∷ 3 ∷ 0 ∷ 0 ∷ 0 ∷ 1 ∷ 0 ∷ 0 ∷ 1 ∷ 1 ∷ 0 ∷ 0 ∷
-    []
+numbers-082 = 2 ∷ 1 ∷ 1 ∷ 2 ∷ 2 ∷ 3 ∷ 0 ∷ 65535 ∷ 65535 ∷ 0 ∷ 0 ∷ 0 ∷ 0 ∷ 0 ∷ 0 ∷ 0 ∷ 0 ∷ 1 ∷ 65535 ∷ 0 ∷ 0 ∷ 0 ∷ 0 ∷
+    0 ∷ 0 ∷ 0 ∷ 0 ∷ 0 ∷ 1 ∷ 0 ∷ 2 ∷ 65535 ∷ 0 ∷ 0 ∷ 1 ∷ 0 ∷ 2 ∷ 1 ∷ 1 ∷ 2 ∷ 0 ∷ 1 ∷ 0 ∷ 0 ∷ 1 ∷ 1 ∷ 0 ∷ 0 ∷ []
 
 abbrev names-082 : List ℕ
-names-082 = joined (slotOf (115 ∷ []) ∷ slotOf (101 ∷ []) ∷ slotOf (42 ∷ []) ∷ slotOf (42 ∷ []) ∷ [])
+names-082 = joined (slotOf (115 ∷ []) ∷ slotOf (101 ∷ []) ∷ slotOf (42 ∷ []) ∷ [])
 
-example-082 : alike (played numbers-082 names-082 []) ((2 ∷ []) ∷ []) ≡ true
-unfolding everything joined historyShown queueShown shown playedIf played alike
+example-082 : alike (played numbers-082 names-082 []) ((3 ∷ []) ∷ []) ≡ true
+unfolding everything joined historyShown queueShown pendingShown shown playedIf played alike
 example-082 = refl
 
--- row 0 is a state
+-- row under itself
 abbrev numbers-083 : List ℕ
-numbers-083 = 2 ∷ 1 ∷ 1 ∷ 2 ∷ 2 ∷ 3 ∷ 1 ∷ 65535 ∷ 65535 ∷ 0 ∷ 0 ∷ 0 ∷ 0 ∷ 0 ∷ 0 ∷ 0 ∷ 0 ∷ 1 ∷ 0 ∷ 0 ∷ 0 ∷ 0 ∷ 0 ∷ 0 ∷
+numbers-083 = 2 ∷ 1 ∷ 1 ∷ 2 ∷ 2 ∷ 3 ∷ 0 ∷ 65535 ∷ 65535 ∷ 0 ∷ 0 ∷ 0 ∷ 0 ∷ 0 ∷ 0 ∷ 0 ∷ 0 ∷ 1 ∷ 1 ∷ 0 ∷ 0 ∷ 0 ∷ 0 ∷ 0 ∷
     0 ∷ 0 ∷ 0 ∷ 0 ∷ 1 ∷ 0 ∷ 2 ∷ 65535 ∷ 0 ∷ 0 ∷ 1 ∷ 0 ∷ 2 ∷ 1 ∷ 1 ∷ 2 ∷ 0 ∷ 1 ∷ 0 ∷ 0 ∷ 1 ∷ 1 ∷ 0 ∷ 0 ∷ []
 
 abbrev names-083 : List ℕ
 names-083 = joined (slotOf (115 ∷ []) ∷ slotOf (101 ∷ []) ∷ slotOf (42 ∷ []) ∷ [])
 
 example-083 : alike (played numbers-083 names-083 []) ((3 ∷ []) ∷ []) ≡ true
-unfolding everything joined historyShown queueShown shown playedIf played alike
+unfolding everything joined historyShown queueShown pendingShown shown playedIf played alike
 example-083 = refl
 
--- a second root
+-- row under a later row
 abbrev numbers-084 : List ℕ
-numbers-084 = 2 ∷ 1 ∷ 1 ∷ 2 ∷ 2 ∷ 3 ∷ 0 ∷ 65535 ∷ 65535 ∷ 0 ∷ 0 ∷ 0 ∷ 0 ∷ 0 ∷ 0 ∷ 0 ∷ 0 ∷ 0 ∷ 0 ∷ 0 ∷ 0 ∷ 0 ∷ 0 ∷ 0 ∷
+numbers-084 = 2 ∷ 1 ∷ 1 ∷ 2 ∷ 2 ∷ 3 ∷ 0 ∷ 65535 ∷ 65535 ∷ 0 ∷ 0 ∷ 0 ∷ 0 ∷ 0 ∷ 0 ∷ 0 ∷ 0 ∷ 1 ∷ 1 ∷ 0 ∷ 0 ∷ 0 ∷ 0 ∷ 0 ∷
     0 ∷ 0 ∷ 0 ∷ 0 ∷ 1 ∷ 0 ∷ 2 ∷ 65535 ∷ 0 ∷ 0 ∷ 1 ∷ 0 ∷ 2 ∷ 1 ∷ 1 ∷ 2 ∷ 0 ∷ 1 ∷ 0 ∷ 0 ∷ 1 ∷ 1 ∷ 0 ∷ 0 ∷ []
 
 abbrev names-084 : List ℕ
 names-084 = joined (slotOf (115 ∷ []) ∷ slotOf (101 ∷ []) ∷ slotOf (42 ∷ []) ∷ [])
 
 example-084 : alike (played numbers-084 names-084 []) ((3 ∷ []) ∷ []) ≡ true
-unfolding everything joined historyShown queueShown shown playedIf played alike
+unfolding everything joined historyShown queueShown pendingShown shown playedIf played alike
 example-084 = refl
 
--- root with a parent
+-- row under a row that is closed
 abbrev numbers-085 : List ℕ
-numbers-085 = 2 ∷ 1 ∷ 1 ∷ 2 ∷ 2 ∷ 3 ∷ 0 ∷ 1 ∷ 65535 ∷ 0 ∷ 0 ∷ 0 ∷ 0 ∷ 0 ∷ 0 ∷ 0 ∷ 0 ∷ 1 ∷ 0 ∷ 0 ∷ 0 ∷ 0 ∷ 0 ∷ 0 ∷ 0 ∷
-    0 ∷ 0 ∷ 0 ∷ 1 ∷ 0 ∷ 2 ∷ 65535 ∷ 0 ∷ 0 ∷ 1 ∷ 0 ∷ 2 ∷ 1 ∷ 1 ∷ 2 ∷ 0 ∷ 1 ∷ 0 ∷ 0 ∷ 1 ∷ 1 ∷ 0 ∷ 0 ∷ []
+numbers-085 = 6 ∷ 1 ∷ 3 ∷ 1 ∷ 0 ∷ 6 ∷ 0 ∷ 65535 ∷ 65535 ∷ 0 ∷ 0 ∷ 0 ∷ 0 ∷ 0 ∷ 0 ∷ 0 ∷ 0 ∷ 1 ∷ 0 ∷ 0 ∷ 0 ∷ 0 ∷ 0 ∷ 0 ∷
+    0 ∷ 0 ∷ 0 ∷ 0 ∷ 1 ∷ 1 ∷ 1 ∷ 0 ∷ 0 ∷ 0 ∷ 0 ∷ 0 ∷ 0 ∷ 0 ∷ 0 ∷ 1 ∷ 1 ∷ 2 ∷ 0 ∷ 0 ∷ 0 ∷ 0 ∷ 0 ∷ 0 ∷ 0 ∷ 0 ∷ 4 ∷ 1 ∷ 3 ∷
+    0 ∷ 0 ∷ 0 ∷ 0 ∷ 0 ∷ 1 ∷ 0 ∷ 0 ∷ 5 ∷ 3 ∷ 4 ∷ 0 ∷ 0 ∷ 0 ∷ 0 ∷ 1 ∷ 1 ∷ 0 ∷ 0 ∷ 2 ∷ 0 ∷ 1 ∷ 65535 ∷ 0 ∷ 2 ∷ 1 ∷ 0 ∷ 0 ∷
+    2 ∷ 3 ∷ 4 ∷ 5 ∷ []
 
 abbrev names-085 : List ℕ
-names-085 = joined (slotOf (115 ∷ []) ∷ slotOf (101 ∷ []) ∷ slotOf (42 ∷ []) ∷ [])
+names-085 = joined (slotOf (115 ∷ []) ∷ slotOf (97 ∷ []) ∷ slotOf (98 ∷ []) ∷ slotOf (104 ∷ []) ∷ slotOf (100 ∷ []) ∷
+    slotOf (101 ∷ []) ∷ [])
 
 example-085 : alike (played numbers-085 names-085 []) ((3 ∷ []) ∷ []) ≡ true
-unfolding everything joined historyShown queueShown shown playedIf played alike
+unfolding everything joined historyShown queueShown pendingShown shown playedIf played alike
 example-085 = refl
 
--- row without a parent
+-- history under root
 abbrev numbers-086 : List ℕ
-numbers-086 = 2 ∷ 1 ∷ 1 ∷ 2 ∷ 2 ∷ 3 ∷ 0 ∷ 65535 ∷ 65535 ∷ 0 ∷ 0 ∷ 0 ∷ 0 ∷ 0 ∷ 0 ∷ 0 ∷ 0 ∷ 1 ∷ 65535 ∷ 0 ∷ 0 ∷ 0 ∷ 0 ∷
-    0 ∷ 0 ∷ 0 ∷ 0 ∷ 0 ∷ 1 ∷ 0 ∷ 2 ∷ 65535 ∷ 0 ∷ 0 ∷ 1 ∷ 0 ∷ 2 ∷ 1 ∷ 1 ∷ 2 ∷ 0 ∷ 1 ∷ 0 ∷ 0 ∷ 1 ∷ 1 ∷ 0 ∷ 0 ∷ []
+numbers-086 = 3 ∷ 1 ∷ 1 ∷ 2 ∷ 2 ∷ 4 ∷ 0 ∷ 65535 ∷ 65535 ∷ 0 ∷ 0 ∷ 0 ∷ 0 ∷ 0 ∷ 0 ∷ 0 ∷ 0 ∷ 1 ∷ 0 ∷ 0 ∷ 0 ∷ 0 ∷ 0 ∷ 0 ∷
+    0 ∷ 0 ∷ 0 ∷ 0 ∷ 5 ∷ 0 ∷ 3 ∷ 0 ∷ 0 ∷ 0 ∷ 0 ∷ 0 ∷ 0 ∷ 0 ∷ 0 ∷ 1 ∷ 0 ∷ 2 ∷ 65535 ∷ 0 ∷ 0 ∷ 1 ∷ 0 ∷ 2 ∷ 1 ∷ 1 ∷ 2 ∷ 0 ∷
+    1 ∷ 0 ∷ 0 ∷ 1 ∷ 1 ∷ 0 ∷ 0 ∷ []
 
 abbrev names-086 : List ℕ
-names-086 = joined (slotOf (115 ∷ []) ∷ slotOf (101 ∷ []) ∷ slotOf (42 ∷ []) ∷ [])
+names-086 = joined (slotOf (115 ∷ []) ∷ slotOf (101 ∷ []) ∷ slotOf (42 ∷ []) ∷ slotOf (97 ∷ 100 ∷ 100 ∷ 101 ∷ 100 ∷
+    50 ∷ []) ∷ [])
 
 example-086 : alike (played numbers-086 names-086 []) ((3 ∷ []) ∷ []) ≡ true
-unfolding everything joined historyShown queueShown shown playedIf played alike
+unfolding everything joined historyShown queueShown pendingShown shown playedIf played alike
 example-086 = refl
 
--- row under itself
+-- state under final
 abbrev numbers-087 : List ℕ
-numbers-087 = 2 ∷ 1 ∷ 1 ∷ 2 ∷ 2 ∷ 3 ∷ 0 ∷ 65535 ∷ 65535 ∷ 0 ∷ 0 ∷ 0 ∷ 0 ∷ 0 ∷ 0 ∷ 0 ∷ 0 ∷ 1 ∷ 1 ∷ 0 ∷ 0 ∷ 0 ∷ 0 ∷ 0 ∷
-    0 ∷ 0 ∷ 0 ∷ 0 ∷ 1 ∷ 0 ∷ 2 ∷ 65535 ∷ 0 ∷ 0 ∷ 1 ∷ 0 ∷ 2 ∷ 1 ∷ 1 ∷ 2 ∷ 0 ∷ 1 ∷ 0 ∷ 0 ∷ 1 ∷ 1 ∷ 0 ∷ 0 ∷ []
+numbers-087 = 4 ∷ 1 ∷ 1 ∷ 1 ∷ 0 ∷ 4 ∷ 0 ∷ 65535 ∷ 65535 ∷ 0 ∷ 0 ∷ 0 ∷ 0 ∷ 0 ∷ 0 ∷ 0 ∷ 0 ∷ 1 ∷ 0 ∷ 0 ∷ 0 ∷ 0 ∷ 0 ∷ 0 ∷
+    0 ∷ 0 ∷ 0 ∷ 0 ∷ 3 ∷ 0 ∷ 1 ∷ 0 ∷ 0 ∷ 0 ∷ 0 ∷ 0 ∷ 0 ∷ 0 ∷ 0 ∷ 1 ∷ 2 ∷ 3 ∷ 0 ∷ 0 ∷ 0 ∷ 0 ∷ 0 ∷ 0 ∷ 0 ∷ 0 ∷ 1 ∷ 0 ∷ 1 ∷
+    65535 ∷ 0 ∷ 0 ∷ 1 ∷ 0 ∷ 0 ∷ 2 ∷ 2 ∷ []
 
 abbrev names-087 : List ℕ
-names-087 = joined (slotOf (115 ∷ []) ∷ slotOf (101 ∷ []) ∷ slotOf (42 ∷ []) ∷ [])
+names-087 = joined (slotOf (115 ∷ []) ∷ slotOf (102 ∷ []) ∷ slotOf (101 ∷ []) ∷ slotOf (97 ∷ 100 ∷ 100 ∷ 101 ∷ 100 ∷
+    51 ∷ []) ∷ [])
 
 example-087 : alike (played numbers-087 names-087 []) ((3 ∷ []) ∷ []) ≡ true
-unfolding everything joined historyShown queueShown shown playedIf played alike
+unfolding everything joined historyShown queueShown pendingShown shown playedIf played alike
 example-087 = refl
 
--- row under a later row
+-- final under parallel
 abbrev numbers-088 : List ℕ
-numbers-088 = 2 ∷ 1 ∷ 1 ∷ 2 ∷ 2 ∷ 3 ∷ 0 ∷ 65535 ∷ 65535 ∷ 0 ∷ 0 ∷ 0 ∷ 0 ∷ 0 ∷ 0 ∷ 0 ∷ 0 ∷ 1 ∷ 1 ∷ 0 ∷ 0 ∷ 0 ∷ 0 ∷ 0 ∷
-    0 ∷ 0 ∷ 0 ∷ 0 ∷ 1 ∷ 0 ∷ 2 ∷ 65535 ∷ 0 ∷ 0 ∷ 1 ∷ 0 ∷ 2 ∷ 1 ∷ 1 ∷ 2 ∷ 0 ∷ 1 ∷ 0 ∷ 0 ∷ 1 ∷ 1 ∷ 0 ∷ 0 ∷ []
+numbers-088 = 4 ∷ 1 ∷ 1 ∷ 1 ∷ 0 ∷ 4 ∷ 0 ∷ 65535 ∷ 65535 ∷ 0 ∷ 0 ∷ 0 ∷ 0 ∷ 0 ∷ 0 ∷ 0 ∷ 0 ∷ 2 ∷ 0 ∷ 0 ∷ 0 ∷ 0 ∷ 0 ∷ 0 ∷
+    0 ∷ 0 ∷ 0 ∷ 0 ∷ 1 ∷ 1 ∷ 1 ∷ 0 ∷ 0 ∷ 0 ∷ 0 ∷ 0 ∷ 0 ∷ 0 ∷ 0 ∷ 3 ∷ 1 ∷ 2 ∷ 0 ∷ 0 ∷ 0 ∷ 0 ∷ 0 ∷ 0 ∷ 0 ∷ 0 ∷ 2 ∷ 0 ∷ 1 ∷
+    65535 ∷ 0 ∷ 0 ∷ 1 ∷ 0 ∷ 0 ∷ 3 ∷ 3 ∷ []
 
 abbrev names-088 : List ℕ
-names-088 = joined (slotOf (115 ∷ []) ∷ slotOf (101 ∷ []) ∷ slotOf (42 ∷ []) ∷ [])
+names-088 = joined (slotOf (112 ∷ []) ∷ slotOf (97 ∷ []) ∷ slotOf (98 ∷ []) ∷ slotOf (101 ∷ []) ∷ [])
 
 example-088 : alike (played numbers-088 names-088 []) ((3 ∷ []) ∷ []) ≡ true
-unfolding everything joined historyShown queueShown shown playedIf played alike
+unfolding everything joined historyShown queueShown pendingShown shown playedIf played alike
 example-088 = refl
 
--- row under a row that is closed
+-- state under history
 abbrev numbers-089 : List ℕ
 numbers-089 = 6 ∷ 1 ∷ 3 ∷ 1 ∷ 0 ∷ 6 ∷ 0 ∷ 65535 ∷ 65535 ∷ 0 ∷ 0 ∷ 0 ∷ 0 ∷ 0 ∷ 0 ∷ 0 ∷ 0 ∷ 1 ∷ 0 ∷ 0 ∷ 0 ∷ 0 ∷ 0 ∷ 0 ∷
     0 ∷ 0 ∷ 0 ∷ 0 ∷ 1 ∷ 1 ∷ 1 ∷ 0 ∷ 0 ∷ 0 ∷ 0 ∷ 0 ∷ 0 ∷ 0 ∷ 0 ∷ 1 ∷ 1 ∷ 2 ∷ 0 ∷ 0 ∷ 0 ∷ 0 ∷ 0 ∷ 0 ∷ 0 ∷ 0 ∷ 4 ∷ 1 ∷ 3 ∷
-    0 ∷ 0 ∷ 0 ∷ 0 ∷ 0 ∷ 1 ∷ 0 ∷ 0 ∷ 5 ∷ 3 ∷ 4 ∷ 0 ∷ 0 ∷ 0 ∷ 0 ∷ 1 ∷ 1 ∷ 0 ∷ 0 ∷ 2 ∷ 0 ∷ 1 ∷ 65535 ∷ 0 ∷ 2 ∷ 1 ∷ 0 ∷ 0 ∷
+    0 ∷ 0 ∷ 0 ∷ 0 ∷ 0 ∷ 1 ∷ 0 ∷ 0 ∷ 5 ∷ 4 ∷ 4 ∷ 0 ∷ 0 ∷ 0 ∷ 0 ∷ 1 ∷ 1 ∷ 0 ∷ 0 ∷ 2 ∷ 0 ∷ 1 ∷ 65535 ∷ 0 ∷ 2 ∷ 1 ∷ 0 ∷ 0 ∷
     2 ∷ 3 ∷ 4 ∷ 5 ∷ []
 
 abbrev names-089 : List ℕ
@@ -1501,936 +1510,880 @@ names-089 = joined (slotOf (115 ∷ []) ∷ slotOf (97 ∷ []) ∷ slotOf (98 �
     slotOf (101 ∷ []) ∷ [])
 
 example-089 : alike (played numbers-089 names-089 []) ((3 ∷ []) ∷ []) ≡ true
-unfolding everything joined historyShown queueShown shown playedIf played alike
+unfolding everything joined historyShown queueShown pendingShown shown playedIf played alike
 example-089 = refl
 
--- history under root
-abbrev numbers-090 : List ℕ
-numbers-090 = 3 ∷ 1 ∷ 1 ∷ 2 ∷ 2 ∷ 4 ∷ 0 ∷ 65535 ∷ 65535 ∷ 0 ∷ 0 ∷ 0 ∷ 0 ∷ 0 ∷ 0 ∷ 0 ∷ 0 ∷ 1 ∷ 0 ∷ 0 ∷ 0 ∷ 0 ∷ 0 ∷ 0 ∷
-    0 ∷ 0 ∷ 0 ∷ 0 ∷ 5 ∷ 0 ∷ 3 ∷ 0 ∷ 0 ∷ 0 ∷ 0 ∷ 0 ∷ 0 ∷ 0 ∷ 0 ∷ 1 ∷ 0 ∷ 2 ∷ 65535 ∷ 0 ∷ 0 ∷ 1 ∷ 0 ∷ 2 ∷ 1 ∷ 1 ∷ 2 ∷ 0 ∷
-    1 ∷ 0 ∷ 0 ∷ 1 ∷ 1 ∷ 0 ∷ 0 ∷ []
-
-abbrev names-090 : List ℕ
-names-090 = joined (slotOf (115 ∷ []) ∷ slotOf (101 ∷ []) ∷ slotOf (42 ∷ []) ∷ slotOf (97 ∷ 100 ∷ 100 ∷ 101 ∷ 100 ∷
-    50 ∷ []) ∷ [])
-
-example-090 : alike (played numbers-090 names-090 []) ((3 ∷ []) ∷ []) ≡ true
-unfolding everything joined historyShown queueShown shown playedIf played alike
-example-090 = refl
-
--- state under final
-abbrev numbers-091 : List ℕ
-numbers-091 = 4 ∷ 1 ∷ 1 ∷ 1 ∷ 0 ∷ 4 ∷ 0 ∷ 65535 ∷ 65535 ∷ 0 ∷ 0 ∷ 0 ∷ 0 ∷ 0 ∷ 0 ∷ 0 ∷ 0 ∷ 1 ∷ 0 ∷ 0 ∷ 0 ∷ 0 ∷ 0 ∷ 0 ∷
-    0 ∷ 0 ∷ 0 ∷ 0 ∷ 3 ∷ 0 ∷ 1 ∷ 0 ∷ 0 ∷ 0 ∷ 0 ∷ 0 ∷ 0 ∷ 0 ∷ 0 ∷ 1 ∷ 2 ∷ 3 ∷ 0 ∷ 0 ∷ 0 ∷ 0 ∷ 0 ∷ 0 ∷ 0 ∷ 0 ∷ 1 ∷ 0 ∷ 1 ∷
-    65535 ∷ 0 ∷ 0 ∷ 1 ∷ 0 ∷ 0 ∷ 2 ∷ 2 ∷ []
-
-abbrev names-091 : List ℕ
-names-091 = joined (slotOf (115 ∷ []) ∷ slotOf (102 ∷ []) ∷ slotOf (101 ∷ []) ∷ slotOf (97 ∷ 100 ∷ 100 ∷ 101 ∷ 100 ∷
-    51 ∷ []) ∷ [])
-
-example-091 : alike (played numbers-091 names-091 []) ((3 ∷ []) ∷ []) ≡ true
-unfolding everything joined historyShown queueShown shown playedIf played alike
-example-091 = refl
-
--- final under parallel
-abbrev numbers-092 : List ℕ
-numbers-092 = 4 ∷ 1 ∷ 1 ∷ 1 ∷ 0 ∷ 4 ∷ 0 ∷ 65535 ∷ 65535 ∷ 0 ∷ 0 ∷ 0 ∷ 0 ∷ 0 ∷ 0 ∷ 0 ∷ 0 ∷ 2 ∷ 0 ∷ 0 ∷ 0 ∷ 0 ∷ 0 ∷ 0 ∷
-    0 ∷ 0 ∷ 0 ∷ 0 ∷ 1 ∷ 1 ∷ 1 ∷ 0 ∷ 0 ∷ 0 ∷ 0 ∷ 0 ∷ 0 ∷ 0 ∷ 0 ∷ 3 ∷ 1 ∷ 2 ∷ 0 ∷ 0 ∷ 0 ∷ 0 ∷ 0 ∷ 0 ∷ 0 ∷ 0 ∷ 2 ∷ 0 ∷ 1 ∷
-    65535 ∷ 0 ∷ 0 ∷ 1 ∷ 0 ∷ 0 ∷ 3 ∷ 3 ∷ []
-
-abbrev names-092 : List ℕ
-names-092 = joined (slotOf (112 ∷ []) ∷ slotOf (97 ∷ []) ∷ slotOf (98 ∷ []) ∷ slotOf (101 ∷ []) ∷ [])
-
-example-092 : alike (played numbers-092 names-092 []) ((3 ∷ []) ∷ []) ≡ true
-unfolding everything joined historyShown queueShown shown playedIf played alike
-example-092 = refl
-
--- state under history
-abbrev numbers-093 : List ℕ
-numbers-093 = 6 ∷ 1 ∷ 3 ∷ 1 ∷ 0 ∷ 6 ∷ 0 ∷ 65535 ∷ 65535 ∷ 0 ∷ 0 ∷ 0 ∷ 0 ∷ 0 ∷ 0 ∷ 0 ∷ 0 ∷ 1 ∷ 0 ∷ 0 ∷ 0 ∷ 0 ∷ 0 ∷ 0 ∷
-    0 ∷ 0 ∷ 0 ∷ 0 ∷ 1 ∷ 1 ∷ 1 ∷ 0 ∷ 0 ∷ 0 ∷ 0 ∷ 0 ∷ 0 ∷ 0 ∷ 0 ∷ 1 ∷ 1 ∷ 2 ∷ 0 ∷ 0 ∷ 0 ∷ 0 ∷ 0 ∷ 0 ∷ 0 ∷ 0 ∷ 4 ∷ 1 ∷ 3 ∷
-    0 ∷ 0 ∷ 0 ∷ 0 ∷ 0 ∷ 1 ∷ 0 ∷ 0 ∷ 5 ∷ 4 ∷ 4 ∷ 0 ∷ 0 ∷ 0 ∷ 0 ∷ 1 ∷ 1 ∷ 0 ∷ 0 ∷ 2 ∷ 0 ∷ 1 ∷ 65535 ∷ 0 ∷ 2 ∷ 1 ∷ 0 ∷ 0 ∷
-    2 ∷ 3 ∷ 4 ∷ 5 ∷ []
-
-abbrev names-093 : List ℕ
-names-093 = joined (slotOf (115 ∷ []) ∷ slotOf (97 ∷ []) ∷ slotOf (98 ∷ []) ∷ slotOf (104 ∷ []) ∷ slotOf (100 ∷ []) ∷
-    slotOf (101 ∷ []) ∷ [])
-
-example-093 : alike (played numbers-093 names-093 []) ((3 ∷ []) ∷ []) ≡ true
-unfolding everything joined historyShown queueShown shown playedIf played alike
-example-093 = refl
-
 -- parallel without a child
-abbrev numbers-094 : List ℕ
-numbers-094 = 2 ∷ 1 ∷ 1 ∷ 2 ∷ 2 ∷ 3 ∷ 0 ∷ 65535 ∷ 65535 ∷ 0 ∷ 0 ∷ 0 ∷ 0 ∷ 0 ∷ 0 ∷ 0 ∷ 0 ∷ 2 ∷ 0 ∷ 0 ∷ 0 ∷ 0 ∷ 0 ∷ 0 ∷
+abbrev numbers-090 : List ℕ
+numbers-090 = 2 ∷ 1 ∷ 1 ∷ 2 ∷ 2 ∷ 3 ∷ 0 ∷ 65535 ∷ 65535 ∷ 0 ∷ 0 ∷ 0 ∷ 0 ∷ 0 ∷ 0 ∷ 0 ∷ 0 ∷ 2 ∷ 0 ∷ 0 ∷ 0 ∷ 0 ∷ 0 ∷ 0 ∷
     0 ∷ 0 ∷ 0 ∷ 0 ∷ 1 ∷ 0 ∷ 2 ∷ 65535 ∷ 0 ∷ 0 ∷ 1 ∷ 0 ∷ 2 ∷ 1 ∷ 1 ∷ 2 ∷ 0 ∷ 1 ∷ 0 ∷ 0 ∷ 1 ∷ 1 ∷ 0 ∷ 0 ∷ []
 
-abbrev names-094 : List ℕ
-names-094 = joined (slotOf (115 ∷ []) ∷ slotOf (101 ∷ []) ∷ slotOf (42 ∷ []) ∷ [])
+abbrev names-090 : List ℕ
+names-090 = joined (slotOf (115 ∷ []) ∷ slotOf (101 ∷ []) ∷ slotOf (42 ∷ []) ∷ [])
 
-example-094 : alike (played numbers-094 names-094 []) ((3 ∷ []) ∷ []) ≡ true
-unfolding everything joined historyShown queueShown shown playedIf played alike
-example-094 = refl
+example-090 : alike (played numbers-090 names-090 []) ((3 ∷ []) ∷ []) ≡ true
+unfolding everything joined historyShown queueShown pendingShown shown playedIf played alike
+example-090 = refl
 
 -- state with a history alone
-abbrev numbers-095 : List ℕ
-numbers-095 = 4 ∷ 1 ∷ 1 ∷ 2 ∷ 2 ∷ 5 ∷ 0 ∷ 65535 ∷ 65535 ∷ 0 ∷ 0 ∷ 0 ∷ 0 ∷ 0 ∷ 0 ∷ 0 ∷ 0 ∷ 1 ∷ 0 ∷ 0 ∷ 0 ∷ 0 ∷ 0 ∷ 0 ∷
+abbrev numbers-091 : List ℕ
+numbers-091 = 4 ∷ 1 ∷ 1 ∷ 2 ∷ 2 ∷ 5 ∷ 0 ∷ 65535 ∷ 65535 ∷ 0 ∷ 0 ∷ 0 ∷ 0 ∷ 0 ∷ 0 ∷ 0 ∷ 0 ∷ 1 ∷ 0 ∷ 0 ∷ 0 ∷ 0 ∷ 0 ∷ 0 ∷
     0 ∷ 0 ∷ 0 ∷ 0 ∷ 1 ∷ 0 ∷ 3 ∷ 0 ∷ 0 ∷ 0 ∷ 0 ∷ 0 ∷ 0 ∷ 0 ∷ 0 ∷ 4 ∷ 2 ∷ 4 ∷ 0 ∷ 0 ∷ 0 ∷ 0 ∷ 0 ∷ 0 ∷ 0 ∷ 0 ∷ 1 ∷ 0 ∷ 2 ∷
     65535 ∷ 0 ∷ 0 ∷ 1 ∷ 0 ∷ 2 ∷ 1 ∷ 1 ∷ 2 ∷ 0 ∷ 1 ∷ 0 ∷ 0 ∷ 1 ∷ 1 ∷ 0 ∷ 0 ∷ []
 
-abbrev names-095 : List ℕ
-names-095 = joined (slotOf (115 ∷ []) ∷ slotOf (101 ∷ []) ∷ slotOf (42 ∷ []) ∷ slotOf (97 ∷ 100 ∷ 100 ∷ 101 ∷ 100 ∷
+abbrev names-091 : List ℕ
+names-091 = joined (slotOf (115 ∷ []) ∷ slotOf (101 ∷ []) ∷ slotOf (42 ∷ []) ∷ slotOf (97 ∷ 100 ∷ 100 ∷ 101 ∷ 100 ∷
     50 ∷ []) ∷ slotOf (97 ∷ 100 ∷ 100 ∷ 101 ∷ 100 ∷ 51 ∷ []) ∷ [])
 
-example-095 : alike (played numbers-095 names-095 []) ((3 ∷ []) ∷ []) ≡ true
-unfolding everything joined historyShown queueShown shown playedIf played alike
-example-095 = refl
+example-091 : alike (played numbers-091 names-091 []) ((3 ∷ []) ∷ []) ≡ true
+unfolding everything joined historyShown queueShown pendingShown shown playedIf played alike
+example-091 = refl
 
 -- parallel with a history alone
-abbrev numbers-096 : List ℕ
-numbers-096 = 4 ∷ 1 ∷ 1 ∷ 2 ∷ 2 ∷ 5 ∷ 0 ∷ 65535 ∷ 65535 ∷ 0 ∷ 0 ∷ 0 ∷ 0 ∷ 0 ∷ 0 ∷ 0 ∷ 0 ∷ 1 ∷ 0 ∷ 0 ∷ 0 ∷ 0 ∷ 0 ∷ 0 ∷
+abbrev numbers-092 : List ℕ
+numbers-092 = 4 ∷ 1 ∷ 1 ∷ 2 ∷ 2 ∷ 5 ∷ 0 ∷ 65535 ∷ 65535 ∷ 0 ∷ 0 ∷ 0 ∷ 0 ∷ 0 ∷ 0 ∷ 0 ∷ 0 ∷ 1 ∷ 0 ∷ 0 ∷ 0 ∷ 0 ∷ 0 ∷ 0 ∷
     0 ∷ 0 ∷ 0 ∷ 0 ∷ 2 ∷ 0 ∷ 3 ∷ 0 ∷ 0 ∷ 0 ∷ 0 ∷ 0 ∷ 0 ∷ 0 ∷ 0 ∷ 5 ∷ 2 ∷ 4 ∷ 0 ∷ 0 ∷ 0 ∷ 0 ∷ 0 ∷ 0 ∷ 0 ∷ 0 ∷ 1 ∷ 0 ∷ 2 ∷
     65535 ∷ 0 ∷ 0 ∷ 1 ∷ 0 ∷ 2 ∷ 1 ∷ 1 ∷ 2 ∷ 0 ∷ 1 ∷ 0 ∷ 0 ∷ 1 ∷ 1 ∷ 0 ∷ 0 ∷ []
 
-abbrev names-096 : List ℕ
-names-096 = joined (slotOf (115 ∷ []) ∷ slotOf (101 ∷ []) ∷ slotOf (42 ∷ []) ∷ slotOf (97 ∷ 100 ∷ 100 ∷ 101 ∷ 100 ∷
+abbrev names-092 : List ℕ
+names-092 = joined (slotOf (115 ∷ []) ∷ slotOf (101 ∷ []) ∷ slotOf (42 ∷ []) ∷ slotOf (97 ∷ 100 ∷ 100 ∷ 101 ∷ 100 ∷
     50 ∷ []) ∷ slotOf (97 ∷ 100 ∷ 100 ∷ 101 ∷ 100 ∷ 51 ∷ []) ∷ [])
 
-example-096 : alike (played numbers-096 names-096 []) ((3 ∷ []) ∷ []) ≡ true
-unfolding everything joined historyShown queueShown shown playedIf played alike
-example-096 = refl
+example-092 : alike (played numbers-092 names-092 []) ((3 ∷ []) ∷ []) ≡ true
+unfolding everything joined historyShown queueShown pendingShown shown playedIf played alike
+example-092 = refl
 
 -- root alone
+abbrev numbers-093 : List ℕ
+numbers-093 = 1 ∷ 0 ∷ 0 ∷ 0 ∷ 0 ∷ 3 ∷ 0 ∷ 65535 ∷ 65535 ∷ 0 ∷ 0 ∷ 0 ∷ 0 ∷ 0 ∷ 0 ∷ 0 ∷ 0 ∷ []
+
+abbrev names-093 : List ℕ
+names-093 = joined (slotOf (115 ∷ []) ∷ slotOf (101 ∷ []) ∷ slotOf (42 ∷ []) ∷ [])
+
+example-093 : alike (played numbers-093 names-093 []) ((3 ∷ []) ∷ []) ≡ true
+unfolding everything joined historyShown queueShown pendingShown shown playedIf played alike
+example-093 = refl
+
+-- two roots of two trees
+abbrev numbers-094 : List ℕ
+numbers-094 = 4 ∷ 1 ∷ 1 ∷ 2 ∷ 2 ∷ 5 ∷ 0 ∷ 65535 ∷ 65535 ∷ 0 ∷ 0 ∷ 0 ∷ 0 ∷ 0 ∷ 0 ∷ 0 ∷ 0 ∷ 1 ∷ 0 ∷ 0 ∷ 0 ∷ 0 ∷ 0 ∷ 0 ∷
+    0 ∷ 0 ∷ 0 ∷ 0 ∷ 0 ∷ 65535 ∷ 3 ∷ 0 ∷ 0 ∷ 0 ∷ 0 ∷ 0 ∷ 0 ∷ 0 ∷ 0 ∷ 1 ∷ 2 ∷ 4 ∷ 0 ∷ 0 ∷ 0 ∷ 0 ∷ 0 ∷ 0 ∷ 0 ∷ 0 ∷ 1 ∷ 0 ∷
+    2 ∷ 65535 ∷ 0 ∷ 0 ∷ 1 ∷ 0 ∷ 2 ∷ 1 ∷ 1 ∷ 2 ∷ 0 ∷ 1 ∷ 0 ∷ 0 ∷ 1 ∷ 1 ∷ 0 ∷ 0 ∷ []
+
+abbrev names-094 : List ℕ
+names-094 = joined (slotOf (115 ∷ []) ∷ slotOf (101 ∷ []) ∷ slotOf (42 ∷ []) ∷ slotOf (97 ∷ 100 ∷ 100 ∷ 101 ∷ 100 ∷
+    50 ∷ []) ∷ slotOf (97 ∷ 100 ∷ 100 ∷ 101 ∷ 100 ∷ 51 ∷ []) ∷ [])
+
+example-094 : alike (played numbers-094 names-094 []) ((3 ∷ []) ∷ []) ≡ true
+unfolding everything joined historyShown queueShown pendingShown shown playedIf played alike
+example-094 = refl
+
+-- initial list holds its owner
+abbrev numbers-095 : List ℕ
+numbers-095 = 2 ∷ 1 ∷ 2 ∷ 2 ∷ 2 ∷ 3 ∷ 0 ∷ 65535 ∷ 65535 ∷ 0 ∷ 0 ∷ 0 ∷ 0 ∷ 0 ∷ 1 ∷ 0 ∷ 0 ∷ 1 ∷ 0 ∷ 0 ∷ 0 ∷ 0 ∷ 0 ∷ 0 ∷
+    0 ∷ 0 ∷ 0 ∷ 0 ∷ 1 ∷ 0 ∷ 2 ∷ 65535 ∷ 0 ∷ 1 ∷ 1 ∷ 0 ∷ 2 ∷ 0 ∷ 1 ∷ 1 ∷ 2 ∷ 0 ∷ 1 ∷ 0 ∷ 0 ∷ 1 ∷ 1 ∷ 0 ∷ 0 ∷ []
+
+abbrev names-095 : List ℕ
+names-095 = joined (slotOf (115 ∷ []) ∷ slotOf (101 ∷ []) ∷ slotOf (42 ∷ []) ∷ [])
+
+example-095 : alike (played numbers-095 names-095 []) ((4 ∷ []) ∷ []) ≡ true
+unfolding everything joined historyShown queueShown pendingShown shown playedIf played alike
+example-095 = refl
+
+-- initial list holds a row outside
+abbrev numbers-096 : List ℕ
+numbers-096 = 6 ∷ 2 ∷ 4 ∷ 2 ∷ 0 ∷ 6 ∷ 0 ∷ 65535 ∷ 65535 ∷ 0 ∷ 0 ∷ 0 ∷ 0 ∷ 0 ∷ 0 ∷ 0 ∷ 0 ∷ 1 ∷ 0 ∷ 0 ∷ 0 ∷ 0 ∷ 0 ∷ 0 ∷
+    0 ∷ 0 ∷ 0 ∷ 0 ∷ 1 ∷ 1 ∷ 1 ∷ 0 ∷ 0 ∷ 0 ∷ 0 ∷ 0 ∷ 1 ∷ 0 ∷ 0 ∷ 1 ∷ 2 ∷ 2 ∷ 0 ∷ 0 ∷ 0 ∷ 0 ∷ 0 ∷ 0 ∷ 0 ∷ 0 ∷ 4 ∷ 1 ∷ 3 ∷
+    0 ∷ 0 ∷ 0 ∷ 0 ∷ 1 ∷ 1 ∷ 0 ∷ 0 ∷ 1 ∷ 0 ∷ 4 ∷ 0 ∷ 0 ∷ 0 ∷ 0 ∷ 0 ∷ 0 ∷ 0 ∷ 0 ∷ 3 ∷ 0 ∷ 1 ∷ 65535 ∷ 0 ∷ 2 ∷ 1 ∷ 0 ∷ 0 ∷
+    5 ∷ 1 ∷ 1 ∷ 65535 ∷ 0 ∷ 3 ∷ 1 ∷ 0 ∷ 0 ∷ 5 ∷ 2 ∷ 4 ∷ 1 ∷ 5 ∷ 5 ∷ []
+
+abbrev names-096 : List ℕ
+names-096 = joined (slotOf (115 ∷ []) ∷ slotOf (97 ∷ []) ∷ slotOf (120 ∷ []) ∷ slotOf (104 ∷ []) ∷ slotOf (122 ∷ []) ∷
+    slotOf (101 ∷ []) ∷ [])
+
+example-096 : alike (played numbers-096 names-096 []) ((4 ∷ []) ∷ []) ≡ true
+unfolding everything joined historyShown queueShown pendingShown shown playedIf played alike
+example-096 = refl
+
+-- initial list holds the root
 abbrev numbers-097 : List ℕ
-numbers-097 = 1 ∷ 0 ∷ 0 ∷ 0 ∷ 0 ∷ 3 ∷ 0 ∷ 65535 ∷ 65535 ∷ 0 ∷ 0 ∷ 0 ∷ 0 ∷ 0 ∷ 0 ∷ 0 ∷ 0 ∷ []
+numbers-097 = 2 ∷ 1 ∷ 2 ∷ 2 ∷ 2 ∷ 3 ∷ 0 ∷ 65535 ∷ 65535 ∷ 0 ∷ 0 ∷ 0 ∷ 0 ∷ 0 ∷ 1 ∷ 0 ∷ 0 ∷ 1 ∷ 0 ∷ 0 ∷ 0 ∷ 0 ∷ 0 ∷ 0 ∷
+    0 ∷ 0 ∷ 0 ∷ 0 ∷ 1 ∷ 0 ∷ 2 ∷ 65535 ∷ 0 ∷ 1 ∷ 1 ∷ 0 ∷ 2 ∷ 0 ∷ 1 ∷ 1 ∷ 2 ∷ 0 ∷ 1 ∷ 0 ∷ 0 ∷ 1 ∷ 1 ∷ 0 ∷ 0 ∷ []
 
 abbrev names-097 : List ℕ
 names-097 = joined (slotOf (115 ∷ []) ∷ slotOf (101 ∷ []) ∷ slotOf (42 ∷ []) ∷ [])
 
-example-097 : alike (played numbers-097 names-097 []) ((3 ∷ []) ∷ []) ≡ true
-unfolding everything joined historyShown queueShown shown playedIf played alike
+example-097 : alike (played numbers-097 names-097 []) ((4 ∷ []) ∷ []) ≡ true
+unfolding everything joined historyShown queueShown pendingShown shown playedIf played alike
 example-097 = refl
 
--- two roots of two trees
+-- initial list holds two children
 abbrev numbers-098 : List ℕ
-numbers-098 = 4 ∷ 1 ∷ 1 ∷ 2 ∷ 2 ∷ 5 ∷ 0 ∷ 65535 ∷ 65535 ∷ 0 ∷ 0 ∷ 0 ∷ 0 ∷ 0 ∷ 0 ∷ 0 ∷ 0 ∷ 1 ∷ 0 ∷ 0 ∷ 0 ∷ 0 ∷ 0 ∷ 0 ∷
-    0 ∷ 0 ∷ 0 ∷ 0 ∷ 0 ∷ 65535 ∷ 3 ∷ 0 ∷ 0 ∷ 0 ∷ 0 ∷ 0 ∷ 0 ∷ 0 ∷ 0 ∷ 1 ∷ 2 ∷ 4 ∷ 0 ∷ 0 ∷ 0 ∷ 0 ∷ 0 ∷ 0 ∷ 0 ∷ 0 ∷ 1 ∷ 0 ∷
-    2 ∷ 65535 ∷ 0 ∷ 0 ∷ 1 ∷ 0 ∷ 2 ∷ 1 ∷ 1 ∷ 2 ∷ 0 ∷ 1 ∷ 0 ∷ 0 ∷ 1 ∷ 1 ∷ 0 ∷ 0 ∷ []
+numbers-098 = 3 ∷ 1 ∷ 3 ∷ 1 ∷ 0 ∷ 3 ∷ 0 ∷ 65535 ∷ 65535 ∷ 0 ∷ 0 ∷ 0 ∷ 0 ∷ 0 ∷ 2 ∷ 0 ∷ 0 ∷ 1 ∷ 0 ∷ 0 ∷ 0 ∷ 0 ∷ 0 ∷ 0 ∷
+    0 ∷ 0 ∷ 0 ∷ 0 ∷ 3 ∷ 0 ∷ 1 ∷ 0 ∷ 0 ∷ 0 ∷ 0 ∷ 0 ∷ 0 ∷ 0 ∷ 0 ∷ 1 ∷ 0 ∷ 1 ∷ 65535 ∷ 0 ∷ 2 ∷ 1 ∷ 0 ∷ 0 ∷ 1 ∷ 2 ∷ 2 ∷ 2 ∷
+    []
 
 abbrev names-098 : List ℕ
-names-098 = joined (slotOf (115 ∷ []) ∷ slotOf (101 ∷ []) ∷ slotOf (42 ∷ []) ∷ slotOf (97 ∷ 100 ∷ 100 ∷ 101 ∷ 100 ∷
-    50 ∷ []) ∷ slotOf (97 ∷ 100 ∷ 100 ∷ 101 ∷ 100 ∷ 51 ∷ []) ∷ [])
+names-098 = joined (slotOf (115 ∷ []) ∷ slotOf (102 ∷ []) ∷ slotOf (101 ∷ []) ∷ [])
 
-example-098 : alike (played numbers-098 names-098 []) ((3 ∷ []) ∷ []) ≡ true
-unfolding everything joined historyShown queueShown shown playedIf played alike
+example-098 : alike (played numbers-098 names-098 []) ((4 ∷ []) ∷ []) ≡ true
+unfolding everything joined historyShown queueShown pendingShown shown playedIf played alike
 example-098 = refl
 
--- initial list holds its owner
+-- initial list holds a row twice
 abbrev numbers-099 : List ℕ
-numbers-099 = 2 ∷ 1 ∷ 2 ∷ 2 ∷ 2 ∷ 3 ∷ 0 ∷ 65535 ∷ 65535 ∷ 0 ∷ 0 ∷ 0 ∷ 0 ∷ 0 ∷ 1 ∷ 0 ∷ 0 ∷ 1 ∷ 0 ∷ 0 ∷ 0 ∷ 0 ∷ 0 ∷ 0 ∷
-    0 ∷ 0 ∷ 0 ∷ 0 ∷ 1 ∷ 0 ∷ 2 ∷ 65535 ∷ 0 ∷ 1 ∷ 1 ∷ 0 ∷ 2 ∷ 0 ∷ 1 ∷ 1 ∷ 2 ∷ 0 ∷ 1 ∷ 0 ∷ 0 ∷ 1 ∷ 1 ∷ 0 ∷ 0 ∷ []
+numbers-099 = 2 ∷ 1 ∷ 3 ∷ 2 ∷ 2 ∷ 3 ∷ 0 ∷ 65535 ∷ 65535 ∷ 0 ∷ 0 ∷ 0 ∷ 0 ∷ 0 ∷ 2 ∷ 0 ∷ 0 ∷ 1 ∷ 0 ∷ 0 ∷ 0 ∷ 0 ∷ 0 ∷ 0 ∷
+    0 ∷ 0 ∷ 0 ∷ 0 ∷ 1 ∷ 0 ∷ 2 ∷ 65535 ∷ 0 ∷ 2 ∷ 1 ∷ 0 ∷ 2 ∷ 1 ∷ 1 ∷ 1 ∷ 1 ∷ 2 ∷ 0 ∷ 1 ∷ 0 ∷ 0 ∷ 1 ∷ 1 ∷ 0 ∷ 0 ∷ []
 
 abbrev names-099 : List ℕ
 names-099 = joined (slotOf (115 ∷ []) ∷ slotOf (101 ∷ []) ∷ slotOf (42 ∷ []) ∷ [])
 
 example-099 : alike (played numbers-099 names-099 []) ((4 ∷ []) ∷ []) ≡ true
-unfolding everything joined historyShown queueShown shown playedIf played alike
+unfolding everything joined historyShown queueShown pendingShown shown playedIf played alike
 example-099 = refl
 
--- initial list holds a row outside
-abbrev numbers-100 : List ℕ
-numbers-100 = 6 ∷ 2 ∷ 4 ∷ 2 ∷ 0 ∷ 6 ∷ 0 ∷ 65535 ∷ 65535 ∷ 0 ∷ 0 ∷ 0 ∷ 0 ∷ 0 ∷ 0 ∷ 0 ∷ 0 ∷ 1 ∷ 0 ∷ 0 ∷ 0 ∷ 0 ∷ 0 ∷ 0 ∷
-    0 ∷ 0 ∷ 0 ∷ 0 ∷ 1 ∷ 1 ∷ 1 ∷ 0 ∷ 0 ∷ 0 ∷ 0 ∷ 0 ∷ 1 ∷ 0 ∷ 0 ∷ 1 ∷ 2 ∷ 2 ∷ 0 ∷ 0 ∷ 0 ∷ 0 ∷ 0 ∷ 0 ∷ 0 ∷ 0 ∷ 4 ∷ 1 ∷ 3 ∷
-    0 ∷ 0 ∷ 0 ∷ 0 ∷ 1 ∷ 1 ∷ 0 ∷ 0 ∷ 1 ∷ 0 ∷ 4 ∷ 0 ∷ 0 ∷ 0 ∷ 0 ∷ 0 ∷ 0 ∷ 0 ∷ 0 ∷ 3 ∷ 0 ∷ 1 ∷ 65535 ∷ 0 ∷ 2 ∷ 1 ∷ 0 ∷ 0 ∷
-    5 ∷ 1 ∷ 1 ∷ 65535 ∷ 0 ∷ 3 ∷ 1 ∷ 0 ∷ 0 ∷ 5 ∷ 2 ∷ 4 ∷ 1 ∷ 5 ∷ 5 ∷ []
-
-abbrev names-100 : List ℕ
-names-100 = joined (slotOf (115 ∷ []) ∷ slotOf (97 ∷ []) ∷ slotOf (120 ∷ []) ∷ slotOf (104 ∷ []) ∷ slotOf (122 ∷ []) ∷
-    slotOf (101 ∷ []) ∷ [])
-
-example-100 : alike (played numbers-100 names-100 []) ((4 ∷ []) ∷ []) ≡ true
-unfolding everything joined historyShown queueShown shown playedIf played alike
-example-100 = refl
-
--- initial list holds the root
-abbrev numbers-101 : List ℕ
-numbers-101 = 2 ∷ 1 ∷ 2 ∷ 2 ∷ 2 ∷ 3 ∷ 0 ∷ 65535 ∷ 65535 ∷ 0 ∷ 0 ∷ 0 ∷ 0 ∷ 0 ∷ 1 ∷ 0 ∷ 0 ∷ 1 ∷ 0 ∷ 0 ∷ 0 ∷ 0 ∷ 0 ∷ 0 ∷
-    0 ∷ 0 ∷ 0 ∷ 0 ∷ 1 ∷ 0 ∷ 2 ∷ 65535 ∷ 0 ∷ 1 ∷ 1 ∷ 0 ∷ 2 ∷ 0 ∷ 1 ∷ 1 ∷ 2 ∷ 0 ∷ 1 ∷ 0 ∷ 0 ∷ 1 ∷ 1 ∷ 0 ∷ 0 ∷ []
-
-abbrev names-101 : List ℕ
-names-101 = joined (slotOf (115 ∷ []) ∷ slotOf (101 ∷ []) ∷ slotOf (42 ∷ []) ∷ [])
-
-example-101 : alike (played numbers-101 names-101 []) ((4 ∷ []) ∷ []) ≡ true
-unfolding everything joined historyShown queueShown shown playedIf played alike
-example-101 = refl
-
--- initial list holds two children
-abbrev numbers-102 : List ℕ
-numbers-102 = 3 ∷ 1 ∷ 3 ∷ 1 ∷ 0 ∷ 3 ∷ 0 ∷ 65535 ∷ 65535 ∷ 0 ∷ 0 ∷ 0 ∷ 0 ∷ 0 ∷ 2 ∷ 0 ∷ 0 ∷ 1 ∷ 0 ∷ 0 ∷ 0 ∷ 0 ∷ 0 ∷ 0 ∷
-    0 ∷ 0 ∷ 0 ∷ 0 ∷ 3 ∷ 0 ∷ 1 ∷ 0 ∷ 0 ∷ 0 ∷ 0 ∷ 0 ∷ 0 ∷ 0 ∷ 0 ∷ 1 ∷ 0 ∷ 1 ∷ 65535 ∷ 0 ∷ 2 ∷ 1 ∷ 0 ∷ 0 ∷ 1 ∷ 2 ∷ 2 ∷ 2 ∷
-    []
-
-abbrev names-102 : List ℕ
-names-102 = joined (slotOf (115 ∷ []) ∷ slotOf (102 ∷ []) ∷ slotOf (101 ∷ []) ∷ [])
-
-example-102 : alike (played numbers-102 names-102 []) ((4 ∷ []) ∷ []) ≡ true
-unfolding everything joined historyShown queueShown shown playedIf played alike
-example-102 = refl
-
--- initial list holds a row twice
-abbrev numbers-103 : List ℕ
-numbers-103 = 2 ∷ 1 ∷ 3 ∷ 2 ∷ 2 ∷ 3 ∷ 0 ∷ 65535 ∷ 65535 ∷ 0 ∷ 0 ∷ 0 ∷ 0 ∷ 0 ∷ 2 ∷ 0 ∷ 0 ∷ 1 ∷ 0 ∷ 0 ∷ 0 ∷ 0 ∷ 0 ∷ 0 ∷
-    0 ∷ 0 ∷ 0 ∷ 0 ∷ 1 ∷ 0 ∷ 2 ∷ 65535 ∷ 0 ∷ 2 ∷ 1 ∷ 0 ∷ 2 ∷ 1 ∷ 1 ∷ 1 ∷ 1 ∷ 2 ∷ 0 ∷ 1 ∷ 0 ∷ 0 ∷ 1 ∷ 1 ∷ 0 ∷ 0 ∷ []
-
-abbrev names-103 : List ℕ
-names-103 = joined (slotOf (115 ∷ []) ∷ slotOf (101 ∷ []) ∷ slotOf (42 ∷ []) ∷ [])
-
-example-103 : alike (played numbers-103 names-103 []) ((4 ∷ []) ∷ []) ≡ true
-unfolding everything joined historyShown queueShown shown playedIf played alike
-example-103 = refl
-
 -- initial list holds a row and its ancestor
-abbrev numbers-104 : List ℕ
-numbers-104 = 4 ∷ 2 ∷ 4 ∷ 2 ∷ 0 ∷ 4 ∷ 0 ∷ 65535 ∷ 65535 ∷ 0 ∷ 0 ∷ 0 ∷ 0 ∷ 0 ∷ 2 ∷ 0 ∷ 0 ∷ 1 ∷ 0 ∷ 0 ∷ 0 ∷ 0 ∷ 0 ∷ 0 ∷
+abbrev numbers-100 : List ℕ
+numbers-100 = 4 ∷ 2 ∷ 4 ∷ 2 ∷ 0 ∷ 4 ∷ 0 ∷ 65535 ∷ 65535 ∷ 0 ∷ 0 ∷ 0 ∷ 0 ∷ 0 ∷ 2 ∷ 0 ∷ 0 ∷ 1 ∷ 0 ∷ 0 ∷ 0 ∷ 0 ∷ 0 ∷ 0 ∷
     0 ∷ 0 ∷ 0 ∷ 0 ∷ 1 ∷ 1 ∷ 1 ∷ 0 ∷ 0 ∷ 0 ∷ 0 ∷ 0 ∷ 0 ∷ 0 ∷ 0 ∷ 1 ∷ 1 ∷ 2 ∷ 0 ∷ 0 ∷ 0 ∷ 0 ∷ 0 ∷ 0 ∷ 0 ∷ 0 ∷ 1 ∷ 0 ∷ 1 ∷
     65535 ∷ 0 ∷ 2 ∷ 1 ∷ 0 ∷ 0 ∷ 2 ∷ 1 ∷ 1 ∷ 65535 ∷ 0 ∷ 3 ∷ 1 ∷ 0 ∷ 0 ∷ 2 ∷ 1 ∷ 3 ∷ 3 ∷ 3 ∷ 3 ∷ []
 
-abbrev names-104 : List ℕ
-names-104 = joined (slotOf (115 ∷ []) ∷ slotOf (97 ∷ []) ∷ slotOf (98 ∷ []) ∷ slotOf (101 ∷ []) ∷ [])
+abbrev names-100 : List ℕ
+names-100 = joined (slotOf (115 ∷ []) ∷ slotOf (97 ∷ []) ∷ slotOf (98 ∷ []) ∷ slotOf (101 ∷ []) ∷ [])
 
-example-104 : alike (played numbers-104 names-104 []) ((4 ∷ []) ∷ []) ≡ true
-unfolding everything joined historyShown queueShown shown playedIf played alike
-example-104 = refl
+example-100 : alike (played numbers-100 names-100 []) ((4 ∷ []) ∷ []) ≡ true
+unfolding everything joined historyShown queueShown pendingShown shown playedIf played alike
+example-100 = refl
 
 -- block without an initial list
-abbrev numbers-105 : List ℕ
-numbers-105 = 4 ∷ 2 ∷ 2 ∷ 2 ∷ 1 ∷ 4 ∷ 0 ∷ 65535 ∷ 65535 ∷ 0 ∷ 0 ∷ 0 ∷ 0 ∷ 0 ∷ 0 ∷ 0 ∷ 0 ∷ 1 ∷ 0 ∷ 0 ∷ 0 ∷ 0 ∷ 0 ∷ 0 ∷
+abbrev numbers-101 : List ℕ
+numbers-101 = 4 ∷ 2 ∷ 2 ∷ 2 ∷ 1 ∷ 4 ∷ 0 ∷ 65535 ∷ 65535 ∷ 0 ∷ 0 ∷ 0 ∷ 0 ∷ 0 ∷ 0 ∷ 0 ∷ 0 ∷ 1 ∷ 0 ∷ 0 ∷ 0 ∷ 0 ∷ 0 ∷ 0 ∷
     0 ∷ 0 ∷ 0 ∷ 1 ∷ 1 ∷ 1 ∷ 1 ∷ 0 ∷ 0 ∷ 0 ∷ 0 ∷ 0 ∷ 0 ∷ 0 ∷ 0 ∷ 1 ∷ 1 ∷ 2 ∷ 0 ∷ 0 ∷ 0 ∷ 0 ∷ 0 ∷ 0 ∷ 0 ∷ 0 ∷ 1 ∷ 0 ∷ 1 ∷
     65535 ∷ 0 ∷ 0 ∷ 1 ∷ 0 ∷ 0 ∷ 2 ∷ 1 ∷ 1 ∷ 65535 ∷ 0 ∷ 1 ∷ 1 ∷ 0 ∷ 0 ∷ 3 ∷ 3 ∷ 3 ∷ 3 ∷ 1 ∷ 7 ∷ 0 ∷ 0 ∷ []
 
-abbrev names-105 : List ℕ
-names-105 = joined (slotOf (115 ∷ []) ∷ slotOf (97 ∷ []) ∷ slotOf (98 ∷ []) ∷ slotOf (101 ∷ []) ∷ [])
+abbrev names-101 : List ℕ
+names-101 = joined (slotOf (115 ∷ []) ∷ slotOf (97 ∷ []) ∷ slotOf (98 ∷ []) ∷ slotOf (101 ∷ []) ∷ [])
 
-example-105 : alike (played numbers-105 names-105 []) ((4 ∷ []) ∷ []) ≡ true
-unfolding everything joined historyShown queueShown shown playedIf played alike
-example-105 = refl
+example-101 : alike (played numbers-101 names-101 []) ((4 ∷ []) ∷ []) ≡ true
+unfolding everything joined historyShown queueShown pendingShown shown playedIf played alike
+example-101 = refl
 
 -- default list empty
-abbrev numbers-106 : List ℕ
-numbers-106 = 6 ∷ 1 ∷ 2 ∷ 1 ∷ 0 ∷ 6 ∷ 0 ∷ 65535 ∷ 65535 ∷ 0 ∷ 0 ∷ 0 ∷ 0 ∷ 0 ∷ 0 ∷ 0 ∷ 0 ∷ 1 ∷ 0 ∷ 0 ∷ 0 ∷ 0 ∷ 0 ∷ 0 ∷
+abbrev numbers-102 : List ℕ
+numbers-102 = 6 ∷ 1 ∷ 2 ∷ 1 ∷ 0 ∷ 6 ∷ 0 ∷ 65535 ∷ 65535 ∷ 0 ∷ 0 ∷ 0 ∷ 0 ∷ 0 ∷ 0 ∷ 0 ∷ 0 ∷ 1 ∷ 0 ∷ 0 ∷ 0 ∷ 0 ∷ 0 ∷ 0 ∷
     0 ∷ 0 ∷ 0 ∷ 0 ∷ 1 ∷ 1 ∷ 1 ∷ 0 ∷ 0 ∷ 0 ∷ 0 ∷ 0 ∷ 0 ∷ 0 ∷ 0 ∷ 1 ∷ 1 ∷ 2 ∷ 0 ∷ 0 ∷ 0 ∷ 0 ∷ 0 ∷ 0 ∷ 0 ∷ 0 ∷ 4 ∷ 1 ∷ 3 ∷
     0 ∷ 0 ∷ 0 ∷ 0 ∷ 0 ∷ 1 ∷ 0 ∷ 0 ∷ 5 ∷ 1 ∷ 4 ∷ 0 ∷ 0 ∷ 0 ∷ 0 ∷ 0 ∷ 0 ∷ 0 ∷ 0 ∷ 2 ∷ 0 ∷ 1 ∷ 65535 ∷ 0 ∷ 1 ∷ 1 ∷ 0 ∷ 0 ∷
     2 ∷ 4 ∷ 5 ∷ []
 
-abbrev names-106 : List ℕ
-names-106 = joined (slotOf (115 ∷ []) ∷ slotOf (97 ∷ []) ∷ slotOf (98 ∷ []) ∷ slotOf (104 ∷ []) ∷ slotOf (100 ∷ []) ∷
+abbrev names-102 : List ℕ
+names-102 = joined (slotOf (115 ∷ []) ∷ slotOf (97 ∷ []) ∷ slotOf (98 ∷ []) ∷ slotOf (104 ∷ []) ∷ slotOf (100 ∷ []) ∷
     slotOf (101 ∷ []) ∷ [])
 
-example-106 : alike (played numbers-106 names-106 []) ((4 ∷ []) ∷ []) ≡ true
-unfolding everything joined historyShown queueShown shown playedIf played alike
-example-106 = refl
+example-102 : alike (played numbers-102 names-102 []) ((4 ∷ []) ∷ []) ≡ true
+unfolding everything joined historyShown queueShown pendingShown shown playedIf played alike
+example-102 = refl
 
 -- default list holds a history
-abbrev numbers-107 : List ℕ
-numbers-107 = 6 ∷ 1 ∷ 3 ∷ 1 ∷ 0 ∷ 6 ∷ 0 ∷ 65535 ∷ 65535 ∷ 0 ∷ 0 ∷ 0 ∷ 0 ∷ 0 ∷ 0 ∷ 0 ∷ 0 ∷ 1 ∷ 0 ∷ 0 ∷ 0 ∷ 0 ∷ 0 ∷ 0 ∷
+abbrev numbers-103 : List ℕ
+numbers-103 = 6 ∷ 1 ∷ 3 ∷ 1 ∷ 0 ∷ 6 ∷ 0 ∷ 65535 ∷ 65535 ∷ 0 ∷ 0 ∷ 0 ∷ 0 ∷ 0 ∷ 0 ∷ 0 ∷ 0 ∷ 1 ∷ 0 ∷ 0 ∷ 0 ∷ 0 ∷ 0 ∷ 0 ∷
     0 ∷ 0 ∷ 0 ∷ 0 ∷ 1 ∷ 1 ∷ 1 ∷ 0 ∷ 0 ∷ 0 ∷ 0 ∷ 0 ∷ 0 ∷ 0 ∷ 0 ∷ 1 ∷ 1 ∷ 2 ∷ 0 ∷ 0 ∷ 0 ∷ 0 ∷ 0 ∷ 0 ∷ 0 ∷ 0 ∷ 4 ∷ 1 ∷ 3 ∷
     0 ∷ 0 ∷ 0 ∷ 0 ∷ 0 ∷ 1 ∷ 0 ∷ 0 ∷ 5 ∷ 1 ∷ 4 ∷ 0 ∷ 0 ∷ 0 ∷ 0 ∷ 1 ∷ 1 ∷ 0 ∷ 0 ∷ 2 ∷ 0 ∷ 1 ∷ 65535 ∷ 0 ∷ 2 ∷ 1 ∷ 0 ∷ 0 ∷
     2 ∷ 5 ∷ 4 ∷ 5 ∷ []
+
+abbrev names-103 : List ℕ
+names-103 = joined (slotOf (115 ∷ []) ∷ slotOf (97 ∷ []) ∷ slotOf (98 ∷ []) ∷ slotOf (104 ∷ []) ∷ slotOf (100 ∷ []) ∷
+    slotOf (101 ∷ []) ∷ [])
+
+example-103 : alike (played numbers-103 names-103 []) ((4 ∷ []) ∷ []) ≡ true
+unfolding everything joined historyShown queueShown pendingShown shown playedIf played alike
+example-103 = refl
+
+-- default list holds the parent
+abbrev numbers-104 : List ℕ
+numbers-104 = 6 ∷ 1 ∷ 3 ∷ 1 ∷ 0 ∷ 6 ∷ 0 ∷ 65535 ∷ 65535 ∷ 0 ∷ 0 ∷ 0 ∷ 0 ∷ 0 ∷ 0 ∷ 0 ∷ 0 ∷ 1 ∷ 0 ∷ 0 ∷ 0 ∷ 0 ∷ 0 ∷ 0 ∷
+    0 ∷ 0 ∷ 0 ∷ 0 ∷ 1 ∷ 1 ∷ 1 ∷ 0 ∷ 0 ∷ 0 ∷ 0 ∷ 0 ∷ 0 ∷ 0 ∷ 0 ∷ 1 ∷ 1 ∷ 2 ∷ 0 ∷ 0 ∷ 0 ∷ 0 ∷ 0 ∷ 0 ∷ 0 ∷ 0 ∷ 4 ∷ 1 ∷ 3 ∷
+    0 ∷ 0 ∷ 0 ∷ 0 ∷ 0 ∷ 1 ∷ 0 ∷ 0 ∷ 5 ∷ 1 ∷ 4 ∷ 0 ∷ 0 ∷ 0 ∷ 0 ∷ 1 ∷ 1 ∷ 0 ∷ 0 ∷ 2 ∷ 0 ∷ 1 ∷ 65535 ∷ 0 ∷ 2 ∷ 1 ∷ 0 ∷ 0 ∷
+    2 ∷ 1 ∷ 4 ∷ 5 ∷ []
+
+abbrev names-104 : List ℕ
+names-104 = joined (slotOf (115 ∷ []) ∷ slotOf (97 ∷ []) ∷ slotOf (98 ∷ []) ∷ slotOf (104 ∷ []) ∷ slotOf (100 ∷ []) ∷
+    slotOf (101 ∷ []) ∷ [])
+
+example-104 : alike (played numbers-104 names-104 []) ((4 ∷ []) ∷ []) ≡ true
+unfolding everything joined historyShown queueShown pendingShown shown playedIf played alike
+example-104 = refl
+
+-- default list holds a row outside
+abbrev numbers-105 : List ℕ
+numbers-105 = 6 ∷ 2 ∷ 3 ∷ 2 ∷ 0 ∷ 6 ∷ 0 ∷ 65535 ∷ 65535 ∷ 0 ∷ 0 ∷ 0 ∷ 0 ∷ 0 ∷ 0 ∷ 0 ∷ 0 ∷ 1 ∷ 0 ∷ 0 ∷ 0 ∷ 0 ∷ 0 ∷ 0 ∷
+    0 ∷ 0 ∷ 0 ∷ 0 ∷ 1 ∷ 1 ∷ 1 ∷ 0 ∷ 0 ∷ 0 ∷ 0 ∷ 0 ∷ 0 ∷ 0 ∷ 0 ∷ 1 ∷ 2 ∷ 2 ∷ 0 ∷ 0 ∷ 0 ∷ 0 ∷ 0 ∷ 0 ∷ 0 ∷ 0 ∷ 4 ∷ 1 ∷ 3 ∷
+    0 ∷ 0 ∷ 0 ∷ 0 ∷ 0 ∷ 1 ∷ 0 ∷ 0 ∷ 1 ∷ 0 ∷ 4 ∷ 0 ∷ 0 ∷ 0 ∷ 0 ∷ 0 ∷ 0 ∷ 0 ∷ 0 ∷ 3 ∷ 0 ∷ 1 ∷ 65535 ∷ 0 ∷ 1 ∷ 1 ∷ 0 ∷ 0 ∷
+    5 ∷ 1 ∷ 1 ∷ 65535 ∷ 0 ∷ 2 ∷ 1 ∷ 0 ∷ 0 ∷ 5 ∷ 4 ∷ 1 ∷ 5 ∷ 5 ∷ []
+
+abbrev names-105 : List ℕ
+names-105 = joined (slotOf (115 ∷ []) ∷ slotOf (97 ∷ []) ∷ slotOf (120 ∷ []) ∷ slotOf (104 ∷ []) ∷ slotOf (122 ∷ []) ∷
+    slotOf (101 ∷ []) ∷ [])
+
+example-105 : alike (played numbers-105 names-105 []) ((4 ∷ []) ∷ []) ≡ true
+unfolding everything joined historyShown queueShown pendingShown shown playedIf played alike
+example-105 = refl
+
+-- shallow default list holds a grandchild
+abbrev numbers-106 : List ℕ
+numbers-106 = 6 ∷ 2 ∷ 3 ∷ 2 ∷ 0 ∷ 6 ∷ 0 ∷ 65535 ∷ 65535 ∷ 0 ∷ 0 ∷ 0 ∷ 0 ∷ 0 ∷ 0 ∷ 0 ∷ 0 ∷ 1 ∷ 0 ∷ 0 ∷ 0 ∷ 0 ∷ 0 ∷ 0 ∷
+    0 ∷ 0 ∷ 0 ∷ 0 ∷ 1 ∷ 1 ∷ 1 ∷ 0 ∷ 0 ∷ 0 ∷ 0 ∷ 0 ∷ 0 ∷ 0 ∷ 0 ∷ 1 ∷ 2 ∷ 2 ∷ 0 ∷ 0 ∷ 0 ∷ 0 ∷ 0 ∷ 0 ∷ 0 ∷ 0 ∷ 4 ∷ 1 ∷ 3 ∷
+    0 ∷ 0 ∷ 0 ∷ 0 ∷ 0 ∷ 1 ∷ 0 ∷ 0 ∷ 1 ∷ 0 ∷ 4 ∷ 0 ∷ 0 ∷ 0 ∷ 0 ∷ 0 ∷ 0 ∷ 0 ∷ 0 ∷ 3 ∷ 0 ∷ 1 ∷ 65535 ∷ 0 ∷ 1 ∷ 1 ∷ 0 ∷ 0 ∷
+    5 ∷ 1 ∷ 1 ∷ 65535 ∷ 0 ∷ 2 ∷ 1 ∷ 0 ∷ 0 ∷ 3 ∷ 4 ∷ 1 ∷ 5 ∷ 5 ∷ []
+
+abbrev names-106 : List ℕ
+names-106 = joined (slotOf (115 ∷ []) ∷ slotOf (97 ∷ []) ∷ slotOf (120 ∷ []) ∷ slotOf (104 ∷ []) ∷ slotOf (122 ∷ []) ∷
+    slotOf (101 ∷ []) ∷ [])
+
+example-106 : alike (played numbers-106 names-106 []) ((4 ∷ []) ∷ []) ≡ true
+unfolding everything joined historyShown queueShown pendingShown shown playedIf played alike
+example-106 = refl
+
+-- default list holds two children of a state
+abbrev numbers-107 : List ℕ
+numbers-107 = 6 ∷ 1 ∷ 4 ∷ 1 ∷ 0 ∷ 6 ∷ 0 ∷ 65535 ∷ 65535 ∷ 0 ∷ 0 ∷ 0 ∷ 0 ∷ 0 ∷ 0 ∷ 0 ∷ 0 ∷ 1 ∷ 0 ∷ 0 ∷ 0 ∷ 0 ∷ 0 ∷ 0 ∷
+    0 ∷ 0 ∷ 0 ∷ 0 ∷ 1 ∷ 1 ∷ 1 ∷ 0 ∷ 0 ∷ 0 ∷ 0 ∷ 0 ∷ 0 ∷ 0 ∷ 0 ∷ 1 ∷ 1 ∷ 2 ∷ 0 ∷ 0 ∷ 0 ∷ 0 ∷ 0 ∷ 0 ∷ 0 ∷ 0 ∷ 4 ∷ 1 ∷ 3 ∷
+    0 ∷ 0 ∷ 0 ∷ 0 ∷ 0 ∷ 1 ∷ 0 ∷ 0 ∷ 5 ∷ 1 ∷ 4 ∷ 0 ∷ 0 ∷ 0 ∷ 0 ∷ 1 ∷ 2 ∷ 0 ∷ 0 ∷ 2 ∷ 0 ∷ 1 ∷ 65535 ∷ 0 ∷ 3 ∷ 1 ∷ 0 ∷ 0 ∷
+    2 ∷ 2 ∷ 3 ∷ 4 ∷ 5 ∷ []
 
 abbrev names-107 : List ℕ
 names-107 = joined (slotOf (115 ∷ []) ∷ slotOf (97 ∷ []) ∷ slotOf (98 ∷ []) ∷ slotOf (104 ∷ []) ∷ slotOf (100 ∷ []) ∷
     slotOf (101 ∷ []) ∷ [])
 
 example-107 : alike (played numbers-107 names-107 []) ((4 ∷ []) ∷ []) ≡ true
-unfolding everything joined historyShown queueShown shown playedIf played alike
+unfolding everything joined historyShown queueShown pendingShown shown playedIf played alike
 example-107 = refl
 
--- default list holds the parent
+-- default list holds a row twice
 abbrev numbers-108 : List ℕ
-numbers-108 = 6 ∷ 1 ∷ 3 ∷ 1 ∷ 0 ∷ 6 ∷ 0 ∷ 65535 ∷ 65535 ∷ 0 ∷ 0 ∷ 0 ∷ 0 ∷ 0 ∷ 0 ∷ 0 ∷ 0 ∷ 1 ∷ 0 ∷ 0 ∷ 0 ∷ 0 ∷ 0 ∷ 0 ∷
+numbers-108 = 6 ∷ 1 ∷ 4 ∷ 1 ∷ 0 ∷ 6 ∷ 0 ∷ 65535 ∷ 65535 ∷ 0 ∷ 0 ∷ 0 ∷ 0 ∷ 0 ∷ 0 ∷ 0 ∷ 0 ∷ 1 ∷ 0 ∷ 0 ∷ 0 ∷ 0 ∷ 0 ∷ 0 ∷
     0 ∷ 0 ∷ 0 ∷ 0 ∷ 1 ∷ 1 ∷ 1 ∷ 0 ∷ 0 ∷ 0 ∷ 0 ∷ 0 ∷ 0 ∷ 0 ∷ 0 ∷ 1 ∷ 1 ∷ 2 ∷ 0 ∷ 0 ∷ 0 ∷ 0 ∷ 0 ∷ 0 ∷ 0 ∷ 0 ∷ 4 ∷ 1 ∷ 3 ∷
-    0 ∷ 0 ∷ 0 ∷ 0 ∷ 0 ∷ 1 ∷ 0 ∷ 0 ∷ 5 ∷ 1 ∷ 4 ∷ 0 ∷ 0 ∷ 0 ∷ 0 ∷ 1 ∷ 1 ∷ 0 ∷ 0 ∷ 2 ∷ 0 ∷ 1 ∷ 65535 ∷ 0 ∷ 2 ∷ 1 ∷ 0 ∷ 0 ∷
-    2 ∷ 1 ∷ 4 ∷ 5 ∷ []
+    0 ∷ 0 ∷ 0 ∷ 0 ∷ 0 ∷ 1 ∷ 0 ∷ 0 ∷ 5 ∷ 1 ∷ 4 ∷ 0 ∷ 0 ∷ 0 ∷ 0 ∷ 1 ∷ 2 ∷ 0 ∷ 0 ∷ 2 ∷ 0 ∷ 1 ∷ 65535 ∷ 0 ∷ 3 ∷ 1 ∷ 0 ∷ 0 ∷
+    2 ∷ 2 ∷ 2 ∷ 4 ∷ 5 ∷ []
 
 abbrev names-108 : List ℕ
 names-108 = joined (slotOf (115 ∷ []) ∷ slotOf (97 ∷ []) ∷ slotOf (98 ∷ []) ∷ slotOf (104 ∷ []) ∷ slotOf (100 ∷ []) ∷
     slotOf (101 ∷ []) ∷ [])
 
 example-108 : alike (played numbers-108 names-108 []) ((4 ∷ []) ∷ []) ≡ true
-unfolding everything joined historyShown queueShown shown playedIf played alike
+unfolding everything joined historyShown queueShown pendingShown shown playedIf played alike
 example-108 = refl
 
--- default list holds a row outside
-abbrev numbers-109 : List ℕ
-numbers-109 = 6 ∷ 2 ∷ 3 ∷ 2 ∷ 0 ∷ 6 ∷ 0 ∷ 65535 ∷ 65535 ∷ 0 ∷ 0 ∷ 0 ∷ 0 ∷ 0 ∷ 0 ∷ 0 ∷ 0 ∷ 1 ∷ 0 ∷ 0 ∷ 0 ∷ 0 ∷ 0 ∷ 0 ∷
-    0 ∷ 0 ∷ 0 ∷ 0 ∷ 1 ∷ 1 ∷ 1 ∷ 0 ∷ 0 ∷ 0 ∷ 0 ∷ 0 ∷ 0 ∷ 0 ∷ 0 ∷ 1 ∷ 2 ∷ 2 ∷ 0 ∷ 0 ∷ 0 ∷ 0 ∷ 0 ∷ 0 ∷ 0 ∷ 0 ∷ 4 ∷ 1 ∷ 3 ∷
-    0 ∷ 0 ∷ 0 ∷ 0 ∷ 0 ∷ 1 ∷ 0 ∷ 0 ∷ 1 ∷ 0 ∷ 4 ∷ 0 ∷ 0 ∷ 0 ∷ 0 ∷ 0 ∷ 0 ∷ 0 ∷ 0 ∷ 3 ∷ 0 ∷ 1 ∷ 65535 ∷ 0 ∷ 1 ∷ 1 ∷ 0 ∷ 0 ∷
-    5 ∷ 1 ∷ 1 ∷ 65535 ∷ 0 ∷ 2 ∷ 1 ∷ 0 ∷ 0 ∷ 5 ∷ 4 ∷ 1 ∷ 5 ∷ 5 ∷ []
-
-abbrev names-109 : List ℕ
-names-109 = joined (slotOf (115 ∷ []) ∷ slotOf (97 ∷ []) ∷ slotOf (120 ∷ []) ∷ slotOf (104 ∷ []) ∷ slotOf (122 ∷ []) ∷
-    slotOf (101 ∷ []) ∷ [])
-
-example-109 : alike (played numbers-109 names-109 []) ((4 ∷ []) ∷ []) ≡ true
-unfolding everything joined historyShown queueShown shown playedIf played alike
-example-109 = refl
-
--- shallow default list holds a grandchild
-abbrev numbers-110 : List ℕ
-numbers-110 = 6 ∷ 2 ∷ 3 ∷ 2 ∷ 0 ∷ 6 ∷ 0 ∷ 65535 ∷ 65535 ∷ 0 ∷ 0 ∷ 0 ∷ 0 ∷ 0 ∷ 0 ∷ 0 ∷ 0 ∷ 1 ∷ 0 ∷ 0 ∷ 0 ∷ 0 ∷ 0 ∷ 0 ∷
-    0 ∷ 0 ∷ 0 ∷ 0 ∷ 1 ∷ 1 ∷ 1 ∷ 0 ∷ 0 ∷ 0 ∷ 0 ∷ 0 ∷ 0 ∷ 0 ∷ 0 ∷ 1 ∷ 2 ∷ 2 ∷ 0 ∷ 0 ∷ 0 ∷ 0 ∷ 0 ∷ 0 ∷ 0 ∷ 0 ∷ 4 ∷ 1 ∷ 3 ∷
-    0 ∷ 0 ∷ 0 ∷ 0 ∷ 0 ∷ 1 ∷ 0 ∷ 0 ∷ 1 ∷ 0 ∷ 4 ∷ 0 ∷ 0 ∷ 0 ∷ 0 ∷ 0 ∷ 0 ∷ 0 ∷ 0 ∷ 3 ∷ 0 ∷ 1 ∷ 65535 ∷ 0 ∷ 1 ∷ 1 ∷ 0 ∷ 0 ∷
-    5 ∷ 1 ∷ 1 ∷ 65535 ∷ 0 ∷ 2 ∷ 1 ∷ 0 ∷ 0 ∷ 3 ∷ 4 ∷ 1 ∷ 5 ∷ 5 ∷ []
-
-abbrev names-110 : List ℕ
-names-110 = joined (slotOf (115 ∷ []) ∷ slotOf (97 ∷ []) ∷ slotOf (120 ∷ []) ∷ slotOf (104 ∷ []) ∷ slotOf (122 ∷ []) ∷
-    slotOf (101 ∷ []) ∷ [])
-
-example-110 : alike (played numbers-110 names-110 []) ((4 ∷ []) ∷ []) ≡ true
-unfolding everything joined historyShown queueShown shown playedIf played alike
-example-110 = refl
-
--- default list holds two children of a state
-abbrev numbers-111 : List ℕ
-numbers-111 = 6 ∷ 1 ∷ 4 ∷ 1 ∷ 0 ∷ 6 ∷ 0 ∷ 65535 ∷ 65535 ∷ 0 ∷ 0 ∷ 0 ∷ 0 ∷ 0 ∷ 0 ∷ 0 ∷ 0 ∷ 1 ∷ 0 ∷ 0 ∷ 0 ∷ 0 ∷ 0 ∷ 0 ∷
-    0 ∷ 0 ∷ 0 ∷ 0 ∷ 1 ∷ 1 ∷ 1 ∷ 0 ∷ 0 ∷ 0 ∷ 0 ∷ 0 ∷ 0 ∷ 0 ∷ 0 ∷ 1 ∷ 1 ∷ 2 ∷ 0 ∷ 0 ∷ 0 ∷ 0 ∷ 0 ∷ 0 ∷ 0 ∷ 0 ∷ 4 ∷ 1 ∷ 3 ∷
-    0 ∷ 0 ∷ 0 ∷ 0 ∷ 0 ∷ 1 ∷ 0 ∷ 0 ∷ 5 ∷ 1 ∷ 4 ∷ 0 ∷ 0 ∷ 0 ∷ 0 ∷ 1 ∷ 2 ∷ 0 ∷ 0 ∷ 2 ∷ 0 ∷ 1 ∷ 65535 ∷ 0 ∷ 3 ∷ 1 ∷ 0 ∷ 0 ∷
-    2 ∷ 2 ∷ 3 ∷ 4 ∷ 5 ∷ []
-
-abbrev names-111 : List ℕ
-names-111 = joined (slotOf (115 ∷ []) ∷ slotOf (97 ∷ []) ∷ slotOf (98 ∷ []) ∷ slotOf (104 ∷ []) ∷ slotOf (100 ∷ []) ∷
-    slotOf (101 ∷ []) ∷ [])
-
-example-111 : alike (played numbers-111 names-111 []) ((4 ∷ []) ∷ []) ≡ true
-unfolding everything joined historyShown queueShown shown playedIf played alike
-example-111 = refl
-
--- default list holds a row twice
-abbrev numbers-112 : List ℕ
-numbers-112 = 6 ∷ 1 ∷ 4 ∷ 1 ∷ 0 ∷ 6 ∷ 0 ∷ 65535 ∷ 65535 ∷ 0 ∷ 0 ∷ 0 ∷ 0 ∷ 0 ∷ 0 ∷ 0 ∷ 0 ∷ 1 ∷ 0 ∷ 0 ∷ 0 ∷ 0 ∷ 0 ∷ 0 ∷
-    0 ∷ 0 ∷ 0 ∷ 0 ∷ 1 ∷ 1 ∷ 1 ∷ 0 ∷ 0 ∷ 0 ∷ 0 ∷ 0 ∷ 0 ∷ 0 ∷ 0 ∷ 1 ∷ 1 ∷ 2 ∷ 0 ∷ 0 ∷ 0 ∷ 0 ∷ 0 ∷ 0 ∷ 0 ∷ 0 ∷ 4 ∷ 1 ∷ 3 ∷
-    0 ∷ 0 ∷ 0 ∷ 0 ∷ 0 ∷ 1 ∷ 0 ∷ 0 ∷ 5 ∷ 1 ∷ 4 ∷ 0 ∷ 0 ∷ 0 ∷ 0 ∷ 1 ∷ 2 ∷ 0 ∷ 0 ∷ 2 ∷ 0 ∷ 1 ∷ 65535 ∷ 0 ∷ 3 ∷ 1 ∷ 0 ∷ 0 ∷
-    2 ∷ 2 ∷ 2 ∷ 4 ∷ 5 ∷ []
-
-abbrev names-112 : List ℕ
-names-112 = joined (slotOf (115 ∷ []) ∷ slotOf (97 ∷ []) ∷ slotOf (98 ∷ []) ∷ slotOf (104 ∷ []) ∷ slotOf (100 ∷ []) ∷
-    slotOf (101 ∷ []) ∷ [])
-
-example-112 : alike (played numbers-112 names-112 []) ((4 ∷ []) ∷ []) ≡ true
-unfolding everything joined historyShown queueShown shown playedIf played alike
-example-112 = refl
-
 -- atomic state with a list
-abbrev numbers-113 : List ℕ
-numbers-113 = 2 ∷ 1 ∷ 2 ∷ 2 ∷ 2 ∷ 3 ∷ 0 ∷ 65535 ∷ 65535 ∷ 0 ∷ 0 ∷ 0 ∷ 0 ∷ 0 ∷ 0 ∷ 0 ∷ 0 ∷ 1 ∷ 0 ∷ 0 ∷ 0 ∷ 0 ∷ 0 ∷ 0 ∷
+abbrev numbers-109 : List ℕ
+numbers-109 = 2 ∷ 1 ∷ 2 ∷ 2 ∷ 2 ∷ 3 ∷ 0 ∷ 65535 ∷ 65535 ∷ 0 ∷ 0 ∷ 0 ∷ 0 ∷ 0 ∷ 0 ∷ 0 ∷ 0 ∷ 1 ∷ 0 ∷ 0 ∷ 0 ∷ 0 ∷ 0 ∷ 0 ∷
     0 ∷ 1 ∷ 0 ∷ 0 ∷ 1 ∷ 0 ∷ 2 ∷ 65535 ∷ 0 ∷ 1 ∷ 1 ∷ 0 ∷ 2 ∷ 1 ∷ 1 ∷ 1 ∷ 2 ∷ 0 ∷ 1 ∷ 0 ∷ 0 ∷ 1 ∷ 1 ∷ 0 ∷ 0 ∷ []
 
-abbrev names-113 : List ℕ
-names-113 = joined (slotOf (115 ∷ []) ∷ slotOf (101 ∷ []) ∷ slotOf (42 ∷ []) ∷ [])
+abbrev names-109 : List ℕ
+names-109 = joined (slotOf (115 ∷ []) ∷ slotOf (101 ∷ []) ∷ slotOf (42 ∷ []) ∷ [])
 
-example-113 : alike (played numbers-113 names-113 []) ((4 ∷ []) ∷ []) ≡ true
-unfolding everything joined historyShown queueShown shown playedIf played alike
-example-113 = refl
+example-109 : alike (played numbers-109 names-109 []) ((4 ∷ []) ∷ []) ≡ true
+unfolding everything joined historyShown queueShown pendingShown shown playedIf played alike
+example-109 = refl
 
 -- atomic state with a list's block
-abbrev numbers-114 : List ℕ
-numbers-114 = 2 ∷ 1 ∷ 1 ∷ 2 ∷ 3 ∷ 3 ∷ 0 ∷ 65535 ∷ 65535 ∷ 0 ∷ 0 ∷ 0 ∷ 0 ∷ 0 ∷ 0 ∷ 0 ∷ 0 ∷ 1 ∷ 0 ∷ 0 ∷ 0 ∷ 0 ∷ 0 ∷ 0 ∷
+abbrev numbers-110 : List ℕ
+numbers-110 = 2 ∷ 1 ∷ 1 ∷ 2 ∷ 3 ∷ 3 ∷ 0 ∷ 65535 ∷ 65535 ∷ 0 ∷ 0 ∷ 0 ∷ 0 ∷ 0 ∷ 0 ∷ 0 ∷ 0 ∷ 1 ∷ 0 ∷ 0 ∷ 0 ∷ 0 ∷ 0 ∷ 0 ∷
     0 ∷ 0 ∷ 0 ∷ 1 ∷ 1 ∷ 0 ∷ 2 ∷ 65535 ∷ 0 ∷ 0 ∷ 1 ∷ 1 ∷ 2 ∷ 1 ∷ 1 ∷ 2 ∷ 1 ∷ 7 ∷ 0 ∷ 0 ∷ 0 ∷ 1 ∷ 0 ∷ 0 ∷ 1 ∷ 1 ∷ 0 ∷ 0 ∷
     []
 
-abbrev names-114 : List ℕ
-names-114 = joined (slotOf (115 ∷ []) ∷ slotOf (101 ∷ []) ∷ slotOf (42 ∷ []) ∷ [])
+abbrev names-110 : List ℕ
+names-110 = joined (slotOf (115 ∷ []) ∷ slotOf (101 ∷ []) ∷ slotOf (42 ∷ []) ∷ [])
 
-example-114 : alike (played numbers-114 names-114 []) ((4 ∷ []) ∷ []) ≡ true
-unfolding everything joined historyShown queueShown shown playedIf played alike
-example-114 = refl
+example-110 : alike (played numbers-110 names-110 []) ((4 ∷ []) ∷ []) ≡ true
+unfolding everything joined historyShown queueShown pendingShown shown playedIf played alike
+example-110 = refl
 
 -- parallel with a list
-abbrev numbers-115 : List ℕ
-numbers-115 = 4 ∷ 1 ∷ 3 ∷ 1 ∷ 0 ∷ 4 ∷ 0 ∷ 65535 ∷ 65535 ∷ 0 ∷ 0 ∷ 0 ∷ 0 ∷ 0 ∷ 0 ∷ 0 ∷ 0 ∷ 2 ∷ 0 ∷ 0 ∷ 0 ∷ 0 ∷ 0 ∷ 0 ∷
+abbrev numbers-111 : List ℕ
+numbers-111 = 4 ∷ 1 ∷ 3 ∷ 1 ∷ 0 ∷ 4 ∷ 0 ∷ 65535 ∷ 65535 ∷ 0 ∷ 0 ∷ 0 ∷ 0 ∷ 0 ∷ 0 ∷ 0 ∷ 0 ∷ 2 ∷ 0 ∷ 0 ∷ 0 ∷ 0 ∷ 0 ∷ 0 ∷
     0 ∷ 2 ∷ 0 ∷ 0 ∷ 1 ∷ 1 ∷ 1 ∷ 0 ∷ 0 ∷ 0 ∷ 0 ∷ 0 ∷ 0 ∷ 0 ∷ 0 ∷ 1 ∷ 1 ∷ 2 ∷ 0 ∷ 0 ∷ 0 ∷ 0 ∷ 0 ∷ 0 ∷ 0 ∷ 0 ∷ 2 ∷ 0 ∷ 1 ∷
     65535 ∷ 0 ∷ 2 ∷ 1 ∷ 0 ∷ 0 ∷ 2 ∷ 3 ∷ 3 ∷ 3 ∷ []
 
-abbrev names-115 : List ℕ
-names-115 = joined (slotOf (112 ∷ []) ∷ slotOf (97 ∷ []) ∷ slotOf (98 ∷ []) ∷ slotOf (101 ∷ []) ∷ [])
+abbrev names-111 : List ℕ
+names-111 = joined (slotOf (112 ∷ []) ∷ slotOf (97 ∷ []) ∷ slotOf (98 ∷ []) ∷ slotOf (101 ∷ []) ∷ [])
 
-example-115 : alike (played numbers-115 names-115 []) ((4 ∷ []) ∷ []) ≡ true
-unfolding everything joined historyShown queueShown shown playedIf played alike
-example-115 = refl
+example-111 : alike (played numbers-111 names-111 []) ((4 ∷ []) ∷ []) ≡ true
+unfolding everything joined historyShown queueShown pendingShown shown playedIf played alike
+example-111 = refl
 
 -- parallel with a list's block
-abbrev numbers-116 : List ℕ
-numbers-116 = 4 ∷ 1 ∷ 1 ∷ 1 ∷ 1 ∷ 4 ∷ 0 ∷ 65535 ∷ 65535 ∷ 0 ∷ 0 ∷ 0 ∷ 0 ∷ 0 ∷ 0 ∷ 0 ∷ 0 ∷ 2 ∷ 0 ∷ 0 ∷ 0 ∷ 0 ∷ 0 ∷ 0 ∷
+abbrev numbers-112 : List ℕ
+numbers-112 = 4 ∷ 1 ∷ 1 ∷ 1 ∷ 1 ∷ 4 ∷ 0 ∷ 65535 ∷ 65535 ∷ 0 ∷ 0 ∷ 0 ∷ 0 ∷ 0 ∷ 0 ∷ 0 ∷ 0 ∷ 2 ∷ 0 ∷ 0 ∷ 0 ∷ 0 ∷ 0 ∷ 0 ∷
     0 ∷ 0 ∷ 0 ∷ 1 ∷ 1 ∷ 1 ∷ 1 ∷ 0 ∷ 0 ∷ 0 ∷ 0 ∷ 0 ∷ 0 ∷ 0 ∷ 0 ∷ 1 ∷ 1 ∷ 2 ∷ 0 ∷ 0 ∷ 0 ∷ 0 ∷ 0 ∷ 0 ∷ 0 ∷ 0 ∷ 2 ∷ 0 ∷ 1 ∷
     65535 ∷ 0 ∷ 0 ∷ 1 ∷ 0 ∷ 0 ∷ 3 ∷ 3 ∷ 1 ∷ 7 ∷ 0 ∷ 0 ∷ []
 
-abbrev names-116 : List ℕ
-names-116 = joined (slotOf (112 ∷ []) ∷ slotOf (97 ∷ []) ∷ slotOf (98 ∷ []) ∷ slotOf (101 ∷ []) ∷ [])
+abbrev names-112 : List ℕ
+names-112 = joined (slotOf (112 ∷ []) ∷ slotOf (97 ∷ []) ∷ slotOf (98 ∷ []) ∷ slotOf (101 ∷ []) ∷ [])
 
-example-116 : alike (played numbers-116 names-116 []) ((4 ∷ []) ∷ []) ≡ true
-unfolding everything joined historyShown queueShown shown playedIf played alike
-example-116 = refl
+example-112 : alike (played numbers-112 names-112 []) ((4 ∷ []) ∷ []) ≡ true
+unfolding everything joined historyShown queueShown pendingShown shown playedIf played alike
+example-112 = refl
 
 -- final with a list
-abbrev numbers-117 : List ℕ
-numbers-117 = 3 ∷ 1 ∷ 2 ∷ 1 ∷ 0 ∷ 3 ∷ 0 ∷ 65535 ∷ 65535 ∷ 0 ∷ 0 ∷ 0 ∷ 0 ∷ 0 ∷ 0 ∷ 0 ∷ 0 ∷ 1 ∷ 0 ∷ 0 ∷ 0 ∷ 0 ∷ 0 ∷ 0 ∷
+abbrev numbers-113 : List ℕ
+numbers-113 = 3 ∷ 1 ∷ 2 ∷ 1 ∷ 0 ∷ 3 ∷ 0 ∷ 65535 ∷ 65535 ∷ 0 ∷ 0 ∷ 0 ∷ 0 ∷ 0 ∷ 0 ∷ 0 ∷ 0 ∷ 1 ∷ 0 ∷ 0 ∷ 0 ∷ 0 ∷ 0 ∷ 0 ∷
     0 ∷ 0 ∷ 0 ∷ 0 ∷ 3 ∷ 0 ∷ 1 ∷ 0 ∷ 0 ∷ 0 ∷ 0 ∷ 0 ∷ 1 ∷ 0 ∷ 0 ∷ 1 ∷ 0 ∷ 1 ∷ 65535 ∷ 0 ∷ 1 ∷ 1 ∷ 0 ∷ 0 ∷ 1 ∷ 2 ∷ 2 ∷ []
 
-abbrev names-117 : List ℕ
-names-117 = joined (slotOf (115 ∷ []) ∷ slotOf (102 ∷ []) ∷ slotOf (101 ∷ []) ∷ [])
+abbrev names-113 : List ℕ
+names-113 = joined (slotOf (115 ∷ []) ∷ slotOf (102 ∷ []) ∷ slotOf (101 ∷ []) ∷ [])
 
-example-117 : alike (played numbers-117 names-117 []) ((4 ∷ []) ∷ []) ≡ true
-unfolding everything joined historyShown queueShown shown playedIf played alike
-example-117 = refl
+example-113 : alike (played numbers-113 names-113 []) ((4 ∷ []) ∷ []) ≡ true
+unfolding everything joined historyShown queueShown pendingShown shown playedIf played alike
+example-113 = refl
 
 -- final with a list's block
-abbrev numbers-118 : List ℕ
-numbers-118 = 3 ∷ 1 ∷ 1 ∷ 1 ∷ 1 ∷ 3 ∷ 0 ∷ 65535 ∷ 65535 ∷ 0 ∷ 0 ∷ 0 ∷ 0 ∷ 0 ∷ 0 ∷ 0 ∷ 0 ∷ 1 ∷ 0 ∷ 0 ∷ 0 ∷ 0 ∷ 0 ∷ 0 ∷
+abbrev numbers-114 : List ℕ
+numbers-114 = 3 ∷ 1 ∷ 1 ∷ 1 ∷ 1 ∷ 3 ∷ 0 ∷ 65535 ∷ 65535 ∷ 0 ∷ 0 ∷ 0 ∷ 0 ∷ 0 ∷ 0 ∷ 0 ∷ 0 ∷ 1 ∷ 0 ∷ 0 ∷ 0 ∷ 0 ∷ 0 ∷ 0 ∷
     0 ∷ 0 ∷ 0 ∷ 0 ∷ 3 ∷ 0 ∷ 1 ∷ 0 ∷ 0 ∷ 0 ∷ 0 ∷ 0 ∷ 0 ∷ 0 ∷ 1 ∷ 1 ∷ 0 ∷ 1 ∷ 65535 ∷ 0 ∷ 0 ∷ 1 ∷ 0 ∷ 0 ∷ 2 ∷ 2 ∷ 1 ∷ 7 ∷
     0 ∷ 0 ∷ []
 
-abbrev names-118 : List ℕ
-names-118 = joined (slotOf (115 ∷ []) ∷ slotOf (102 ∷ []) ∷ slotOf (101 ∷ []) ∷ [])
+abbrev names-114 : List ℕ
+names-114 = joined (slotOf (115 ∷ []) ∷ slotOf (102 ∷ []) ∷ slotOf (101 ∷ []) ∷ [])
 
-example-118 : alike (played numbers-118 names-118 []) ((4 ∷ []) ∷ []) ≡ true
-unfolding everything joined historyShown queueShown shown playedIf played alike
-example-118 = refl
+example-114 : alike (played numbers-114 names-114 []) ((4 ∷ []) ∷ []) ≡ true
+unfolding everything joined historyShown queueShown pendingShown shown playedIf played alike
+example-114 = refl
 
 -- root with an entry block
-abbrev numbers-119 : List ℕ
-numbers-119 = 2 ∷ 1 ∷ 1 ∷ 2 ∷ 3 ∷ 3 ∷ 0 ∷ 65535 ∷ 65535 ∷ 0 ∷ 1 ∷ 0 ∷ 0 ∷ 0 ∷ 0 ∷ 0 ∷ 0 ∷ 1 ∷ 0 ∷ 0 ∷ 0 ∷ 0 ∷ 0 ∷ 0 ∷
+abbrev numbers-115 : List ℕ
+numbers-115 = 2 ∷ 1 ∷ 1 ∷ 2 ∷ 3 ∷ 3 ∷ 0 ∷ 65535 ∷ 65535 ∷ 0 ∷ 1 ∷ 0 ∷ 0 ∷ 0 ∷ 0 ∷ 0 ∷ 0 ∷ 1 ∷ 0 ∷ 0 ∷ 0 ∷ 0 ∷ 0 ∷ 0 ∷
     0 ∷ 0 ∷ 0 ∷ 0 ∷ 1 ∷ 0 ∷ 2 ∷ 65535 ∷ 0 ∷ 0 ∷ 1 ∷ 1 ∷ 2 ∷ 1 ∷ 1 ∷ 2 ∷ 1 ∷ 7 ∷ 0 ∷ 0 ∷ 0 ∷ 1 ∷ 0 ∷ 0 ∷ 1 ∷ 1 ∷ 0 ∷ 0 ∷
     []
 
-abbrev names-119 : List ℕ
-names-119 = joined (slotOf (115 ∷ []) ∷ slotOf (101 ∷ []) ∷ slotOf (42 ∷ []) ∷ [])
+abbrev names-115 : List ℕ
+names-115 = joined (slotOf (115 ∷ []) ∷ slotOf (101 ∷ []) ∷ slotOf (42 ∷ []) ∷ [])
 
-example-119 : alike (played numbers-119 names-119 []) ((4 ∷ []) ∷ []) ≡ true
-unfolding everything joined historyShown queueShown shown playedIf played alike
-example-119 = refl
+example-115 : alike (played numbers-115 names-115 []) ((4 ∷ []) ∷ []) ≡ true
+unfolding everything joined historyShown queueShown pendingShown shown playedIf played alike
+example-115 = refl
 
 -- root with an exit block
-abbrev numbers-120 : List ℕ
-numbers-120 = 2 ∷ 1 ∷ 1 ∷ 2 ∷ 3 ∷ 3 ∷ 0 ∷ 65535 ∷ 65535 ∷ 0 ∷ 0 ∷ 0 ∷ 1 ∷ 0 ∷ 0 ∷ 0 ∷ 0 ∷ 1 ∷ 0 ∷ 0 ∷ 0 ∷ 0 ∷ 0 ∷ 0 ∷
+abbrev numbers-116 : List ℕ
+numbers-116 = 2 ∷ 1 ∷ 1 ∷ 2 ∷ 3 ∷ 3 ∷ 0 ∷ 65535 ∷ 65535 ∷ 0 ∷ 0 ∷ 0 ∷ 1 ∷ 0 ∷ 0 ∷ 0 ∷ 0 ∷ 1 ∷ 0 ∷ 0 ∷ 0 ∷ 0 ∷ 0 ∷ 0 ∷
     0 ∷ 0 ∷ 0 ∷ 0 ∷ 1 ∷ 0 ∷ 2 ∷ 65535 ∷ 0 ∷ 0 ∷ 1 ∷ 1 ∷ 2 ∷ 1 ∷ 1 ∷ 2 ∷ 1 ∷ 7 ∷ 0 ∷ 0 ∷ 0 ∷ 1 ∷ 0 ∷ 0 ∷ 1 ∷ 1 ∷ 0 ∷ 0 ∷
     []
+
+abbrev names-116 : List ℕ
+names-116 = joined (slotOf (115 ∷ []) ∷ slotOf (101 ∷ []) ∷ slotOf (42 ∷ []) ∷ [])
+
+example-116 : alike (played numbers-116 names-116 []) ((4 ∷ []) ∷ []) ≡ true
+unfolding everything joined historyShown queueShown pendingShown shown playedIf played alike
+example-116 = refl
+
+-- root with an initial block
+abbrev numbers-117 : List ℕ
+numbers-117 = 2 ∷ 1 ∷ 2 ∷ 2 ∷ 3 ∷ 3 ∷ 0 ∷ 65535 ∷ 65535 ∷ 0 ∷ 0 ∷ 0 ∷ 0 ∷ 0 ∷ 1 ∷ 0 ∷ 1 ∷ 1 ∷ 0 ∷ 0 ∷ 0 ∷ 0 ∷ 0 ∷ 0 ∷
+    0 ∷ 0 ∷ 0 ∷ 0 ∷ 1 ∷ 0 ∷ 2 ∷ 65535 ∷ 0 ∷ 1 ∷ 1 ∷ 1 ∷ 2 ∷ 1 ∷ 1 ∷ 1 ∷ 2 ∷ 1 ∷ 7 ∷ 0 ∷ 0 ∷ 0 ∷ 1 ∷ 0 ∷ 0 ∷ 1 ∷ 1 ∷ 0 ∷
+    0 ∷ []
+
+abbrev names-117 : List ℕ
+names-117 = joined (slotOf (115 ∷ []) ∷ slotOf (101 ∷ []) ∷ slotOf (42 ∷ []) ∷ [])
+
+example-117 : alike (played numbers-117 names-117 []) ((4 ∷ []) ∷ []) ≡ true
+unfolding everything joined historyShown queueShown pendingShown shown playedIf played alike
+example-117 = refl
+
+-- history with an entry block
+abbrev numbers-118 : List ℕ
+numbers-118 = 6 ∷ 1 ∷ 3 ∷ 1 ∷ 1 ∷ 6 ∷ 0 ∷ 65535 ∷ 65535 ∷ 0 ∷ 0 ∷ 0 ∷ 0 ∷ 0 ∷ 0 ∷ 0 ∷ 0 ∷ 1 ∷ 0 ∷ 0 ∷ 0 ∷ 0 ∷ 0 ∷ 0 ∷
+    0 ∷ 0 ∷ 0 ∷ 0 ∷ 1 ∷ 1 ∷ 1 ∷ 0 ∷ 0 ∷ 0 ∷ 0 ∷ 0 ∷ 0 ∷ 0 ∷ 0 ∷ 1 ∷ 1 ∷ 2 ∷ 0 ∷ 0 ∷ 0 ∷ 0 ∷ 0 ∷ 0 ∷ 0 ∷ 0 ∷ 4 ∷ 1 ∷ 3 ∷
+    0 ∷ 0 ∷ 0 ∷ 0 ∷ 0 ∷ 1 ∷ 0 ∷ 0 ∷ 5 ∷ 1 ∷ 4 ∷ 0 ∷ 1 ∷ 0 ∷ 0 ∷ 1 ∷ 1 ∷ 0 ∷ 0 ∷ 2 ∷ 0 ∷ 1 ∷ 65535 ∷ 0 ∷ 2 ∷ 1 ∷ 0 ∷ 0 ∷
+    2 ∷ 3 ∷ 4 ∷ 5 ∷ 1 ∷ 7 ∷ 0 ∷ 0 ∷ []
+
+abbrev names-118 : List ℕ
+names-118 = joined (slotOf (115 ∷ []) ∷ slotOf (97 ∷ []) ∷ slotOf (98 ∷ []) ∷ slotOf (104 ∷ []) ∷ slotOf (100 ∷ []) ∷
+    slotOf (101 ∷ []) ∷ [])
+
+example-118 : alike (played numbers-118 names-118 []) ((4 ∷ []) ∷ []) ≡ true
+unfolding everything joined historyShown queueShown pendingShown shown playedIf played alike
+example-118 = refl
+
+-- history with an exit block
+abbrev numbers-119 : List ℕ
+numbers-119 = 6 ∷ 1 ∷ 3 ∷ 1 ∷ 1 ∷ 6 ∷ 0 ∷ 65535 ∷ 65535 ∷ 0 ∷ 0 ∷ 0 ∷ 0 ∷ 0 ∷ 0 ∷ 0 ∷ 0 ∷ 1 ∷ 0 ∷ 0 ∷ 0 ∷ 0 ∷ 0 ∷ 0 ∷
+    0 ∷ 0 ∷ 0 ∷ 0 ∷ 1 ∷ 1 ∷ 1 ∷ 0 ∷ 0 ∷ 0 ∷ 0 ∷ 0 ∷ 0 ∷ 0 ∷ 0 ∷ 1 ∷ 1 ∷ 2 ∷ 0 ∷ 0 ∷ 0 ∷ 0 ∷ 0 ∷ 0 ∷ 0 ∷ 0 ∷ 4 ∷ 1 ∷ 3 ∷
+    0 ∷ 0 ∷ 0 ∷ 0 ∷ 0 ∷ 1 ∷ 0 ∷ 0 ∷ 5 ∷ 1 ∷ 4 ∷ 0 ∷ 0 ∷ 0 ∷ 1 ∷ 1 ∷ 1 ∷ 0 ∷ 0 ∷ 2 ∷ 0 ∷ 1 ∷ 65535 ∷ 0 ∷ 2 ∷ 1 ∷ 0 ∷ 0 ∷
+    2 ∷ 3 ∷ 4 ∷ 5 ∷ 1 ∷ 7 ∷ 0 ∷ 0 ∷ []
+
+abbrev names-119 : List ℕ
+names-119 = joined (slotOf (115 ∷ []) ∷ slotOf (97 ∷ []) ∷ slotOf (98 ∷ []) ∷ slotOf (104 ∷ []) ∷ slotOf (100 ∷ []) ∷
+    slotOf (101 ∷ []) ∷ [])
+
+example-119 : alike (played numbers-119 names-119 []) ((4 ∷ []) ∷ []) ≡ true
+unfolding everything joined historyShown queueShown pendingShown shown playedIf played alike
+example-119 = refl
+
+-- target is the root
+abbrev numbers-120 : List ℕ
+numbers-120 = 2 ∷ 1 ∷ 1 ∷ 2 ∷ 2 ∷ 3 ∷ 0 ∷ 65535 ∷ 65535 ∷ 0 ∷ 0 ∷ 0 ∷ 0 ∷ 0 ∷ 0 ∷ 0 ∷ 0 ∷ 1 ∷ 0 ∷ 0 ∷ 0 ∷ 0 ∷ 0 ∷ 0 ∷
+    0 ∷ 0 ∷ 0 ∷ 0 ∷ 1 ∷ 0 ∷ 2 ∷ 65535 ∷ 0 ∷ 0 ∷ 1 ∷ 0 ∷ 2 ∷ 0 ∷ 1 ∷ 2 ∷ 0 ∷ 1 ∷ 0 ∷ 0 ∷ 1 ∷ 1 ∷ 0 ∷ 0 ∷ []
 
 abbrev names-120 : List ℕ
 names-120 = joined (slotOf (115 ∷ []) ∷ slotOf (101 ∷ []) ∷ slotOf (42 ∷ []) ∷ [])
 
 example-120 : alike (played numbers-120 names-120 []) ((4 ∷ []) ∷ []) ≡ true
-unfolding everything joined historyShown queueShown shown playedIf played alike
+unfolding everything joined historyShown queueShown pendingShown shown playedIf played alike
 example-120 = refl
 
--- root with an initial block
+-- target twice
 abbrev numbers-121 : List ℕ
-numbers-121 = 2 ∷ 1 ∷ 2 ∷ 2 ∷ 3 ∷ 3 ∷ 0 ∷ 65535 ∷ 65535 ∷ 0 ∷ 0 ∷ 0 ∷ 0 ∷ 0 ∷ 1 ∷ 0 ∷ 1 ∷ 1 ∷ 0 ∷ 0 ∷ 0 ∷ 0 ∷ 0 ∷ 0 ∷
-    0 ∷ 0 ∷ 0 ∷ 0 ∷ 1 ∷ 0 ∷ 2 ∷ 65535 ∷ 0 ∷ 1 ∷ 1 ∷ 1 ∷ 2 ∷ 1 ∷ 1 ∷ 1 ∷ 2 ∷ 1 ∷ 7 ∷ 0 ∷ 0 ∷ 0 ∷ 1 ∷ 0 ∷ 0 ∷ 1 ∷ 1 ∷ 0 ∷
-    0 ∷ []
+numbers-121 = 2 ∷ 1 ∷ 2 ∷ 2 ∷ 2 ∷ 3 ∷ 0 ∷ 65535 ∷ 65535 ∷ 0 ∷ 0 ∷ 0 ∷ 0 ∷ 0 ∷ 0 ∷ 0 ∷ 0 ∷ 1 ∷ 0 ∷ 0 ∷ 0 ∷ 0 ∷ 0 ∷ 0 ∷
+    0 ∷ 0 ∷ 0 ∷ 0 ∷ 1 ∷ 0 ∷ 2 ∷ 65535 ∷ 0 ∷ 0 ∷ 2 ∷ 0 ∷ 2 ∷ 1 ∷ 1 ∷ 1 ∷ 2 ∷ 0 ∷ 1 ∷ 0 ∷ 0 ∷ 1 ∷ 1 ∷ 0 ∷ 0 ∷ []
 
 abbrev names-121 : List ℕ
 names-121 = joined (slotOf (115 ∷ []) ∷ slotOf (101 ∷ []) ∷ slotOf (42 ∷ []) ∷ [])
 
 example-121 : alike (played numbers-121 names-121 []) ((4 ∷ []) ∷ []) ≡ true
-unfolding everything joined historyShown queueShown shown playedIf played alike
+unfolding everything joined historyShown queueShown pendingShown shown playedIf played alike
 example-121 = refl
 
--- history with an entry block
-abbrev numbers-122 : List ℕ
-numbers-122 = 6 ∷ 1 ∷ 3 ∷ 1 ∷ 1 ∷ 6 ∷ 0 ∷ 65535 ∷ 65535 ∷ 0 ∷ 0 ∷ 0 ∷ 0 ∷ 0 ∷ 0 ∷ 0 ∷ 0 ∷ 1 ∷ 0 ∷ 0 ∷ 0 ∷ 0 ∷ 0 ∷ 0 ∷
-    0 ∷ 0 ∷ 0 ∷ 0 ∷ 1 ∷ 1 ∷ 1 ∷ 0 ∷ 0 ∷ 0 ∷ 0 ∷ 0 ∷ 0 ∷ 0 ∷ 0 ∷ 1 ∷ 1 ∷ 2 ∷ 0 ∷ 0 ∷ 0 ∷ 0 ∷ 0 ∷ 0 ∷ 0 ∷ 0 ∷ 4 ∷ 1 ∷ 3 ∷
-    0 ∷ 0 ∷ 0 ∷ 0 ∷ 0 ∷ 1 ∷ 0 ∷ 0 ∷ 5 ∷ 1 ∷ 4 ∷ 0 ∷ 1 ∷ 0 ∷ 0 ∷ 1 ∷ 1 ∷ 0 ∷ 0 ∷ 2 ∷ 0 ∷ 1 ∷ 65535 ∷ 0 ∷ 2 ∷ 1 ∷ 0 ∷ 0 ∷
-    2 ∷ 3 ∷ 4 ∷ 5 ∷ 1 ∷ 7 ∷ 0 ∷ 0 ∷ []
-
-abbrev names-122 : List ℕ
-names-122 = joined (slotOf (115 ∷ []) ∷ slotOf (97 ∷ []) ∷ slotOf (98 ∷ []) ∷ slotOf (104 ∷ []) ∷ slotOf (100 ∷ []) ∷
-    slotOf (101 ∷ []) ∷ [])
-
-example-122 : alike (played numbers-122 names-122 []) ((4 ∷ []) ∷ []) ≡ true
-unfolding everything joined historyShown queueShown shown playedIf played alike
-example-122 = refl
-
--- history with an exit block
-abbrev numbers-123 : List ℕ
-numbers-123 = 6 ∷ 1 ∷ 3 ∷ 1 ∷ 1 ∷ 6 ∷ 0 ∷ 65535 ∷ 65535 ∷ 0 ∷ 0 ∷ 0 ∷ 0 ∷ 0 ∷ 0 ∷ 0 ∷ 0 ∷ 1 ∷ 0 ∷ 0 ∷ 0 ∷ 0 ∷ 0 ∷ 0 ∷
-    0 ∷ 0 ∷ 0 ∷ 0 ∷ 1 ∷ 1 ∷ 1 ∷ 0 ∷ 0 ∷ 0 ∷ 0 ∷ 0 ∷ 0 ∷ 0 ∷ 0 ∷ 1 ∷ 1 ∷ 2 ∷ 0 ∷ 0 ∷ 0 ∷ 0 ∷ 0 ∷ 0 ∷ 0 ∷ 0 ∷ 4 ∷ 1 ∷ 3 ∷
-    0 ∷ 0 ∷ 0 ∷ 0 ∷ 0 ∷ 1 ∷ 0 ∷ 0 ∷ 5 ∷ 1 ∷ 4 ∷ 0 ∷ 0 ∷ 0 ∷ 1 ∷ 1 ∷ 1 ∷ 0 ∷ 0 ∷ 2 ∷ 0 ∷ 1 ∷ 65535 ∷ 0 ∷ 2 ∷ 1 ∷ 0 ∷ 0 ∷
-    2 ∷ 3 ∷ 4 ∷ 5 ∷ 1 ∷ 7 ∷ 0 ∷ 0 ∷ []
-
-abbrev names-123 : List ℕ
-names-123 = joined (slotOf (115 ∷ []) ∷ slotOf (97 ∷ []) ∷ slotOf (98 ∷ []) ∷ slotOf (104 ∷ []) ∷ slotOf (100 ∷ []) ∷
-    slotOf (101 ∷ []) ∷ [])
-
-example-123 : alike (played numbers-123 names-123 []) ((4 ∷ []) ∷ []) ≡ true
-unfolding everything joined historyShown queueShown shown playedIf played alike
-example-123 = refl
-
--- target is the root
-abbrev numbers-124 : List ℕ
-numbers-124 = 2 ∷ 1 ∷ 1 ∷ 2 ∷ 2 ∷ 3 ∷ 0 ∷ 65535 ∷ 65535 ∷ 0 ∷ 0 ∷ 0 ∷ 0 ∷ 0 ∷ 0 ∷ 0 ∷ 0 ∷ 1 ∷ 0 ∷ 0 ∷ 0 ∷ 0 ∷ 0 ∷ 0 ∷
-    0 ∷ 0 ∷ 0 ∷ 0 ∷ 1 ∷ 0 ∷ 2 ∷ 65535 ∷ 0 ∷ 0 ∷ 1 ∷ 0 ∷ 2 ∷ 0 ∷ 1 ∷ 2 ∷ 0 ∷ 1 ∷ 0 ∷ 0 ∷ 1 ∷ 1 ∷ 0 ∷ 0 ∷ []
-
-abbrev names-124 : List ℕ
-names-124 = joined (slotOf (115 ∷ []) ∷ slotOf (101 ∷ []) ∷ slotOf (42 ∷ []) ∷ [])
-
-example-124 : alike (played numbers-124 names-124 []) ((4 ∷ []) ∷ []) ≡ true
-unfolding everything joined historyShown queueShown shown playedIf played alike
-example-124 = refl
-
--- target twice
-abbrev numbers-125 : List ℕ
-numbers-125 = 2 ∷ 1 ∷ 2 ∷ 2 ∷ 2 ∷ 3 ∷ 0 ∷ 65535 ∷ 65535 ∷ 0 ∷ 0 ∷ 0 ∷ 0 ∷ 0 ∷ 0 ∷ 0 ∷ 0 ∷ 1 ∷ 0 ∷ 0 ∷ 0 ∷ 0 ∷ 0 ∷ 0 ∷
-    0 ∷ 0 ∷ 0 ∷ 0 ∷ 1 ∷ 0 ∷ 2 ∷ 65535 ∷ 0 ∷ 0 ∷ 2 ∷ 0 ∷ 2 ∷ 1 ∷ 1 ∷ 1 ∷ 2 ∷ 0 ∷ 1 ∷ 0 ∷ 0 ∷ 1 ∷ 1 ∷ 0 ∷ 0 ∷ []
-
-abbrev names-125 : List ℕ
-names-125 = joined (slotOf (115 ∷ []) ∷ slotOf (101 ∷ []) ∷ slotOf (42 ∷ []) ∷ [])
-
-example-125 : alike (played numbers-125 names-125 []) ((4 ∷ []) ∷ []) ≡ true
-unfolding everything joined historyShown queueShown shown playedIf played alike
-example-125 = refl
-
 -- targets a row and its ancestor
-abbrev numbers-126 : List ℕ
-numbers-126 = 4 ∷ 2 ∷ 3 ∷ 2 ∷ 0 ∷ 4 ∷ 0 ∷ 65535 ∷ 65535 ∷ 0 ∷ 0 ∷ 0 ∷ 0 ∷ 0 ∷ 0 ∷ 0 ∷ 0 ∷ 1 ∷ 0 ∷ 0 ∷ 0 ∷ 0 ∷ 0 ∷ 0 ∷
+abbrev numbers-122 : List ℕ
+numbers-122 = 4 ∷ 2 ∷ 3 ∷ 2 ∷ 0 ∷ 4 ∷ 0 ∷ 65535 ∷ 65535 ∷ 0 ∷ 0 ∷ 0 ∷ 0 ∷ 0 ∷ 0 ∷ 0 ∷ 0 ∷ 1 ∷ 0 ∷ 0 ∷ 0 ∷ 0 ∷ 0 ∷ 0 ∷
     0 ∷ 0 ∷ 0 ∷ 0 ∷ 1 ∷ 1 ∷ 1 ∷ 0 ∷ 0 ∷ 0 ∷ 0 ∷ 0 ∷ 0 ∷ 0 ∷ 0 ∷ 1 ∷ 1 ∷ 2 ∷ 0 ∷ 0 ∷ 0 ∷ 0 ∷ 0 ∷ 0 ∷ 0 ∷ 0 ∷ 1 ∷ 0 ∷ 1 ∷
     65535 ∷ 0 ∷ 0 ∷ 2 ∷ 0 ∷ 0 ∷ 2 ∷ 1 ∷ 1 ∷ 65535 ∷ 0 ∷ 2 ∷ 1 ∷ 0 ∷ 0 ∷ 1 ∷ 3 ∷ 3 ∷ 3 ∷ 3 ∷ []
 
-abbrev names-126 : List ℕ
-names-126 = joined (slotOf (115 ∷ []) ∷ slotOf (97 ∷ []) ∷ slotOf (98 ∷ []) ∷ slotOf (101 ∷ []) ∷ [])
+abbrev names-122 : List ℕ
+names-122 = joined (slotOf (115 ∷ []) ∷ slotOf (97 ∷ []) ∷ slotOf (98 ∷ []) ∷ slotOf (101 ∷ []) ∷ [])
 
-example-126 : alike (played numbers-126 names-126 []) ((4 ∷ []) ∷ []) ≡ true
-unfolding everything joined historyShown queueShown shown playedIf played alike
-example-126 = refl
+example-122 : alike (played numbers-122 names-122 []) ((4 ∷ []) ∷ []) ≡ true
+unfolding everything joined historyShown queueShown pendingShown shown playedIf played alike
+example-122 = refl
 
 -- targets under one state
-abbrev numbers-127 : List ℕ
-numbers-127 = 3 ∷ 1 ∷ 2 ∷ 1 ∷ 0 ∷ 3 ∷ 0 ∷ 65535 ∷ 65535 ∷ 0 ∷ 0 ∷ 0 ∷ 0 ∷ 0 ∷ 0 ∷ 0 ∷ 0 ∷ 1 ∷ 0 ∷ 0 ∷ 0 ∷ 0 ∷ 0 ∷ 0 ∷
+abbrev numbers-123 : List ℕ
+numbers-123 = 3 ∷ 1 ∷ 2 ∷ 1 ∷ 0 ∷ 3 ∷ 0 ∷ 65535 ∷ 65535 ∷ 0 ∷ 0 ∷ 0 ∷ 0 ∷ 0 ∷ 0 ∷ 0 ∷ 0 ∷ 1 ∷ 0 ∷ 0 ∷ 0 ∷ 0 ∷ 0 ∷ 0 ∷
     0 ∷ 0 ∷ 0 ∷ 0 ∷ 3 ∷ 0 ∷ 1 ∷ 0 ∷ 0 ∷ 0 ∷ 0 ∷ 0 ∷ 0 ∷ 0 ∷ 0 ∷ 1 ∷ 0 ∷ 1 ∷ 65535 ∷ 0 ∷ 0 ∷ 2 ∷ 0 ∷ 0 ∷ 1 ∷ 2 ∷ 2 ∷ []
 
-abbrev names-127 : List ℕ
-names-127 = joined (slotOf (115 ∷ []) ∷ slotOf (102 ∷ []) ∷ slotOf (101 ∷ []) ∷ [])
+abbrev names-123 : List ℕ
+names-123 = joined (slotOf (115 ∷ []) ∷ slotOf (102 ∷ []) ∷ slotOf (101 ∷ []) ∷ [])
 
-example-127 : alike (played numbers-127 names-127 []) ((4 ∷ []) ∷ []) ≡ true
-unfolding everything joined historyShown queueShown shown playedIf played alike
-example-127 = refl
+example-123 : alike (played numbers-123 names-123 []) ((4 ∷ []) ∷ []) ≡ true
+unfolding everything joined historyShown queueShown pendingShown shown playedIf played alike
+example-123 = refl
 
 -- targets two histories of one row
-abbrev numbers-128 : List ℕ
-numbers-128 = 6 ∷ 1 ∷ 4 ∷ 1 ∷ 0 ∷ 6 ∷ 0 ∷ 65535 ∷ 65535 ∷ 0 ∷ 0 ∷ 0 ∷ 0 ∷ 0 ∷ 0 ∷ 0 ∷ 0 ∷ 1 ∷ 0 ∷ 0 ∷ 0 ∷ 0 ∷ 0 ∷ 0 ∷
+abbrev numbers-124 : List ℕ
+numbers-124 = 6 ∷ 1 ∷ 4 ∷ 1 ∷ 0 ∷ 6 ∷ 0 ∷ 65535 ∷ 65535 ∷ 0 ∷ 0 ∷ 0 ∷ 0 ∷ 0 ∷ 0 ∷ 0 ∷ 0 ∷ 1 ∷ 0 ∷ 0 ∷ 0 ∷ 0 ∷ 0 ∷ 0 ∷
     0 ∷ 0 ∷ 0 ∷ 0 ∷ 1 ∷ 1 ∷ 1 ∷ 0 ∷ 0 ∷ 0 ∷ 0 ∷ 0 ∷ 0 ∷ 0 ∷ 0 ∷ 1 ∷ 1 ∷ 2 ∷ 0 ∷ 0 ∷ 0 ∷ 0 ∷ 0 ∷ 0 ∷ 0 ∷ 0 ∷ 4 ∷ 1 ∷ 3 ∷
     0 ∷ 0 ∷ 0 ∷ 0 ∷ 0 ∷ 1 ∷ 0 ∷ 0 ∷ 5 ∷ 1 ∷ 4 ∷ 0 ∷ 0 ∷ 0 ∷ 0 ∷ 1 ∷ 1 ∷ 0 ∷ 0 ∷ 2 ∷ 0 ∷ 1 ∷ 65535 ∷ 0 ∷ 2 ∷ 2 ∷ 0 ∷ 0 ∷
     2 ∷ 3 ∷ 4 ∷ 5 ∷ 5 ∷ []
 
-abbrev names-128 : List ℕ
-names-128 = joined (slotOf (115 ∷ []) ∷ slotOf (97 ∷ []) ∷ slotOf (98 ∷ []) ∷ slotOf (104 ∷ []) ∷ slotOf (100 ∷ []) ∷
+abbrev names-124 : List ℕ
+names-124 = joined (slotOf (115 ∷ []) ∷ slotOf (97 ∷ []) ∷ slotOf (98 ∷ []) ∷ slotOf (104 ∷ []) ∷ slotOf (100 ∷ []) ∷
     slotOf (101 ∷ []) ∷ [])
 
-example-128 : alike (played numbers-128 names-128 []) ((4 ∷ []) ∷ []) ≡ true
-unfolding everything joined historyShown queueShown shown playedIf played alike
-example-128 = refl
+example-124 : alike (played numbers-124 names-124 []) ((4 ∷ []) ∷ []) ≡ true
+unfolding everything joined historyShown queueShown pendingShown shown playedIf played alike
+example-124 = refl
 
 -- targets a history and its parent
-abbrev numbers-129 : List ℕ
-numbers-129 = 6 ∷ 1 ∷ 4 ∷ 1 ∷ 0 ∷ 6 ∷ 0 ∷ 65535 ∷ 65535 ∷ 0 ∷ 0 ∷ 0 ∷ 0 ∷ 0 ∷ 0 ∷ 0 ∷ 0 ∷ 1 ∷ 0 ∷ 0 ∷ 0 ∷ 0 ∷ 0 ∷ 0 ∷
+abbrev numbers-125 : List ℕ
+numbers-125 = 6 ∷ 1 ∷ 4 ∷ 1 ∷ 0 ∷ 6 ∷ 0 ∷ 65535 ∷ 65535 ∷ 0 ∷ 0 ∷ 0 ∷ 0 ∷ 0 ∷ 0 ∷ 0 ∷ 0 ∷ 1 ∷ 0 ∷ 0 ∷ 0 ∷ 0 ∷ 0 ∷ 0 ∷
     0 ∷ 0 ∷ 0 ∷ 0 ∷ 1 ∷ 1 ∷ 1 ∷ 0 ∷ 0 ∷ 0 ∷ 0 ∷ 0 ∷ 0 ∷ 0 ∷ 0 ∷ 1 ∷ 1 ∷ 2 ∷ 0 ∷ 0 ∷ 0 ∷ 0 ∷ 0 ∷ 0 ∷ 0 ∷ 0 ∷ 4 ∷ 1 ∷ 3 ∷
     0 ∷ 0 ∷ 0 ∷ 0 ∷ 0 ∷ 1 ∷ 0 ∷ 0 ∷ 5 ∷ 1 ∷ 4 ∷ 0 ∷ 0 ∷ 0 ∷ 0 ∷ 1 ∷ 1 ∷ 0 ∷ 0 ∷ 2 ∷ 0 ∷ 1 ∷ 65535 ∷ 0 ∷ 2 ∷ 2 ∷ 0 ∷ 0 ∷
     2 ∷ 3 ∷ 5 ∷ 1 ∷ 5 ∷ []
 
-abbrev names-129 : List ℕ
-names-129 = joined (slotOf (115 ∷ []) ∷ slotOf (97 ∷ []) ∷ slotOf (98 ∷ []) ∷ slotOf (104 ∷ []) ∷ slotOf (100 ∷ []) ∷
+abbrev names-125 : List ℕ
+names-125 = joined (slotOf (115 ∷ []) ∷ slotOf (97 ∷ []) ∷ slotOf (98 ∷ []) ∷ slotOf (104 ∷ []) ∷ slotOf (100 ∷ []) ∷
     slotOf (101 ∷ []) ∷ [])
 
-example-129 : alike (played numbers-129 names-129 []) ((4 ∷ []) ∷ []) ≡ true
-unfolding everything joined historyShown queueShown shown playedIf played alike
-example-129 = refl
+example-125 : alike (played numbers-125 names-125 []) ((4 ∷ []) ∷ []) ≡ true
+unfolding everything joined historyShown queueShown pendingShown shown playedIf played alike
+example-125 = refl
 
 -- targets a history and a row beside it
-abbrev numbers-130 : List ℕ
-numbers-130 = 6 ∷ 1 ∷ 4 ∷ 1 ∷ 0 ∷ 6 ∷ 0 ∷ 65535 ∷ 65535 ∷ 0 ∷ 0 ∷ 0 ∷ 0 ∷ 0 ∷ 0 ∷ 0 ∷ 0 ∷ 1 ∷ 0 ∷ 0 ∷ 0 ∷ 0 ∷ 0 ∷ 0 ∷
+abbrev numbers-126 : List ℕ
+numbers-126 = 6 ∷ 1 ∷ 4 ∷ 1 ∷ 0 ∷ 6 ∷ 0 ∷ 65535 ∷ 65535 ∷ 0 ∷ 0 ∷ 0 ∷ 0 ∷ 0 ∷ 0 ∷ 0 ∷ 0 ∷ 1 ∷ 0 ∷ 0 ∷ 0 ∷ 0 ∷ 0 ∷ 0 ∷
     0 ∷ 0 ∷ 0 ∷ 0 ∷ 1 ∷ 1 ∷ 1 ∷ 0 ∷ 0 ∷ 0 ∷ 0 ∷ 0 ∷ 0 ∷ 0 ∷ 0 ∷ 1 ∷ 1 ∷ 2 ∷ 0 ∷ 0 ∷ 0 ∷ 0 ∷ 0 ∷ 0 ∷ 0 ∷ 0 ∷ 4 ∷ 1 ∷ 3 ∷
     0 ∷ 0 ∷ 0 ∷ 0 ∷ 0 ∷ 1 ∷ 0 ∷ 0 ∷ 5 ∷ 1 ∷ 4 ∷ 0 ∷ 0 ∷ 0 ∷ 0 ∷ 1 ∷ 1 ∷ 0 ∷ 0 ∷ 2 ∷ 0 ∷ 1 ∷ 65535 ∷ 0 ∷ 2 ∷ 2 ∷ 0 ∷ 0 ∷
     2 ∷ 3 ∷ 2 ∷ 5 ∷ 5 ∷ []
+
+abbrev names-126 : List ℕ
+names-126 = joined (slotOf (115 ∷ []) ∷ slotOf (97 ∷ []) ∷ slotOf (98 ∷ []) ∷ slotOf (104 ∷ []) ∷ slotOf (100 ∷ []) ∷
+    slotOf (101 ∷ []) ∷ [])
+
+example-126 : alike (played numbers-126 names-126 []) ((4 ∷ []) ∷ []) ≡ true
+unfolding everything joined historyShown queueShown pendingShown shown playedIf played alike
+example-126 = refl
+
+-- sources out of order
+abbrev numbers-127 : List ℕ
+numbers-127 = 4 ∷ 2 ∷ 2 ∷ 2 ∷ 0 ∷ 4 ∷ 0 ∷ 65535 ∷ 65535 ∷ 0 ∷ 0 ∷ 0 ∷ 0 ∷ 0 ∷ 0 ∷ 0 ∷ 0 ∷ 1 ∷ 0 ∷ 0 ∷ 0 ∷ 0 ∷ 0 ∷ 0 ∷
+    0 ∷ 0 ∷ 0 ∷ 0 ∷ 1 ∷ 1 ∷ 1 ∷ 0 ∷ 0 ∷ 0 ∷ 0 ∷ 0 ∷ 0 ∷ 0 ∷ 0 ∷ 1 ∷ 1 ∷ 2 ∷ 0 ∷ 0 ∷ 0 ∷ 0 ∷ 0 ∷ 0 ∷ 0 ∷ 0 ∷ 2 ∷ 0 ∷ 1 ∷
+    65535 ∷ 0 ∷ 0 ∷ 1 ∷ 0 ∷ 0 ∷ 1 ∷ 1 ∷ 1 ∷ 65535 ∷ 0 ∷ 1 ∷ 1 ∷ 0 ∷ 0 ∷ 3 ∷ 3 ∷ 3 ∷ 3 ∷ []
+
+abbrev names-127 : List ℕ
+names-127 = joined (slotOf (115 ∷ []) ∷ slotOf (97 ∷ []) ∷ slotOf (98 ∷ []) ∷ slotOf (101 ∷ []) ∷ [])
+
+example-127 : alike (played numbers-127 names-127 []) ((5 ∷ []) ∷ []) ≡ true
+unfolding everything joined historyShown queueShown pendingShown shown playedIf played alike
+example-127 = refl
+
+-- source is the root
+abbrev numbers-128 : List ℕ
+numbers-128 = 2 ∷ 1 ∷ 1 ∷ 2 ∷ 2 ∷ 3 ∷ 0 ∷ 65535 ∷ 65535 ∷ 0 ∷ 0 ∷ 0 ∷ 0 ∷ 0 ∷ 0 ∷ 0 ∷ 0 ∷ 1 ∷ 0 ∷ 0 ∷ 0 ∷ 0 ∷ 0 ∷ 0 ∷
+    0 ∷ 0 ∷ 0 ∷ 0 ∷ 0 ∷ 0 ∷ 2 ∷ 65535 ∷ 0 ∷ 0 ∷ 1 ∷ 0 ∷ 2 ∷ 1 ∷ 1 ∷ 2 ∷ 0 ∷ 1 ∷ 0 ∷ 0 ∷ 1 ∷ 1 ∷ 0 ∷ 0 ∷ []
+
+abbrev names-128 : List ℕ
+names-128 = joined (slotOf (115 ∷ []) ∷ slotOf (101 ∷ []) ∷ slotOf (42 ∷ []) ∷ [])
+
+example-128 : alike (played numbers-128 names-128 []) ((5 ∷ []) ∷ []) ≡ true
+unfolding everything joined historyShown queueShown pendingShown shown playedIf played alike
+example-128 = refl
+
+-- source is a final
+abbrev numbers-129 : List ℕ
+numbers-129 = 3 ∷ 2 ∷ 2 ∷ 1 ∷ 0 ∷ 3 ∷ 0 ∷ 65535 ∷ 65535 ∷ 0 ∷ 0 ∷ 0 ∷ 0 ∷ 0 ∷ 0 ∷ 0 ∷ 0 ∷ 1 ∷ 0 ∷ 0 ∷ 0 ∷ 0 ∷ 0 ∷ 0 ∷
+    0 ∷ 0 ∷ 0 ∷ 0 ∷ 3 ∷ 0 ∷ 1 ∷ 0 ∷ 0 ∷ 0 ∷ 0 ∷ 0 ∷ 0 ∷ 0 ∷ 0 ∷ 1 ∷ 0 ∷ 1 ∷ 65535 ∷ 0 ∷ 0 ∷ 1 ∷ 0 ∷ 0 ∷ 2 ∷ 0 ∷ 0 ∷
+    65535 ∷ 0 ∷ 1 ∷ 1 ∷ 0 ∷ 0 ∷ 2 ∷ 1 ∷ 2 ∷ []
+
+abbrev names-129 : List ℕ
+names-129 = joined (slotOf (115 ∷ []) ∷ slotOf (102 ∷ []) ∷ slotOf (101 ∷ []) ∷ [])
+
+example-129 : alike (played numbers-129 names-129 []) ((5 ∷ []) ∷ []) ≡ true
+unfolding everything joined historyShown queueShown pendingShown shown playedIf played alike
+example-129 = refl
+
+-- source is a history
+abbrev numbers-130 : List ℕ
+numbers-130 = 6 ∷ 2 ∷ 4 ∷ 1 ∷ 0 ∷ 6 ∷ 0 ∷ 65535 ∷ 65535 ∷ 0 ∷ 0 ∷ 0 ∷ 0 ∷ 0 ∷ 0 ∷ 0 ∷ 0 ∷ 1 ∷ 0 ∷ 0 ∷ 0 ∷ 0 ∷ 0 ∷ 0 ∷
+    0 ∷ 0 ∷ 0 ∷ 0 ∷ 1 ∷ 1 ∷ 1 ∷ 0 ∷ 0 ∷ 0 ∷ 0 ∷ 0 ∷ 0 ∷ 0 ∷ 0 ∷ 1 ∷ 1 ∷ 2 ∷ 0 ∷ 0 ∷ 0 ∷ 0 ∷ 0 ∷ 0 ∷ 0 ∷ 0 ∷ 4 ∷ 1 ∷ 3 ∷
+    0 ∷ 0 ∷ 0 ∷ 0 ∷ 0 ∷ 1 ∷ 0 ∷ 0 ∷ 5 ∷ 1 ∷ 4 ∷ 0 ∷ 0 ∷ 0 ∷ 0 ∷ 1 ∷ 1 ∷ 0 ∷ 0 ∷ 2 ∷ 0 ∷ 1 ∷ 65535 ∷ 0 ∷ 2 ∷ 1 ∷ 0 ∷ 0 ∷
+    5 ∷ 0 ∷ 0 ∷ 65535 ∷ 0 ∷ 3 ∷ 1 ∷ 0 ∷ 0 ∷ 2 ∷ 3 ∷ 4 ∷ 1 ∷ 5 ∷ []
 
 abbrev names-130 : List ℕ
 names-130 = joined (slotOf (115 ∷ []) ∷ slotOf (97 ∷ []) ∷ slotOf (98 ∷ []) ∷ slotOf (104 ∷ []) ∷ slotOf (100 ∷ []) ∷
     slotOf (101 ∷ []) ∷ [])
 
-example-130 : alike (played numbers-130 names-130 []) ((4 ∷ []) ∷ []) ≡ true
-unfolding everything joined historyShown queueShown shown playedIf played alike
+example-130 : alike (played numbers-130 names-130 []) ((5 ∷ []) ∷ []) ≡ true
+unfolding everything joined historyShown queueShown pendingShown shown playedIf played alike
 example-130 = refl
 
--- sources out of order
+-- transition with nothing
 abbrev numbers-131 : List ℕ
-numbers-131 = 4 ∷ 2 ∷ 2 ∷ 2 ∷ 0 ∷ 4 ∷ 0 ∷ 65535 ∷ 65535 ∷ 0 ∷ 0 ∷ 0 ∷ 0 ∷ 0 ∷ 0 ∷ 0 ∷ 0 ∷ 1 ∷ 0 ∷ 0 ∷ 0 ∷ 0 ∷ 0 ∷ 0 ∷
-    0 ∷ 0 ∷ 0 ∷ 0 ∷ 1 ∷ 1 ∷ 1 ∷ 0 ∷ 0 ∷ 0 ∷ 0 ∷ 0 ∷ 0 ∷ 0 ∷ 0 ∷ 1 ∷ 1 ∷ 2 ∷ 0 ∷ 0 ∷ 0 ∷ 0 ∷ 0 ∷ 0 ∷ 0 ∷ 0 ∷ 2 ∷ 0 ∷ 1 ∷
-    65535 ∷ 0 ∷ 0 ∷ 1 ∷ 0 ∷ 0 ∷ 1 ∷ 1 ∷ 1 ∷ 65535 ∷ 0 ∷ 1 ∷ 1 ∷ 0 ∷ 0 ∷ 3 ∷ 3 ∷ 3 ∷ 3 ∷ []
+numbers-131 = 2 ∷ 2 ∷ 1 ∷ 2 ∷ 2 ∷ 3 ∷ 0 ∷ 65535 ∷ 65535 ∷ 0 ∷ 0 ∷ 0 ∷ 0 ∷ 0 ∷ 0 ∷ 0 ∷ 0 ∷ 1 ∷ 0 ∷ 0 ∷ 0 ∷ 0 ∷ 0 ∷ 0 ∷
+    0 ∷ 0 ∷ 0 ∷ 0 ∷ 1 ∷ 0 ∷ 2 ∷ 65535 ∷ 0 ∷ 0 ∷ 1 ∷ 0 ∷ 2 ∷ 1 ∷ 0 ∷ 0 ∷ 65535 ∷ 0 ∷ 0 ∷ 0 ∷ 0 ∷ 0 ∷ 1 ∷ 1 ∷ 2 ∷ 0 ∷ 1 ∷
+    0 ∷ 0 ∷ 1 ∷ 1 ∷ 0 ∷ 0 ∷ []
 
 abbrev names-131 : List ℕ
-names-131 = joined (slotOf (115 ∷ []) ∷ slotOf (97 ∷ []) ∷ slotOf (98 ∷ []) ∷ slotOf (101 ∷ []) ∷ [])
+names-131 = joined (slotOf (115 ∷ []) ∷ slotOf (101 ∷ []) ∷ slotOf (42 ∷ []) ∷ [])
 
 example-131 : alike (played numbers-131 names-131 []) ((5 ∷ []) ∷ []) ≡ true
-unfolding everything joined historyShown queueShown shown playedIf played alike
+unfolding everything joined historyShown queueShown pendingShown shown playedIf played alike
 example-131 = refl
 
--- source is the root
+-- transition with a block alone
 abbrev numbers-132 : List ℕ
-numbers-132 = 2 ∷ 1 ∷ 1 ∷ 2 ∷ 2 ∷ 3 ∷ 0 ∷ 65535 ∷ 65535 ∷ 0 ∷ 0 ∷ 0 ∷ 0 ∷ 0 ∷ 0 ∷ 0 ∷ 0 ∷ 1 ∷ 0 ∷ 0 ∷ 0 ∷ 0 ∷ 0 ∷ 0 ∷
-    0 ∷ 0 ∷ 0 ∷ 0 ∷ 0 ∷ 0 ∷ 2 ∷ 65535 ∷ 0 ∷ 0 ∷ 1 ∷ 0 ∷ 2 ∷ 1 ∷ 1 ∷ 2 ∷ 0 ∷ 1 ∷ 0 ∷ 0 ∷ 1 ∷ 1 ∷ 0 ∷ 0 ∷ []
+numbers-132 = 2 ∷ 2 ∷ 1 ∷ 2 ∷ 3 ∷ 3 ∷ 0 ∷ 65535 ∷ 65535 ∷ 0 ∷ 0 ∷ 0 ∷ 0 ∷ 0 ∷ 0 ∷ 0 ∷ 0 ∷ 1 ∷ 0 ∷ 0 ∷ 0 ∷ 0 ∷ 0 ∷ 0 ∷
+    0 ∷ 0 ∷ 0 ∷ 0 ∷ 1 ∷ 0 ∷ 2 ∷ 65535 ∷ 0 ∷ 0 ∷ 1 ∷ 0 ∷ 2 ∷ 1 ∷ 0 ∷ 0 ∷ 65535 ∷ 0 ∷ 0 ∷ 0 ∷ 2 ∷ 1 ∷ 1 ∷ 1 ∷ 2 ∷ 0 ∷ 1 ∷
+    0 ∷ 0 ∷ 1 ∷ 1 ∷ 0 ∷ 0 ∷ 1 ∷ 7 ∷ 0 ∷ 0 ∷ []
 
 abbrev names-132 : List ℕ
 names-132 = joined (slotOf (115 ∷ []) ∷ slotOf (101 ∷ []) ∷ slotOf (42 ∷ []) ∷ [])
 
 example-132 : alike (played numbers-132 names-132 []) ((5 ∷ []) ∷ []) ≡ true
-unfolding everything joined historyShown queueShown shown playedIf played alike
+unfolding everything joined historyShown queueShown pendingShown shown playedIf played alike
 example-132 = refl
 
--- source is a final
+-- In names the root
 abbrev numbers-133 : List ℕ
-numbers-133 = 3 ∷ 2 ∷ 2 ∷ 1 ∷ 0 ∷ 3 ∷ 0 ∷ 65535 ∷ 65535 ∷ 0 ∷ 0 ∷ 0 ∷ 0 ∷ 0 ∷ 0 ∷ 0 ∷ 0 ∷ 1 ∷ 0 ∷ 0 ∷ 0 ∷ 0 ∷ 0 ∷ 0 ∷
-    0 ∷ 0 ∷ 0 ∷ 0 ∷ 3 ∷ 0 ∷ 1 ∷ 0 ∷ 0 ∷ 0 ∷ 0 ∷ 0 ∷ 0 ∷ 0 ∷ 0 ∷ 1 ∷ 0 ∷ 1 ∷ 65535 ∷ 0 ∷ 0 ∷ 1 ∷ 0 ∷ 0 ∷ 2 ∷ 0 ∷ 0 ∷
-    65535 ∷ 0 ∷ 1 ∷ 1 ∷ 0 ∷ 0 ∷ 2 ∷ 1 ∷ 2 ∷ []
+numbers-133 = 2 ∷ 1 ∷ 1 ∷ 2 ∷ 2 ∷ 3 ∷ 0 ∷ 65535 ∷ 65535 ∷ 0 ∷ 0 ∷ 0 ∷ 0 ∷ 0 ∷ 0 ∷ 0 ∷ 0 ∷ 1 ∷ 0 ∷ 0 ∷ 0 ∷ 0 ∷ 0 ∷ 0 ∷
+    0 ∷ 0 ∷ 0 ∷ 0 ∷ 1 ∷ 0 ∷ 2 ∷ 0 ∷ 0 ∷ 0 ∷ 1 ∷ 0 ∷ 2 ∷ 1 ∷ 1 ∷ 2 ∷ 0 ∷ 1 ∷ 0 ∷ 0 ∷ 1 ∷ 1 ∷ 0 ∷ 0 ∷ []
 
 abbrev names-133 : List ℕ
-names-133 = joined (slotOf (115 ∷ []) ∷ slotOf (102 ∷ []) ∷ slotOf (101 ∷ []) ∷ [])
+names-133 = joined (slotOf (115 ∷ []) ∷ slotOf (101 ∷ []) ∷ slotOf (42 ∷ []) ∷ [])
 
 example-133 : alike (played numbers-133 names-133 []) ((5 ∷ []) ∷ []) ≡ true
-unfolding everything joined historyShown queueShown shown playedIf played alike
+unfolding everything joined historyShown queueShown pendingShown shown playedIf played alike
 example-133 = refl
 
--- source is a history
+-- In names a history
 abbrev numbers-134 : List ℕ
-numbers-134 = 6 ∷ 2 ∷ 4 ∷ 1 ∷ 0 ∷ 6 ∷ 0 ∷ 65535 ∷ 65535 ∷ 0 ∷ 0 ∷ 0 ∷ 0 ∷ 0 ∷ 0 ∷ 0 ∷ 0 ∷ 1 ∷ 0 ∷ 0 ∷ 0 ∷ 0 ∷ 0 ∷ 0 ∷
+numbers-134 = 6 ∷ 1 ∷ 3 ∷ 1 ∷ 0 ∷ 6 ∷ 0 ∷ 65535 ∷ 65535 ∷ 0 ∷ 0 ∷ 0 ∷ 0 ∷ 0 ∷ 0 ∷ 0 ∷ 0 ∷ 1 ∷ 0 ∷ 0 ∷ 0 ∷ 0 ∷ 0 ∷ 0 ∷
     0 ∷ 0 ∷ 0 ∷ 0 ∷ 1 ∷ 1 ∷ 1 ∷ 0 ∷ 0 ∷ 0 ∷ 0 ∷ 0 ∷ 0 ∷ 0 ∷ 0 ∷ 1 ∷ 1 ∷ 2 ∷ 0 ∷ 0 ∷ 0 ∷ 0 ∷ 0 ∷ 0 ∷ 0 ∷ 0 ∷ 4 ∷ 1 ∷ 3 ∷
-    0 ∷ 0 ∷ 0 ∷ 0 ∷ 0 ∷ 1 ∷ 0 ∷ 0 ∷ 5 ∷ 1 ∷ 4 ∷ 0 ∷ 0 ∷ 0 ∷ 0 ∷ 1 ∷ 1 ∷ 0 ∷ 0 ∷ 2 ∷ 0 ∷ 1 ∷ 65535 ∷ 0 ∷ 2 ∷ 1 ∷ 0 ∷ 0 ∷
-    5 ∷ 0 ∷ 0 ∷ 65535 ∷ 0 ∷ 3 ∷ 1 ∷ 0 ∷ 0 ∷ 2 ∷ 3 ∷ 4 ∷ 1 ∷ 5 ∷ []
+    0 ∷ 0 ∷ 0 ∷ 0 ∷ 0 ∷ 1 ∷ 0 ∷ 0 ∷ 5 ∷ 1 ∷ 4 ∷ 0 ∷ 0 ∷ 0 ∷ 0 ∷ 1 ∷ 1 ∷ 0 ∷ 0 ∷ 2 ∷ 0 ∷ 1 ∷ 5 ∷ 0 ∷ 2 ∷ 1 ∷ 0 ∷ 0 ∷ 2 ∷
+    3 ∷ 4 ∷ 5 ∷ []
 
 abbrev names-134 : List ℕ
 names-134 = joined (slotOf (115 ∷ []) ∷ slotOf (97 ∷ []) ∷ slotOf (98 ∷ []) ∷ slotOf (104 ∷ []) ∷ slotOf (100 ∷ []) ∷
     slotOf (101 ∷ []) ∷ [])
 
 example-134 : alike (played numbers-134 names-134 []) ((5 ∷ []) ∷ []) ≡ true
-unfolding everything joined historyShown queueShown shown playedIf played alike
+unfolding everything joined historyShown queueShown pendingShown shown playedIf played alike
 example-134 = refl
 
--- transition with nothing
+-- eventless without targets, in itself
 abbrev numbers-135 : List ℕ
 numbers-135 = 2 ∷ 2 ∷ 1 ∷ 2 ∷ 2 ∷ 3 ∷ 0 ∷ 65535 ∷ 65535 ∷ 0 ∷ 0 ∷ 0 ∷ 0 ∷ 0 ∷ 0 ∷ 0 ∷ 0 ∷ 1 ∷ 0 ∷ 0 ∷ 0 ∷ 0 ∷ 0 ∷ 0 ∷
-    0 ∷ 0 ∷ 0 ∷ 0 ∷ 1 ∷ 0 ∷ 2 ∷ 65535 ∷ 0 ∷ 0 ∷ 1 ∷ 0 ∷ 2 ∷ 1 ∷ 0 ∷ 0 ∷ 65535 ∷ 0 ∷ 0 ∷ 0 ∷ 0 ∷ 0 ∷ 1 ∷ 1 ∷ 2 ∷ 0 ∷ 1 ∷
-    0 ∷ 0 ∷ 1 ∷ 1 ∷ 0 ∷ 0 ∷ []
+    0 ∷ 0 ∷ 0 ∷ 0 ∷ 1 ∷ 0 ∷ 2 ∷ 65535 ∷ 0 ∷ 0 ∷ 1 ∷ 0 ∷ 2 ∷ 1 ∷ 0 ∷ 0 ∷ 1 ∷ 0 ∷ 0 ∷ 0 ∷ 0 ∷ 0 ∷ 1 ∷ 1 ∷ 2 ∷ 0 ∷ 1 ∷ 0 ∷
+    0 ∷ 1 ∷ 1 ∷ 0 ∷ 0 ∷ []
 
 abbrev names-135 : List ℕ
 names-135 = joined (slotOf (115 ∷ []) ∷ slotOf (101 ∷ []) ∷ slotOf (42 ∷ []) ∷ [])
 
 example-135 : alike (played numbers-135 names-135 []) ((5 ∷ []) ∷ []) ≡ true
-unfolding everything joined historyShown queueShown shown playedIf played alike
+unfolding everything joined historyShown queueShown pendingShown shown playedIf played alike
 example-135 = refl
 
--- transition with a block alone
+-- eventless without targets, in another row
 abbrev numbers-136 : List ℕ
-numbers-136 = 2 ∷ 2 ∷ 1 ∷ 2 ∷ 3 ∷ 3 ∷ 0 ∷ 65535 ∷ 65535 ∷ 0 ∷ 0 ∷ 0 ∷ 0 ∷ 0 ∷ 0 ∷ 0 ∷ 0 ∷ 1 ∷ 0 ∷ 0 ∷ 0 ∷ 0 ∷ 0 ∷ 0 ∷
-    0 ∷ 0 ∷ 0 ∷ 0 ∷ 1 ∷ 0 ∷ 2 ∷ 65535 ∷ 0 ∷ 0 ∷ 1 ∷ 0 ∷ 2 ∷ 1 ∷ 0 ∷ 0 ∷ 65535 ∷ 0 ∷ 0 ∷ 0 ∷ 2 ∷ 1 ∷ 1 ∷ 1 ∷ 2 ∷ 0 ∷ 1 ∷
-    0 ∷ 0 ∷ 1 ∷ 1 ∷ 0 ∷ 0 ∷ 1 ∷ 7 ∷ 0 ∷ 0 ∷ []
+numbers-136 = 2 ∷ 2 ∷ 1 ∷ 2 ∷ 2 ∷ 3 ∷ 0 ∷ 65535 ∷ 65535 ∷ 0 ∷ 0 ∷ 0 ∷ 0 ∷ 0 ∷ 0 ∷ 0 ∷ 0 ∷ 1 ∷ 0 ∷ 0 ∷ 0 ∷ 0 ∷ 0 ∷ 0 ∷
+    0 ∷ 0 ∷ 0 ∷ 0 ∷ 1 ∷ 0 ∷ 2 ∷ 65535 ∷ 0 ∷ 0 ∷ 1 ∷ 0 ∷ 2 ∷ 1 ∷ 0 ∷ 0 ∷ 1 ∷ 0 ∷ 0 ∷ 0 ∷ 0 ∷ 0 ∷ 1 ∷ 1 ∷ 2 ∷ 0 ∷ 1 ∷ 0 ∷
+    0 ∷ 1 ∷ 1 ∷ 0 ∷ 0 ∷ []
 
 abbrev names-136 : List ℕ
 names-136 = joined (slotOf (115 ∷ []) ∷ slotOf (101 ∷ []) ∷ slotOf (42 ∷ []) ∷ [])
 
 example-136 : alike (played numbers-136 names-136 []) ((5 ∷ []) ∷ []) ≡ true
-unfolding everything joined historyShown queueShown shown playedIf played alike
+unfolding everything joined historyShown queueShown pendingShown shown playedIf played alike
 example-136 = refl
 
--- In names the root
+-- eventless without targets, with condition and block
 abbrev numbers-137 : List ℕ
-numbers-137 = 2 ∷ 1 ∷ 1 ∷ 2 ∷ 2 ∷ 3 ∷ 0 ∷ 65535 ∷ 65535 ∷ 0 ∷ 0 ∷ 0 ∷ 0 ∷ 0 ∷ 0 ∷ 0 ∷ 0 ∷ 1 ∷ 0 ∷ 0 ∷ 0 ∷ 0 ∷ 0 ∷ 0 ∷
-    0 ∷ 0 ∷ 0 ∷ 0 ∷ 1 ∷ 0 ∷ 2 ∷ 0 ∷ 0 ∷ 0 ∷ 1 ∷ 0 ∷ 2 ∷ 1 ∷ 1 ∷ 2 ∷ 0 ∷ 1 ∷ 0 ∷ 0 ∷ 1 ∷ 1 ∷ 0 ∷ 0 ∷ []
+numbers-137 = 2 ∷ 2 ∷ 1 ∷ 2 ∷ 3 ∷ 3 ∷ 0 ∷ 65535 ∷ 65535 ∷ 0 ∷ 0 ∷ 0 ∷ 0 ∷ 0 ∷ 0 ∷ 0 ∷ 0 ∷ 1 ∷ 0 ∷ 0 ∷ 0 ∷ 0 ∷ 0 ∷ 0 ∷
+    0 ∷ 0 ∷ 0 ∷ 0 ∷ 1 ∷ 0 ∷ 2 ∷ 65535 ∷ 0 ∷ 0 ∷ 1 ∷ 0 ∷ 2 ∷ 1 ∷ 0 ∷ 0 ∷ 1 ∷ 0 ∷ 0 ∷ 0 ∷ 2 ∷ 1 ∷ 1 ∷ 1 ∷ 2 ∷ 0 ∷ 1 ∷ 0 ∷
+    0 ∷ 1 ∷ 1 ∷ 0 ∷ 0 ∷ 1 ∷ 7 ∷ 0 ∷ 0 ∷ []
 
 abbrev names-137 : List ℕ
 names-137 = joined (slotOf (115 ∷ []) ∷ slotOf (101 ∷ []) ∷ slotOf (42 ∷ []) ∷ [])
 
 example-137 : alike (played numbers-137 names-137 []) ((5 ∷ []) ∷ []) ≡ true
-unfolding everything joined historyShown queueShown shown playedIf played alike
+unfolding everything joined historyShown queueShown pendingShown shown playedIf played alike
 example-137 = refl
 
--- In names a history
+-- eventless without targets, internal
 abbrev numbers-138 : List ℕ
-numbers-138 = 6 ∷ 1 ∷ 3 ∷ 1 ∷ 0 ∷ 6 ∷ 0 ∷ 65535 ∷ 65535 ∷ 0 ∷ 0 ∷ 0 ∷ 0 ∷ 0 ∷ 0 ∷ 0 ∷ 0 ∷ 1 ∷ 0 ∷ 0 ∷ 0 ∷ 0 ∷ 0 ∷ 0 ∷
-    0 ∷ 0 ∷ 0 ∷ 0 ∷ 1 ∷ 1 ∷ 1 ∷ 0 ∷ 0 ∷ 0 ∷ 0 ∷ 0 ∷ 0 ∷ 0 ∷ 0 ∷ 1 ∷ 1 ∷ 2 ∷ 0 ∷ 0 ∷ 0 ∷ 0 ∷ 0 ∷ 0 ∷ 0 ∷ 0 ∷ 4 ∷ 1 ∷ 3 ∷
-    0 ∷ 0 ∷ 0 ∷ 0 ∷ 0 ∷ 1 ∷ 0 ∷ 0 ∷ 5 ∷ 1 ∷ 4 ∷ 0 ∷ 0 ∷ 0 ∷ 0 ∷ 1 ∷ 1 ∷ 0 ∷ 0 ∷ 2 ∷ 0 ∷ 1 ∷ 5 ∷ 0 ∷ 2 ∷ 1 ∷ 0 ∷ 0 ∷ 2 ∷
-    3 ∷ 4 ∷ 5 ∷ []
+numbers-138 = 2 ∷ 2 ∷ 1 ∷ 2 ∷ 2 ∷ 3 ∷ 0 ∷ 65535 ∷ 65535 ∷ 0 ∷ 0 ∷ 0 ∷ 0 ∷ 0 ∷ 0 ∷ 0 ∷ 0 ∷ 1 ∷ 0 ∷ 0 ∷ 0 ∷ 0 ∷ 0 ∷ 0 ∷
+    0 ∷ 0 ∷ 0 ∷ 0 ∷ 1 ∷ 0 ∷ 2 ∷ 65535 ∷ 0 ∷ 0 ∷ 1 ∷ 0 ∷ 2 ∷ 1 ∷ 0 ∷ 0 ∷ 1 ∷ 1 ∷ 0 ∷ 0 ∷ 0 ∷ 0 ∷ 1 ∷ 1 ∷ 2 ∷ 0 ∷ 1 ∷ 0 ∷
+    0 ∷ 1 ∷ 1 ∷ 0 ∷ 0 ∷ []
 
 abbrev names-138 : List ℕ
-names-138 = joined (slotOf (115 ∷ []) ∷ slotOf (97 ∷ []) ∷ slotOf (98 ∷ []) ∷ slotOf (104 ∷ []) ∷ slotOf (100 ∷ []) ∷
-    slotOf (101 ∷ []) ∷ [])
+names-138 = joined (slotOf (115 ∷ []) ∷ slotOf (101 ∷ []) ∷ slotOf (42 ∷ []) ∷ [])
 
 example-138 : alike (played numbers-138 names-138 []) ((5 ∷ []) ∷ []) ≡ true
-unfolding everything joined historyShown queueShown shown playedIf played alike
+unfolding everything joined historyShown queueShown pendingShown shown playedIf played alike
 example-138 = refl
 
--- eventless without targets, in itself
+-- eventless to itself
 abbrev numbers-139 : List ℕ
-numbers-139 = 2 ∷ 2 ∷ 1 ∷ 2 ∷ 2 ∷ 3 ∷ 0 ∷ 65535 ∷ 65535 ∷ 0 ∷ 0 ∷ 0 ∷ 0 ∷ 0 ∷ 0 ∷ 0 ∷ 0 ∷ 1 ∷ 0 ∷ 0 ∷ 0 ∷ 0 ∷ 0 ∷ 0 ∷
-    0 ∷ 0 ∷ 0 ∷ 0 ∷ 1 ∷ 0 ∷ 2 ∷ 65535 ∷ 0 ∷ 0 ∷ 1 ∷ 0 ∷ 2 ∷ 1 ∷ 0 ∷ 0 ∷ 1 ∷ 0 ∷ 0 ∷ 0 ∷ 0 ∷ 0 ∷ 1 ∷ 1 ∷ 2 ∷ 0 ∷ 1 ∷ 0 ∷
-    0 ∷ 1 ∷ 1 ∷ 0 ∷ 0 ∷ []
+numbers-139 = 2 ∷ 2 ∷ 2 ∷ 2 ∷ 2 ∷ 3 ∷ 0 ∷ 65535 ∷ 65535 ∷ 0 ∷ 0 ∷ 0 ∷ 0 ∷ 0 ∷ 0 ∷ 0 ∷ 0 ∷ 1 ∷ 0 ∷ 0 ∷ 0 ∷ 0 ∷ 0 ∷ 0 ∷
+    0 ∷ 0 ∷ 0 ∷ 0 ∷ 1 ∷ 0 ∷ 2 ∷ 65535 ∷ 0 ∷ 0 ∷ 1 ∷ 0 ∷ 2 ∷ 1 ∷ 0 ∷ 0 ∷ 65535 ∷ 0 ∷ 1 ∷ 1 ∷ 0 ∷ 0 ∷ 1 ∷ 1 ∷ 1 ∷ 2 ∷ 0 ∷
+    1 ∷ 0 ∷ 0 ∷ 1 ∷ 1 ∷ 0 ∷ 0 ∷ []
 
 abbrev names-139 : List ℕ
 names-139 = joined (slotOf (115 ∷ []) ∷ slotOf (101 ∷ []) ∷ slotOf (42 ∷ []) ∷ [])
 
 example-139 : alike (played numbers-139 names-139 []) ((5 ∷ []) ∷ []) ≡ true
-unfolding everything joined historyShown queueShown shown playedIf played alike
+unfolding everything joined historyShown queueShown pendingShown shown playedIf played alike
 example-139 = refl
 
--- eventless without targets, in another row
+-- eventless to itself, a parallel
 abbrev numbers-140 : List ℕ
-numbers-140 = 2 ∷ 2 ∷ 1 ∷ 2 ∷ 2 ∷ 3 ∷ 0 ∷ 65535 ∷ 65535 ∷ 0 ∷ 0 ∷ 0 ∷ 0 ∷ 0 ∷ 0 ∷ 0 ∷ 0 ∷ 1 ∷ 0 ∷ 0 ∷ 0 ∷ 0 ∷ 0 ∷ 0 ∷
-    0 ∷ 0 ∷ 0 ∷ 0 ∷ 1 ∷ 0 ∷ 2 ∷ 65535 ∷ 0 ∷ 0 ∷ 1 ∷ 0 ∷ 2 ∷ 1 ∷ 0 ∷ 0 ∷ 1 ∷ 0 ∷ 0 ∷ 0 ∷ 0 ∷ 0 ∷ 1 ∷ 1 ∷ 2 ∷ 0 ∷ 1 ∷ 0 ∷
-    0 ∷ 1 ∷ 1 ∷ 0 ∷ 0 ∷ []
+numbers-140 = 4 ∷ 1 ∷ 1 ∷ 0 ∷ 0 ∷ 4 ∷ 0 ∷ 65535 ∷ 65535 ∷ 0 ∷ 0 ∷ 0 ∷ 0 ∷ 0 ∷ 0 ∷ 0 ∷ 0 ∷ 2 ∷ 0 ∷ 0 ∷ 0 ∷ 0 ∷ 0 ∷ 0 ∷
+    0 ∷ 0 ∷ 0 ∷ 0 ∷ 1 ∷ 1 ∷ 1 ∷ 0 ∷ 0 ∷ 0 ∷ 0 ∷ 0 ∷ 0 ∷ 0 ∷ 0 ∷ 1 ∷ 1 ∷ 2 ∷ 0 ∷ 0 ∷ 0 ∷ 0 ∷ 0 ∷ 0 ∷ 0 ∷ 0 ∷ 1 ∷ 0 ∷ 0 ∷
+    65535 ∷ 0 ∷ 0 ∷ 1 ∷ 0 ∷ 0 ∷ 1 ∷ []
 
 abbrev names-140 : List ℕ
-names-140 = joined (slotOf (115 ∷ []) ∷ slotOf (101 ∷ []) ∷ slotOf (42 ∷ []) ∷ [])
+names-140 = joined (slotOf (112 ∷ []) ∷ slotOf (97 ∷ []) ∷ slotOf (98 ∷ []) ∷ slotOf (101 ∷ []) ∷ [])
 
 example-140 : alike (played numbers-140 names-140 []) ((5 ∷ []) ∷ []) ≡ true
-unfolding everything joined historyShown queueShown shown playedIf played alike
+unfolding everything joined historyShown queueShown pendingShown shown playedIf played alike
 example-140 = refl
 
--- eventless without targets, with condition and block
+-- eventless to itself, internal
 abbrev numbers-141 : List ℕ
-numbers-141 = 2 ∷ 2 ∷ 1 ∷ 2 ∷ 3 ∷ 3 ∷ 0 ∷ 65535 ∷ 65535 ∷ 0 ∷ 0 ∷ 0 ∷ 0 ∷ 0 ∷ 0 ∷ 0 ∷ 0 ∷ 1 ∷ 0 ∷ 0 ∷ 0 ∷ 0 ∷ 0 ∷ 0 ∷
-    0 ∷ 0 ∷ 0 ∷ 0 ∷ 1 ∷ 0 ∷ 2 ∷ 65535 ∷ 0 ∷ 0 ∷ 1 ∷ 0 ∷ 2 ∷ 1 ∷ 0 ∷ 0 ∷ 1 ∷ 0 ∷ 0 ∷ 0 ∷ 2 ∷ 1 ∷ 1 ∷ 1 ∷ 2 ∷ 0 ∷ 1 ∷ 0 ∷
-    0 ∷ 1 ∷ 1 ∷ 0 ∷ 0 ∷ 1 ∷ 7 ∷ 0 ∷ 0 ∷ []
+numbers-141 = 2 ∷ 2 ∷ 2 ∷ 2 ∷ 2 ∷ 3 ∷ 0 ∷ 65535 ∷ 65535 ∷ 0 ∷ 0 ∷ 0 ∷ 0 ∷ 0 ∷ 0 ∷ 0 ∷ 0 ∷ 1 ∷ 0 ∷ 0 ∷ 0 ∷ 0 ∷ 0 ∷ 0 ∷
+    0 ∷ 0 ∷ 0 ∷ 0 ∷ 1 ∷ 0 ∷ 2 ∷ 65535 ∷ 0 ∷ 0 ∷ 1 ∷ 0 ∷ 2 ∷ 1 ∷ 0 ∷ 0 ∷ 65535 ∷ 1 ∷ 1 ∷ 1 ∷ 0 ∷ 0 ∷ 1 ∷ 1 ∷ 1 ∷ 2 ∷ 0 ∷
+    1 ∷ 0 ∷ 0 ∷ 1 ∷ 1 ∷ 0 ∷ 0 ∷ []
 
 abbrev names-141 : List ℕ
 names-141 = joined (slotOf (115 ∷ []) ∷ slotOf (101 ∷ []) ∷ slotOf (42 ∷ []) ∷ [])
 
 example-141 : alike (played numbers-141 names-141 []) ((5 ∷ []) ∷ []) ≡ true
-unfolding everything joined historyShown queueShown shown playedIf played alike
+unfolding everything joined historyShown queueShown pendingShown shown playedIf played alike
 example-141 = refl
 
--- eventless without targets, internal
+-- eventless to itself, a compound state, internal
 abbrev numbers-142 : List ℕ
-numbers-142 = 2 ∷ 2 ∷ 1 ∷ 2 ∷ 2 ∷ 3 ∷ 0 ∷ 65535 ∷ 65535 ∷ 0 ∷ 0 ∷ 0 ∷ 0 ∷ 0 ∷ 0 ∷ 0 ∷ 0 ∷ 1 ∷ 0 ∷ 0 ∷ 0 ∷ 0 ∷ 0 ∷ 0 ∷
-    0 ∷ 0 ∷ 0 ∷ 0 ∷ 1 ∷ 0 ∷ 2 ∷ 65535 ∷ 0 ∷ 0 ∷ 1 ∷ 0 ∷ 2 ∷ 1 ∷ 0 ∷ 0 ∷ 1 ∷ 1 ∷ 0 ∷ 0 ∷ 0 ∷ 0 ∷ 1 ∷ 1 ∷ 2 ∷ 0 ∷ 1 ∷ 0 ∷
-    0 ∷ 1 ∷ 1 ∷ 0 ∷ 0 ∷ []
+numbers-142 = 4 ∷ 2 ∷ 2 ∷ 1 ∷ 0 ∷ 4 ∷ 0 ∷ 65535 ∷ 65535 ∷ 0 ∷ 0 ∷ 0 ∷ 0 ∷ 0 ∷ 0 ∷ 0 ∷ 0 ∷ 1 ∷ 0 ∷ 0 ∷ 0 ∷ 0 ∷ 0 ∷ 0 ∷
+    0 ∷ 0 ∷ 0 ∷ 0 ∷ 1 ∷ 1 ∷ 1 ∷ 0 ∷ 0 ∷ 0 ∷ 0 ∷ 0 ∷ 0 ∷ 0 ∷ 0 ∷ 1 ∷ 1 ∷ 2 ∷ 0 ∷ 0 ∷ 0 ∷ 0 ∷ 0 ∷ 0 ∷ 0 ∷ 0 ∷ 1 ∷ 0 ∷ 1 ∷
+    65535 ∷ 0 ∷ 0 ∷ 1 ∷ 0 ∷ 0 ∷ 1 ∷ 0 ∷ 0 ∷ 65535 ∷ 1 ∷ 1 ∷ 1 ∷ 0 ∷ 0 ∷ 3 ∷ 1 ∷ 3 ∷ []
 
 abbrev names-142 : List ℕ
-names-142 = joined (slotOf (115 ∷ []) ∷ slotOf (101 ∷ []) ∷ slotOf (42 ∷ []) ∷ [])
+names-142 = joined (slotOf (115 ∷ []) ∷ slotOf (97 ∷ []) ∷ slotOf (98 ∷ []) ∷ slotOf (101 ∷ []) ∷ [])
 
 example-142 : alike (played numbers-142 names-142 []) ((5 ∷ []) ∷ []) ≡ true
-unfolding everything joined historyShown queueShown shown playedIf played alike
+unfolding everything joined historyShown queueShown pendingShown shown playedIf played alike
 example-142 = refl
 
--- eventless to itself
+-- eventless to itself and another row
 abbrev numbers-143 : List ℕ
-numbers-143 = 2 ∷ 2 ∷ 2 ∷ 2 ∷ 2 ∷ 3 ∷ 0 ∷ 65535 ∷ 65535 ∷ 0 ∷ 0 ∷ 0 ∷ 0 ∷ 0 ∷ 0 ∷ 0 ∷ 0 ∷ 1 ∷ 0 ∷ 0 ∷ 0 ∷ 0 ∷ 0 ∷ 0 ∷
-    0 ∷ 0 ∷ 0 ∷ 0 ∷ 1 ∷ 0 ∷ 2 ∷ 65535 ∷ 0 ∷ 0 ∷ 1 ∷ 0 ∷ 2 ∷ 1 ∷ 0 ∷ 0 ∷ 65535 ∷ 0 ∷ 1 ∷ 1 ∷ 0 ∷ 0 ∷ 1 ∷ 1 ∷ 1 ∷ 2 ∷ 0 ∷
-    1 ∷ 0 ∷ 0 ∷ 1 ∷ 1 ∷ 0 ∷ 0 ∷ []
+numbers-143 = 4 ∷ 2 ∷ 3 ∷ 1 ∷ 0 ∷ 4 ∷ 0 ∷ 65535 ∷ 65535 ∷ 0 ∷ 0 ∷ 0 ∷ 0 ∷ 0 ∷ 0 ∷ 0 ∷ 0 ∷ 2 ∷ 0 ∷ 0 ∷ 0 ∷ 0 ∷ 0 ∷ 0 ∷
+    0 ∷ 0 ∷ 0 ∷ 0 ∷ 1 ∷ 1 ∷ 1 ∷ 0 ∷ 0 ∷ 0 ∷ 0 ∷ 0 ∷ 0 ∷ 0 ∷ 0 ∷ 1 ∷ 1 ∷ 2 ∷ 0 ∷ 0 ∷ 0 ∷ 0 ∷ 0 ∷ 0 ∷ 0 ∷ 0 ∷ 2 ∷ 0 ∷ 1 ∷
+    65535 ∷ 0 ∷ 0 ∷ 1 ∷ 0 ∷ 0 ∷ 3 ∷ 0 ∷ 0 ∷ 65535 ∷ 0 ∷ 1 ∷ 2 ∷ 0 ∷ 0 ∷ 3 ∷ 3 ∷ 2 ∷ 3 ∷ []
 
 abbrev names-143 : List ℕ
-names-143 = joined (slotOf (115 ∷ []) ∷ slotOf (101 ∷ []) ∷ slotOf (42 ∷ []) ∷ [])
+names-143 = joined (slotOf (112 ∷ []) ∷ slotOf (97 ∷ []) ∷ slotOf (98 ∷ []) ∷ slotOf (101 ∷ []) ∷ [])
 
 example-143 : alike (played numbers-143 names-143 []) ((5 ∷ []) ∷ []) ≡ true
-unfolding everything joined historyShown queueShown shown playedIf played alike
+unfolding everything joined historyShown queueShown pendingShown shown playedIf played alike
 example-143 = refl
 
--- eventless to itself, a parallel
+-- eventless to another row and itself
 abbrev numbers-144 : List ℕ
-numbers-144 = 4 ∷ 1 ∷ 1 ∷ 0 ∷ 0 ∷ 4 ∷ 0 ∷ 65535 ∷ 65535 ∷ 0 ∷ 0 ∷ 0 ∷ 0 ∷ 0 ∷ 0 ∷ 0 ∷ 0 ∷ 2 ∷ 0 ∷ 0 ∷ 0 ∷ 0 ∷ 0 ∷ 0 ∷
-    0 ∷ 0 ∷ 0 ∷ 0 ∷ 1 ∷ 1 ∷ 1 ∷ 0 ∷ 0 ∷ 0 ∷ 0 ∷ 0 ∷ 0 ∷ 0 ∷ 0 ∷ 1 ∷ 1 ∷ 2 ∷ 0 ∷ 0 ∷ 0 ∷ 0 ∷ 0 ∷ 0 ∷ 0 ∷ 0 ∷ 1 ∷ 0 ∷ 0 ∷
-    65535 ∷ 0 ∷ 0 ∷ 1 ∷ 0 ∷ 0 ∷ 1 ∷ []
+numbers-144 = 4 ∷ 2 ∷ 3 ∷ 1 ∷ 0 ∷ 4 ∷ 0 ∷ 65535 ∷ 65535 ∷ 0 ∷ 0 ∷ 0 ∷ 0 ∷ 0 ∷ 0 ∷ 0 ∷ 0 ∷ 2 ∷ 0 ∷ 0 ∷ 0 ∷ 0 ∷ 0 ∷ 0 ∷
+    0 ∷ 0 ∷ 0 ∷ 0 ∷ 1 ∷ 1 ∷ 1 ∷ 0 ∷ 0 ∷ 0 ∷ 0 ∷ 0 ∷ 0 ∷ 0 ∷ 0 ∷ 1 ∷ 1 ∷ 2 ∷ 0 ∷ 0 ∷ 0 ∷ 0 ∷ 0 ∷ 0 ∷ 0 ∷ 0 ∷ 2 ∷ 0 ∷ 1 ∷
+    65535 ∷ 0 ∷ 0 ∷ 1 ∷ 0 ∷ 0 ∷ 3 ∷ 0 ∷ 0 ∷ 65535 ∷ 0 ∷ 1 ∷ 2 ∷ 0 ∷ 0 ∷ 3 ∷ 2 ∷ 3 ∷ 3 ∷ []
 
 abbrev names-144 : List ℕ
 names-144 = joined (slotOf (112 ∷ []) ∷ slotOf (97 ∷ []) ∷ slotOf (98 ∷ []) ∷ slotOf (101 ∷ []) ∷ [])
 
 example-144 : alike (played numbers-144 names-144 []) ((5 ∷ []) ∷ []) ≡ true
-unfolding everything joined historyShown queueShown shown playedIf played alike
+unfolding everything joined historyShown queueShown pendingShown shown playedIf played alike
 example-144 = refl
 
--- eventless to itself, internal
-abbrev numbers-145 : List ℕ
-numbers-145 = 2 ∷ 2 ∷ 2 ∷ 2 ∷ 2 ∷ 3 ∷ 0 ∷ 65535 ∷ 65535 ∷ 0 ∷ 0 ∷ 0 ∷ 0 ∷ 0 ∷ 0 ∷ 0 ∷ 0 ∷ 1 ∷ 0 ∷ 0 ∷ 0 ∷ 0 ∷ 0 ∷ 0 ∷
-    0 ∷ 0 ∷ 0 ∷ 0 ∷ 1 ∷ 0 ∷ 2 ∷ 65535 ∷ 0 ∷ 0 ∷ 1 ∷ 0 ∷ 2 ∷ 1 ∷ 0 ∷ 0 ∷ 65535 ∷ 1 ∷ 1 ∷ 1 ∷ 0 ∷ 0 ∷ 1 ∷ 1 ∷ 1 ∷ 2 ∷ 0 ∷
-    1 ∷ 0 ∷ 0 ∷ 1 ∷ 1 ∷ 0 ∷ 0 ∷ []
-
-abbrev names-145 : List ℕ
-names-145 = joined (slotOf (115 ∷ []) ∷ slotOf (101 ∷ []) ∷ slotOf (42 ∷ []) ∷ [])
-
-example-145 : alike (played numbers-145 names-145 []) ((5 ∷ []) ∷ []) ≡ true
-unfolding everything joined historyShown queueShown shown playedIf played alike
-example-145 = refl
-
--- eventless to itself, a compound state, internal
-abbrev numbers-146 : List ℕ
-numbers-146 = 4 ∷ 2 ∷ 2 ∷ 1 ∷ 0 ∷ 4 ∷ 0 ∷ 65535 ∷ 65535 ∷ 0 ∷ 0 ∷ 0 ∷ 0 ∷ 0 ∷ 0 ∷ 0 ∷ 0 ∷ 1 ∷ 0 ∷ 0 ∷ 0 ∷ 0 ∷ 0 ∷ 0 ∷
-    0 ∷ 0 ∷ 0 ∷ 0 ∷ 1 ∷ 1 ∷ 1 ∷ 0 ∷ 0 ∷ 0 ∷ 0 ∷ 0 ∷ 0 ∷ 0 ∷ 0 ∷ 1 ∷ 1 ∷ 2 ∷ 0 ∷ 0 ∷ 0 ∷ 0 ∷ 0 ∷ 0 ∷ 0 ∷ 0 ∷ 1 ∷ 0 ∷ 1 ∷
-    65535 ∷ 0 ∷ 0 ∷ 1 ∷ 0 ∷ 0 ∷ 1 ∷ 0 ∷ 0 ∷ 65535 ∷ 1 ∷ 1 ∷ 1 ∷ 0 ∷ 0 ∷ 3 ∷ 1 ∷ 3 ∷ []
-
-abbrev names-146 : List ℕ
-names-146 = joined (slotOf (115 ∷ []) ∷ slotOf (97 ∷ []) ∷ slotOf (98 ∷ []) ∷ slotOf (101 ∷ []) ∷ [])
-
-example-146 : alike (played numbers-146 names-146 []) ((5 ∷ []) ∷ []) ≡ true
-unfolding everything joined historyShown queueShown shown playedIf played alike
-example-146 = refl
-
--- eventless to itself and another row
-abbrev numbers-147 : List ℕ
-numbers-147 = 4 ∷ 2 ∷ 3 ∷ 1 ∷ 0 ∷ 4 ∷ 0 ∷ 65535 ∷ 65535 ∷ 0 ∷ 0 ∷ 0 ∷ 0 ∷ 0 ∷ 0 ∷ 0 ∷ 0 ∷ 2 ∷ 0 ∷ 0 ∷ 0 ∷ 0 ∷ 0 ∷ 0 ∷
-    0 ∷ 0 ∷ 0 ∷ 0 ∷ 1 ∷ 1 ∷ 1 ∷ 0 ∷ 0 ∷ 0 ∷ 0 ∷ 0 ∷ 0 ∷ 0 ∷ 0 ∷ 1 ∷ 1 ∷ 2 ∷ 0 ∷ 0 ∷ 0 ∷ 0 ∷ 0 ∷ 0 ∷ 0 ∷ 0 ∷ 2 ∷ 0 ∷ 1 ∷
-    65535 ∷ 0 ∷ 0 ∷ 1 ∷ 0 ∷ 0 ∷ 3 ∷ 0 ∷ 0 ∷ 65535 ∷ 0 ∷ 1 ∷ 2 ∷ 0 ∷ 0 ∷ 3 ∷ 3 ∷ 2 ∷ 3 ∷ []
-
-abbrev names-147 : List ℕ
-names-147 = joined (slotOf (112 ∷ []) ∷ slotOf (97 ∷ []) ∷ slotOf (98 ∷ []) ∷ slotOf (101 ∷ []) ∷ [])
-
-example-147 : alike (played numbers-147 names-147 []) ((5 ∷ []) ∷ []) ≡ true
-unfolding everything joined historyShown queueShown shown playedIf played alike
-example-147 = refl
-
--- eventless to another row and itself
-abbrev numbers-148 : List ℕ
-numbers-148 = 4 ∷ 2 ∷ 3 ∷ 1 ∷ 0 ∷ 4 ∷ 0 ∷ 65535 ∷ 65535 ∷ 0 ∷ 0 ∷ 0 ∷ 0 ∷ 0 ∷ 0 ∷ 0 ∷ 0 ∷ 2 ∷ 0 ∷ 0 ∷ 0 ∷ 0 ∷ 0 ∷ 0 ∷
-    0 ∷ 0 ∷ 0 ∷ 0 ∷ 1 ∷ 1 ∷ 1 ∷ 0 ∷ 0 ∷ 0 ∷ 0 ∷ 0 ∷ 0 ∷ 0 ∷ 0 ∷ 1 ∷ 1 ∷ 2 ∷ 0 ∷ 0 ∷ 0 ∷ 0 ∷ 0 ∷ 0 ∷ 0 ∷ 0 ∷ 2 ∷ 0 ∷ 1 ∷
-    65535 ∷ 0 ∷ 0 ∷ 1 ∷ 0 ∷ 0 ∷ 3 ∷ 0 ∷ 0 ∷ 65535 ∷ 0 ∷ 1 ∷ 2 ∷ 0 ∷ 0 ∷ 3 ∷ 2 ∷ 3 ∷ 3 ∷ []
-
-abbrev names-148 : List ℕ
-names-148 = joined (slotOf (112 ∷ []) ∷ slotOf (97 ∷ []) ∷ slotOf (98 ∷ []) ∷ slotOf (101 ∷ []) ∷ [])
-
-example-148 : alike (played numbers-148 names-148 []) ((5 ∷ []) ∷ []) ≡ true
-unfolding everything joined historyShown queueShown shown playedIf played alike
-example-148 = refl
-
 -- eventless to another row and itself, internal
-abbrev numbers-149 : List ℕ
-numbers-149 = 4 ∷ 2 ∷ 3 ∷ 1 ∷ 0 ∷ 4 ∷ 0 ∷ 65535 ∷ 65535 ∷ 0 ∷ 0 ∷ 0 ∷ 0 ∷ 0 ∷ 0 ∷ 0 ∷ 0 ∷ 2 ∷ 0 ∷ 0 ∷ 0 ∷ 0 ∷ 0 ∷ 0 ∷
+abbrev numbers-145 : List ℕ
+numbers-145 = 4 ∷ 2 ∷ 3 ∷ 1 ∷ 0 ∷ 4 ∷ 0 ∷ 65535 ∷ 65535 ∷ 0 ∷ 0 ∷ 0 ∷ 0 ∷ 0 ∷ 0 ∷ 0 ∷ 0 ∷ 2 ∷ 0 ∷ 0 ∷ 0 ∷ 0 ∷ 0 ∷ 0 ∷
     0 ∷ 0 ∷ 0 ∷ 0 ∷ 1 ∷ 1 ∷ 1 ∷ 0 ∷ 0 ∷ 0 ∷ 0 ∷ 0 ∷ 0 ∷ 0 ∷ 0 ∷ 1 ∷ 1 ∷ 2 ∷ 0 ∷ 0 ∷ 0 ∷ 0 ∷ 0 ∷ 0 ∷ 0 ∷ 0 ∷ 2 ∷ 0 ∷ 1 ∷
     65535 ∷ 0 ∷ 0 ∷ 1 ∷ 0 ∷ 0 ∷ 3 ∷ 0 ∷ 0 ∷ 65535 ∷ 1 ∷ 1 ∷ 2 ∷ 0 ∷ 0 ∷ 3 ∷ 2 ∷ 3 ∷ 3 ∷ []
 
-abbrev names-149 : List ℕ
-names-149 = joined (slotOf (112 ∷ []) ∷ slotOf (97 ∷ []) ∷ slotOf (98 ∷ []) ∷ slotOf (101 ∷ []) ∷ [])
+abbrev names-145 : List ℕ
+names-145 = joined (slotOf (112 ∷ []) ∷ slotOf (97 ∷ []) ∷ slotOf (98 ∷ []) ∷ slotOf (101 ∷ []) ∷ [])
 
-example-149 : alike (played numbers-149 names-149 []) ((5 ∷ []) ∷ []) ≡ true
-unfolding everything joined historyShown queueShown shown playedIf played alike
-example-149 = refl
+example-145 : alike (played numbers-145 names-145 []) ((5 ∷ []) ∷ []) ≡ true
+unfolding everything joined historyShown queueShown pendingShown shown playedIf played alike
+example-145 = refl
 
 -- initial list holds its owner's history and a child
-abbrev numbers-150 : List ℕ
-numbers-150 = 6 ∷ 1 ∷ 5 ∷ 1 ∷ 0 ∷ 6 ∷ 0 ∷ 65535 ∷ 65535 ∷ 0 ∷ 0 ∷ 0 ∷ 0 ∷ 0 ∷ 0 ∷ 0 ∷ 0 ∷ 1 ∷ 0 ∷ 0 ∷ 0 ∷ 0 ∷ 0 ∷ 0 ∷
+abbrev numbers-146 : List ℕ
+numbers-146 = 6 ∷ 1 ∷ 5 ∷ 1 ∷ 0 ∷ 6 ∷ 0 ∷ 65535 ∷ 65535 ∷ 0 ∷ 0 ∷ 0 ∷ 0 ∷ 0 ∷ 0 ∷ 0 ∷ 0 ∷ 1 ∷ 0 ∷ 0 ∷ 0 ∷ 0 ∷ 0 ∷ 0 ∷
     0 ∷ 2 ∷ 0 ∷ 0 ∷ 1 ∷ 1 ∷ 1 ∷ 0 ∷ 0 ∷ 0 ∷ 0 ∷ 0 ∷ 0 ∷ 0 ∷ 0 ∷ 1 ∷ 1 ∷ 2 ∷ 0 ∷ 0 ∷ 0 ∷ 0 ∷ 0 ∷ 0 ∷ 0 ∷ 0 ∷ 4 ∷ 1 ∷ 3 ∷
     0 ∷ 0 ∷ 0 ∷ 0 ∷ 2 ∷ 1 ∷ 0 ∷ 0 ∷ 5 ∷ 1 ∷ 4 ∷ 0 ∷ 0 ∷ 0 ∷ 0 ∷ 3 ∷ 1 ∷ 0 ∷ 0 ∷ 2 ∷ 0 ∷ 1 ∷ 65535 ∷ 0 ∷ 4 ∷ 1 ∷ 0 ∷ 0 ∷
     4 ∷ 2 ∷ 2 ∷ 3 ∷ 4 ∷ 5 ∷ []
+
+abbrev names-146 : List ℕ
+names-146 = joined (slotOf (115 ∷ []) ∷ slotOf (97 ∷ []) ∷ slotOf (98 ∷ []) ∷ slotOf (104 ∷ []) ∷ slotOf (100 ∷ []) ∷
+    slotOf (101 ∷ []) ∷ [])
+
+example-146 : alike (played numbers-146 names-146 []) ((4 ∷ []) ∷ []) ≡ true
+unfolding everything joined historyShown queueShown pendingShown shown playedIf played alike
+example-146 = refl
+
+-- initial list holds a history and a row below its parent
+abbrev numbers-147 : List ℕ
+numbers-147 = 6 ∷ 1 ∷ 5 ∷ 1 ∷ 0 ∷ 6 ∷ 0 ∷ 65535 ∷ 65535 ∷ 0 ∷ 0 ∷ 0 ∷ 0 ∷ 0 ∷ 2 ∷ 0 ∷ 0 ∷ 1 ∷ 0 ∷ 0 ∷ 0 ∷ 0 ∷ 0 ∷ 0 ∷
+    0 ∷ 0 ∷ 0 ∷ 0 ∷ 1 ∷ 1 ∷ 1 ∷ 0 ∷ 0 ∷ 0 ∷ 0 ∷ 0 ∷ 0 ∷ 0 ∷ 0 ∷ 1 ∷ 1 ∷ 2 ∷ 0 ∷ 0 ∷ 0 ∷ 0 ∷ 0 ∷ 0 ∷ 0 ∷ 0 ∷ 4 ∷ 1 ∷ 3 ∷
+    0 ∷ 0 ∷ 0 ∷ 0 ∷ 2 ∷ 1 ∷ 0 ∷ 0 ∷ 5 ∷ 1 ∷ 4 ∷ 0 ∷ 0 ∷ 0 ∷ 0 ∷ 3 ∷ 1 ∷ 0 ∷ 0 ∷ 2 ∷ 0 ∷ 1 ∷ 65535 ∷ 0 ∷ 4 ∷ 1 ∷ 0 ∷ 0 ∷
+    2 ∷ 4 ∷ 2 ∷ 3 ∷ 4 ∷ 5 ∷ []
+
+abbrev names-147 : List ℕ
+names-147 = joined (slotOf (115 ∷ []) ∷ slotOf (97 ∷ []) ∷ slotOf (98 ∷ []) ∷ slotOf (104 ∷ []) ∷ slotOf (100 ∷ []) ∷
+    slotOf (101 ∷ []) ∷ [])
+
+example-147 : alike (played numbers-147 names-147 []) ((4 ∷ []) ∷ []) ≡ true
+unfolding everything joined historyShown queueShown pendingShown shown playedIf played alike
+example-147 = refl
+
+-- initial list holds a history and its parent
+abbrev numbers-148 : List ℕ
+numbers-148 = 6 ∷ 1 ∷ 5 ∷ 1 ∷ 0 ∷ 6 ∷ 0 ∷ 65535 ∷ 65535 ∷ 0 ∷ 0 ∷ 0 ∷ 0 ∷ 0 ∷ 2 ∷ 0 ∷ 0 ∷ 1 ∷ 0 ∷ 0 ∷ 0 ∷ 0 ∷ 0 ∷ 0 ∷
+    0 ∷ 0 ∷ 0 ∷ 0 ∷ 1 ∷ 1 ∷ 1 ∷ 0 ∷ 0 ∷ 0 ∷ 0 ∷ 0 ∷ 0 ∷ 0 ∷ 0 ∷ 1 ∷ 1 ∷ 2 ∷ 0 ∷ 0 ∷ 0 ∷ 0 ∷ 0 ∷ 0 ∷ 0 ∷ 0 ∷ 4 ∷ 1 ∷ 3 ∷
+    0 ∷ 0 ∷ 0 ∷ 0 ∷ 2 ∷ 1 ∷ 0 ∷ 0 ∷ 5 ∷ 1 ∷ 4 ∷ 0 ∷ 0 ∷ 0 ∷ 0 ∷ 3 ∷ 1 ∷ 0 ∷ 0 ∷ 2 ∷ 0 ∷ 1 ∷ 65535 ∷ 0 ∷ 4 ∷ 1 ∷ 0 ∷ 0 ∷
+    4 ∷ 1 ∷ 2 ∷ 3 ∷ 4 ∷ 5 ∷ []
+
+abbrev names-148 : List ℕ
+names-148 = joined (slotOf (115 ∷ []) ∷ slotOf (97 ∷ []) ∷ slotOf (98 ∷ []) ∷ slotOf (104 ∷ []) ∷ slotOf (100 ∷ []) ∷
+    slotOf (101 ∷ []) ∷ [])
+
+example-148 : alike (played numbers-148 names-148 []) ((4 ∷ []) ∷ []) ≡ true
+unfolding everything joined historyShown queueShown pendingShown shown playedIf played alike
+example-148 = refl
+
+-- initial list holds two histories of its owner
+abbrev numbers-149 : List ℕ
+numbers-149 = 6 ∷ 1 ∷ 5 ∷ 1 ∷ 0 ∷ 6 ∷ 0 ∷ 65535 ∷ 65535 ∷ 0 ∷ 0 ∷ 0 ∷ 0 ∷ 0 ∷ 0 ∷ 0 ∷ 0 ∷ 1 ∷ 0 ∷ 0 ∷ 0 ∷ 0 ∷ 0 ∷ 0 ∷
+    0 ∷ 2 ∷ 0 ∷ 0 ∷ 1 ∷ 1 ∷ 1 ∷ 0 ∷ 0 ∷ 0 ∷ 0 ∷ 0 ∷ 0 ∷ 0 ∷ 0 ∷ 1 ∷ 1 ∷ 2 ∷ 0 ∷ 0 ∷ 0 ∷ 0 ∷ 0 ∷ 0 ∷ 0 ∷ 0 ∷ 4 ∷ 1 ∷ 3 ∷
+    0 ∷ 0 ∷ 0 ∷ 0 ∷ 2 ∷ 1 ∷ 0 ∷ 0 ∷ 5 ∷ 1 ∷ 4 ∷ 0 ∷ 0 ∷ 0 ∷ 0 ∷ 3 ∷ 1 ∷ 0 ∷ 0 ∷ 2 ∷ 0 ∷ 1 ∷ 65535 ∷ 0 ∷ 4 ∷ 1 ∷ 0 ∷ 0 ∷
+    4 ∷ 5 ∷ 2 ∷ 3 ∷ 4 ∷ 5 ∷ []
+
+abbrev names-149 : List ℕ
+names-149 = joined (slotOf (115 ∷ []) ∷ slotOf (97 ∷ []) ∷ slotOf (98 ∷ []) ∷ slotOf (104 ∷ []) ∷ slotOf (100 ∷ []) ∷
+    slotOf (101 ∷ []) ∷ [])
+
+example-149 : alike (played numbers-149 names-149 []) ((4 ∷ []) ∷ []) ≡ true
+unfolding everything joined historyShown queueShown pendingShown shown playedIf played alike
+example-149 = refl
+
+-- initial list holds two histories of a row below
+abbrev numbers-150 : List ℕ
+numbers-150 = 6 ∷ 1 ∷ 5 ∷ 1 ∷ 0 ∷ 6 ∷ 0 ∷ 65535 ∷ 65535 ∷ 0 ∷ 0 ∷ 0 ∷ 0 ∷ 0 ∷ 2 ∷ 0 ∷ 0 ∷ 1 ∷ 0 ∷ 0 ∷ 0 ∷ 0 ∷ 0 ∷ 0 ∷
+    0 ∷ 0 ∷ 0 ∷ 0 ∷ 1 ∷ 1 ∷ 1 ∷ 0 ∷ 0 ∷ 0 ∷ 0 ∷ 0 ∷ 0 ∷ 0 ∷ 0 ∷ 1 ∷ 1 ∷ 2 ∷ 0 ∷ 0 ∷ 0 ∷ 0 ∷ 0 ∷ 0 ∷ 0 ∷ 0 ∷ 4 ∷ 1 ∷ 3 ∷
+    0 ∷ 0 ∷ 0 ∷ 0 ∷ 2 ∷ 1 ∷ 0 ∷ 0 ∷ 5 ∷ 1 ∷ 4 ∷ 0 ∷ 0 ∷ 0 ∷ 0 ∷ 3 ∷ 1 ∷ 0 ∷ 0 ∷ 2 ∷ 0 ∷ 1 ∷ 65535 ∷ 0 ∷ 4 ∷ 1 ∷ 0 ∷ 0 ∷
+    4 ∷ 5 ∷ 2 ∷ 3 ∷ 4 ∷ 5 ∷ []
 
 abbrev names-150 : List ℕ
 names-150 = joined (slotOf (115 ∷ []) ∷ slotOf (97 ∷ []) ∷ slotOf (98 ∷ []) ∷ slotOf (104 ∷ []) ∷ slotOf (100 ∷ []) ∷
     slotOf (101 ∷ []) ∷ [])
 
 example-150 : alike (played numbers-150 names-150 []) ((4 ∷ []) ∷ []) ≡ true
-unfolding everything joined historyShown queueShown shown playedIf played alike
+unfolding everything joined historyShown queueShown pendingShown shown playedIf played alike
 example-150 = refl
 
--- initial list holds a history and a row below its parent
+-- initial list holds a history twice
 abbrev numbers-151 : List ℕ
-numbers-151 = 6 ∷ 1 ∷ 5 ∷ 1 ∷ 0 ∷ 6 ∷ 0 ∷ 65535 ∷ 65535 ∷ 0 ∷ 0 ∷ 0 ∷ 0 ∷ 0 ∷ 2 ∷ 0 ∷ 0 ∷ 1 ∷ 0 ∷ 0 ∷ 0 ∷ 0 ∷ 0 ∷ 0 ∷
-    0 ∷ 0 ∷ 0 ∷ 0 ∷ 1 ∷ 1 ∷ 1 ∷ 0 ∷ 0 ∷ 0 ∷ 0 ∷ 0 ∷ 0 ∷ 0 ∷ 0 ∷ 1 ∷ 1 ∷ 2 ∷ 0 ∷ 0 ∷ 0 ∷ 0 ∷ 0 ∷ 0 ∷ 0 ∷ 0 ∷ 4 ∷ 1 ∷ 3 ∷
+numbers-151 = 6 ∷ 1 ∷ 5 ∷ 1 ∷ 0 ∷ 6 ∷ 0 ∷ 65535 ∷ 65535 ∷ 0 ∷ 0 ∷ 0 ∷ 0 ∷ 0 ∷ 0 ∷ 0 ∷ 0 ∷ 1 ∷ 0 ∷ 0 ∷ 0 ∷ 0 ∷ 0 ∷ 0 ∷
+    0 ∷ 2 ∷ 0 ∷ 0 ∷ 1 ∷ 1 ∷ 1 ∷ 0 ∷ 0 ∷ 0 ∷ 0 ∷ 0 ∷ 0 ∷ 0 ∷ 0 ∷ 1 ∷ 1 ∷ 2 ∷ 0 ∷ 0 ∷ 0 ∷ 0 ∷ 0 ∷ 0 ∷ 0 ∷ 0 ∷ 4 ∷ 1 ∷ 3 ∷
     0 ∷ 0 ∷ 0 ∷ 0 ∷ 2 ∷ 1 ∷ 0 ∷ 0 ∷ 5 ∷ 1 ∷ 4 ∷ 0 ∷ 0 ∷ 0 ∷ 0 ∷ 3 ∷ 1 ∷ 0 ∷ 0 ∷ 2 ∷ 0 ∷ 1 ∷ 65535 ∷ 0 ∷ 4 ∷ 1 ∷ 0 ∷ 0 ∷
-    2 ∷ 4 ∷ 2 ∷ 3 ∷ 4 ∷ 5 ∷ []
+    4 ∷ 4 ∷ 2 ∷ 3 ∷ 4 ∷ 5 ∷ []
 
 abbrev names-151 : List ℕ
 names-151 = joined (slotOf (115 ∷ []) ∷ slotOf (97 ∷ []) ∷ slotOf (98 ∷ []) ∷ slotOf (104 ∷ []) ∷ slotOf (100 ∷ []) ∷
     slotOf (101 ∷ []) ∷ [])
 
 example-151 : alike (played numbers-151 names-151 []) ((4 ∷ []) ∷ []) ≡ true
-unfolding everything joined historyShown queueShown shown playedIf played alike
+unfolding everything joined historyShown queueShown pendingShown shown playedIf played alike
 example-151 = refl
 
--- initial list holds a history and its parent
+-- initial list holds a history outside
 abbrev numbers-152 : List ℕ
-numbers-152 = 6 ∷ 1 ∷ 5 ∷ 1 ∷ 0 ∷ 6 ∷ 0 ∷ 65535 ∷ 65535 ∷ 0 ∷ 0 ∷ 0 ∷ 0 ∷ 0 ∷ 2 ∷ 0 ∷ 0 ∷ 1 ∷ 0 ∷ 0 ∷ 0 ∷ 0 ∷ 0 ∷ 0 ∷
-    0 ∷ 0 ∷ 0 ∷ 0 ∷ 1 ∷ 1 ∷ 1 ∷ 0 ∷ 0 ∷ 0 ∷ 0 ∷ 0 ∷ 0 ∷ 0 ∷ 0 ∷ 1 ∷ 1 ∷ 2 ∷ 0 ∷ 0 ∷ 0 ∷ 0 ∷ 0 ∷ 0 ∷ 0 ∷ 0 ∷ 4 ∷ 1 ∷ 3 ∷
-    0 ∷ 0 ∷ 0 ∷ 0 ∷ 2 ∷ 1 ∷ 0 ∷ 0 ∷ 5 ∷ 1 ∷ 4 ∷ 0 ∷ 0 ∷ 0 ∷ 0 ∷ 3 ∷ 1 ∷ 0 ∷ 0 ∷ 2 ∷ 0 ∷ 1 ∷ 65535 ∷ 0 ∷ 4 ∷ 1 ∷ 0 ∷ 0 ∷
-    4 ∷ 1 ∷ 2 ∷ 3 ∷ 4 ∷ 5 ∷ []
+numbers-152 = 6 ∷ 2 ∷ 4 ∷ 2 ∷ 0 ∷ 6 ∷ 0 ∷ 65535 ∷ 65535 ∷ 0 ∷ 0 ∷ 0 ∷ 0 ∷ 0 ∷ 0 ∷ 0 ∷ 0 ∷ 1 ∷ 0 ∷ 0 ∷ 0 ∷ 0 ∷ 0 ∷ 0 ∷
+    0 ∷ 0 ∷ 0 ∷ 0 ∷ 1 ∷ 1 ∷ 1 ∷ 0 ∷ 0 ∷ 0 ∷ 0 ∷ 0 ∷ 1 ∷ 0 ∷ 0 ∷ 1 ∷ 2 ∷ 2 ∷ 0 ∷ 0 ∷ 0 ∷ 0 ∷ 0 ∷ 0 ∷ 0 ∷ 0 ∷ 4 ∷ 1 ∷ 3 ∷
+    0 ∷ 0 ∷ 0 ∷ 0 ∷ 1 ∷ 1 ∷ 0 ∷ 0 ∷ 1 ∷ 0 ∷ 4 ∷ 0 ∷ 0 ∷ 0 ∷ 0 ∷ 0 ∷ 0 ∷ 0 ∷ 0 ∷ 3 ∷ 0 ∷ 1 ∷ 65535 ∷ 0 ∷ 2 ∷ 1 ∷ 0 ∷ 0 ∷
+    5 ∷ 1 ∷ 1 ∷ 65535 ∷ 0 ∷ 3 ∷ 1 ∷ 0 ∷ 0 ∷ 4 ∷ 2 ∷ 4 ∷ 1 ∷ 5 ∷ 5 ∷ []
 
 abbrev names-152 : List ℕ
-names-152 = joined (slotOf (115 ∷ []) ∷ slotOf (97 ∷ []) ∷ slotOf (98 ∷ []) ∷ slotOf (104 ∷ []) ∷ slotOf (100 ∷ []) ∷
+names-152 = joined (slotOf (115 ∷ []) ∷ slotOf (97 ∷ []) ∷ slotOf (120 ∷ []) ∷ slotOf (104 ∷ []) ∷ slotOf (122 ∷ []) ∷
     slotOf (101 ∷ []) ∷ [])
 
 example-152 : alike (played numbers-152 names-152 []) ((4 ∷ []) ∷ []) ≡ true
-unfolding everything joined historyShown queueShown shown playedIf played alike
+unfolding everything joined historyShown queueShown pendingShown shown playedIf played alike
 example-152 = refl
 
--- initial list holds two histories of its owner
+-- initial list holds a history of its owner's parent
 abbrev numbers-153 : List ℕ
-numbers-153 = 6 ∷ 1 ∷ 5 ∷ 1 ∷ 0 ∷ 6 ∷ 0 ∷ 65535 ∷ 65535 ∷ 0 ∷ 0 ∷ 0 ∷ 0 ∷ 0 ∷ 0 ∷ 0 ∷ 0 ∷ 1 ∷ 0 ∷ 0 ∷ 0 ∷ 0 ∷ 0 ∷ 0 ∷
-    0 ∷ 2 ∷ 0 ∷ 0 ∷ 1 ∷ 1 ∷ 1 ∷ 0 ∷ 0 ∷ 0 ∷ 0 ∷ 0 ∷ 0 ∷ 0 ∷ 0 ∷ 1 ∷ 1 ∷ 2 ∷ 0 ∷ 0 ∷ 0 ∷ 0 ∷ 0 ∷ 0 ∷ 0 ∷ 0 ∷ 4 ∷ 1 ∷ 3 ∷
-    0 ∷ 0 ∷ 0 ∷ 0 ∷ 2 ∷ 1 ∷ 0 ∷ 0 ∷ 5 ∷ 1 ∷ 4 ∷ 0 ∷ 0 ∷ 0 ∷ 0 ∷ 3 ∷ 1 ∷ 0 ∷ 0 ∷ 2 ∷ 0 ∷ 1 ∷ 65535 ∷ 0 ∷ 4 ∷ 1 ∷ 0 ∷ 0 ∷
-    4 ∷ 5 ∷ 2 ∷ 3 ∷ 4 ∷ 5 ∷ []
+numbers-153 = 6 ∷ 2 ∷ 4 ∷ 2 ∷ 0 ∷ 6 ∷ 0 ∷ 65535 ∷ 65535 ∷ 0 ∷ 0 ∷ 0 ∷ 0 ∷ 0 ∷ 0 ∷ 0 ∷ 0 ∷ 1 ∷ 0 ∷ 0 ∷ 0 ∷ 0 ∷ 0 ∷ 0 ∷
+    0 ∷ 0 ∷ 0 ∷ 0 ∷ 1 ∷ 1 ∷ 1 ∷ 0 ∷ 0 ∷ 0 ∷ 0 ∷ 0 ∷ 1 ∷ 0 ∷ 0 ∷ 1 ∷ 2 ∷ 2 ∷ 0 ∷ 0 ∷ 0 ∷ 0 ∷ 0 ∷ 0 ∷ 0 ∷ 0 ∷ 4 ∷ 1 ∷ 3 ∷
+    0 ∷ 0 ∷ 0 ∷ 0 ∷ 1 ∷ 1 ∷ 0 ∷ 0 ∷ 1 ∷ 0 ∷ 4 ∷ 0 ∷ 0 ∷ 0 ∷ 0 ∷ 0 ∷ 0 ∷ 0 ∷ 0 ∷ 3 ∷ 0 ∷ 1 ∷ 65535 ∷ 0 ∷ 2 ∷ 1 ∷ 0 ∷ 0 ∷
+    5 ∷ 1 ∷ 1 ∷ 65535 ∷ 0 ∷ 3 ∷ 1 ∷ 0 ∷ 0 ∷ 4 ∷ 2 ∷ 4 ∷ 1 ∷ 5 ∷ 5 ∷ []
 
 abbrev names-153 : List ℕ
-names-153 = joined (slotOf (115 ∷ []) ∷ slotOf (97 ∷ []) ∷ slotOf (98 ∷ []) ∷ slotOf (104 ∷ []) ∷ slotOf (100 ∷ []) ∷
+names-153 = joined (slotOf (115 ∷ []) ∷ slotOf (97 ∷ []) ∷ slotOf (120 ∷ []) ∷ slotOf (104 ∷ []) ∷ slotOf (122 ∷ []) ∷
     slotOf (101 ∷ []) ∷ [])
 
 example-153 : alike (played numbers-153 names-153 []) ((4 ∷ []) ∷ []) ≡ true
-unfolding everything joined historyShown queueShown shown playedIf played alike
+unfolding everything joined historyShown queueShown pendingShown shown playedIf played alike
 example-153 = refl
 
--- initial list holds two histories of a row below
-abbrev numbers-154 : List ℕ
-numbers-154 = 6 ∷ 1 ∷ 5 ∷ 1 ∷ 0 ∷ 6 ∷ 0 ∷ 65535 ∷ 65535 ∷ 0 ∷ 0 ∷ 0 ∷ 0 ∷ 0 ∷ 2 ∷ 0 ∷ 0 ∷ 1 ∷ 0 ∷ 0 ∷ 0 ∷ 0 ∷ 0 ∷ 0 ∷
-    0 ∷ 0 ∷ 0 ∷ 0 ∷ 1 ∷ 1 ∷ 1 ∷ 0 ∷ 0 ∷ 0 ∷ 0 ∷ 0 ∷ 0 ∷ 0 ∷ 0 ∷ 1 ∷ 1 ∷ 2 ∷ 0 ∷ 0 ∷ 0 ∷ 0 ∷ 0 ∷ 0 ∷ 0 ∷ 0 ∷ 4 ∷ 1 ∷ 3 ∷
-    0 ∷ 0 ∷ 0 ∷ 0 ∷ 2 ∷ 1 ∷ 0 ∷ 0 ∷ 5 ∷ 1 ∷ 4 ∷ 0 ∷ 0 ∷ 0 ∷ 0 ∷ 3 ∷ 1 ∷ 0 ∷ 0 ∷ 2 ∷ 0 ∷ 1 ∷ 65535 ∷ 0 ∷ 4 ∷ 1 ∷ 0 ∷ 0 ∷
-    4 ∷ 5 ∷ 2 ∷ 3 ∷ 4 ∷ 5 ∷ []
-
-abbrev names-154 : List ℕ
-names-154 = joined (slotOf (115 ∷ []) ∷ slotOf (97 ∷ []) ∷ slotOf (98 ∷ []) ∷ slotOf (104 ∷ []) ∷ slotOf (100 ∷ []) ∷
-    slotOf (101 ∷ []) ∷ [])
-
-example-154 : alike (played numbers-154 names-154 []) ((4 ∷ []) ∷ []) ≡ true
-unfolding everything joined historyShown queueShown shown playedIf played alike
-example-154 = refl
-
--- initial list holds a history twice
-abbrev numbers-155 : List ℕ
-numbers-155 = 6 ∷ 1 ∷ 5 ∷ 1 ∷ 0 ∷ 6 ∷ 0 ∷ 65535 ∷ 65535 ∷ 0 ∷ 0 ∷ 0 ∷ 0 ∷ 0 ∷ 0 ∷ 0 ∷ 0 ∷ 1 ∷ 0 ∷ 0 ∷ 0 ∷ 0 ∷ 0 ∷ 0 ∷
-    0 ∷ 2 ∷ 0 ∷ 0 ∷ 1 ∷ 1 ∷ 1 ∷ 0 ∷ 0 ∷ 0 ∷ 0 ∷ 0 ∷ 0 ∷ 0 ∷ 0 ∷ 1 ∷ 1 ∷ 2 ∷ 0 ∷ 0 ∷ 0 ∷ 0 ∷ 0 ∷ 0 ∷ 0 ∷ 0 ∷ 4 ∷ 1 ∷ 3 ∷
-    0 ∷ 0 ∷ 0 ∷ 0 ∷ 2 ∷ 1 ∷ 0 ∷ 0 ∷ 5 ∷ 1 ∷ 4 ∷ 0 ∷ 0 ∷ 0 ∷ 0 ∷ 3 ∷ 1 ∷ 0 ∷ 0 ∷ 2 ∷ 0 ∷ 1 ∷ 65535 ∷ 0 ∷ 4 ∷ 1 ∷ 0 ∷ 0 ∷
-    4 ∷ 4 ∷ 2 ∷ 3 ∷ 4 ∷ 5 ∷ []
-
-abbrev names-155 : List ℕ
-names-155 = joined (slotOf (115 ∷ []) ∷ slotOf (97 ∷ []) ∷ slotOf (98 ∷ []) ∷ slotOf (104 ∷ []) ∷ slotOf (100 ∷ []) ∷
-    slotOf (101 ∷ []) ∷ [])
-
-example-155 : alike (played numbers-155 names-155 []) ((4 ∷ []) ∷ []) ≡ true
-unfolding everything joined historyShown queueShown shown playedIf played alike
-example-155 = refl
-
--- initial list holds a history outside
-abbrev numbers-156 : List ℕ
-numbers-156 = 6 ∷ 2 ∷ 4 ∷ 2 ∷ 0 ∷ 6 ∷ 0 ∷ 65535 ∷ 65535 ∷ 0 ∷ 0 ∷ 0 ∷ 0 ∷ 0 ∷ 0 ∷ 0 ∷ 0 ∷ 1 ∷ 0 ∷ 0 ∷ 0 ∷ 0 ∷ 0 ∷ 0 ∷
-    0 ∷ 0 ∷ 0 ∷ 0 ∷ 1 ∷ 1 ∷ 1 ∷ 0 ∷ 0 ∷ 0 ∷ 0 ∷ 0 ∷ 1 ∷ 0 ∷ 0 ∷ 1 ∷ 2 ∷ 2 ∷ 0 ∷ 0 ∷ 0 ∷ 0 ∷ 0 ∷ 0 ∷ 0 ∷ 0 ∷ 4 ∷ 1 ∷ 3 ∷
-    0 ∷ 0 ∷ 0 ∷ 0 ∷ 1 ∷ 1 ∷ 0 ∷ 0 ∷ 1 ∷ 0 ∷ 4 ∷ 0 ∷ 0 ∷ 0 ∷ 0 ∷ 0 ∷ 0 ∷ 0 ∷ 0 ∷ 3 ∷ 0 ∷ 1 ∷ 65535 ∷ 0 ∷ 2 ∷ 1 ∷ 0 ∷ 0 ∷
-    5 ∷ 1 ∷ 1 ∷ 65535 ∷ 0 ∷ 3 ∷ 1 ∷ 0 ∷ 0 ∷ 4 ∷ 2 ∷ 4 ∷ 1 ∷ 5 ∷ 5 ∷ []
-
-abbrev names-156 : List ℕ
-names-156 = joined (slotOf (115 ∷ []) ∷ slotOf (97 ∷ []) ∷ slotOf (120 ∷ []) ∷ slotOf (104 ∷ []) ∷ slotOf (122 ∷ []) ∷
-    slotOf (101 ∷ []) ∷ [])
-
-example-156 : alike (played numbers-156 names-156 []) ((4 ∷ []) ∷ []) ≡ true
-unfolding everything joined historyShown queueShown shown playedIf played alike
-example-156 = refl
-
--- initial list holds a history of its owner's parent
-abbrev numbers-157 : List ℕ
-numbers-157 = 6 ∷ 2 ∷ 4 ∷ 2 ∷ 0 ∷ 6 ∷ 0 ∷ 65535 ∷ 65535 ∷ 0 ∷ 0 ∷ 0 ∷ 0 ∷ 0 ∷ 0 ∷ 0 ∷ 0 ∷ 1 ∷ 0 ∷ 0 ∷ 0 ∷ 0 ∷ 0 ∷ 0 ∷
-    0 ∷ 0 ∷ 0 ∷ 0 ∷ 1 ∷ 1 ∷ 1 ∷ 0 ∷ 0 ∷ 0 ∷ 0 ∷ 0 ∷ 1 ∷ 0 ∷ 0 ∷ 1 ∷ 2 ∷ 2 ∷ 0 ∷ 0 ∷ 0 ∷ 0 ∷ 0 ∷ 0 ∷ 0 ∷ 0 ∷ 4 ∷ 1 ∷ 3 ∷
-    0 ∷ 0 ∷ 0 ∷ 0 ∷ 1 ∷ 1 ∷ 0 ∷ 0 ∷ 1 ∷ 0 ∷ 4 ∷ 0 ∷ 0 ∷ 0 ∷ 0 ∷ 0 ∷ 0 ∷ 0 ∷ 0 ∷ 3 ∷ 0 ∷ 1 ∷ 65535 ∷ 0 ∷ 2 ∷ 1 ∷ 0 ∷ 0 ∷
-    5 ∷ 1 ∷ 1 ∷ 65535 ∷ 0 ∷ 3 ∷ 1 ∷ 0 ∷ 0 ∷ 4 ∷ 2 ∷ 4 ∷ 1 ∷ 5 ∷ 5 ∷ []
-
-abbrev names-157 : List ℕ
-names-157 = joined (slotOf (115 ∷ []) ∷ slotOf (97 ∷ []) ∷ slotOf (120 ∷ []) ∷ slotOf (104 ∷ []) ∷ slotOf (122 ∷ []) ∷
-    slotOf (101 ∷ []) ∷ [])
-
-example-157 : alike (played numbers-157 names-157 []) ((4 ∷ []) ∷ []) ≡ true
-unfolding everything joined historyShown queueShown shown playedIf played alike
-example-157 = refl
-
 -- default list holds a history of a row below
-abbrev numbers-158 : List ℕ
-numbers-158 = 20 ∷ 7 ∷ 14 ∷ 7 ∷ 6 ∷ 24 ∷ 0 ∷ 65535 ∷ 65535 ∷ 0 ∷ 0 ∷ 0 ∷ 0 ∷ 0 ∷ 0 ∷ 0 ∷ 0 ∷ 2 ∷ 0 ∷ 0 ∷ 0 ∷ 0 ∷ 0 ∷
+abbrev numbers-154 : List ℕ
+numbers-154 = 20 ∷ 7 ∷ 14 ∷ 7 ∷ 6 ∷ 24 ∷ 0 ∷ 65535 ∷ 65535 ∷ 0 ∷ 0 ∷ 0 ∷ 0 ∷ 0 ∷ 0 ∷ 0 ∷ 0 ∷ 2 ∷ 0 ∷ 0 ∷ 0 ∷ 0 ∷ 0 ∷
     0 ∷ 0 ∷ 0 ∷ 0 ∷ 0 ∷ 1 ∷ 1 ∷ 1 ∷ 0 ∷ 0 ∷ 0 ∷ 0 ∷ 0 ∷ 1 ∷ 0 ∷ 1 ∷ 1 ∷ 2 ∷ 2 ∷ 0 ∷ 0 ∷ 0 ∷ 0 ∷ 0 ∷ 0 ∷ 0 ∷ 0 ∷ 1 ∷ 2 ∷
     3 ∷ 0 ∷ 0 ∷ 0 ∷ 0 ∷ 0 ∷ 0 ∷ 0 ∷ 0 ∷ 3 ∷ 2 ∷ 4 ∷ 0 ∷ 0 ∷ 0 ∷ 0 ∷ 0 ∷ 0 ∷ 0 ∷ 0 ∷ 4 ∷ 2 ∷ 5 ∷ 0 ∷ 0 ∷ 0 ∷ 0 ∷ 1 ∷ 1 ∷
     1 ∷ 1 ∷ 1 ∷ 1 ∷ 6 ∷ 0 ∷ 0 ∷ 0 ∷ 0 ∷ 0 ∷ 0 ∷ 0 ∷ 0 ∷ 2 ∷ 7 ∷ 7 ∷ 0 ∷ 0 ∷ 0 ∷ 0 ∷ 0 ∷ 0 ∷ 0 ∷ 0 ∷ 1 ∷ 8 ∷ 8 ∷ 0 ∷ 0 ∷
@@ -2444,281 +2397,281 @@ numbers-158 = 20 ∷ 7 ∷ 14 ∷ 7 ∷ 6 ∷ 24 ∷ 0 ∷ 65535 ∷ 65535 ∷ 0
     6 ∷ 12 ∷ 1 ∷ 18 ∷ 19 ∷ 20 ∷ 19 ∷ 21 ∷ 19 ∷ 22 ∷ 23 ∷ 19 ∷ 1 ∷ 1 ∷ 0 ∷ 0 ∷ 0 ∷ 19 ∷ 0 ∷ 0 ∷ 0 ∷ 19 ∷ 0 ∷ 0 ∷ 1 ∷
     65535 ∷ 0 ∷ 0 ∷ 1 ∷ 0 ∷ 0 ∷ 0 ∷ 0 ∷ 18 ∷ 0 ∷ 0 ∷ []
 
-abbrev names-158 : List ℕ
-names-158 = joined (slotOf (112 ∷ []) ∷ slotOf (97 ∷ []) ∷ slotOf (97 ∷ 49 ∷ []) ∷ slotOf (97 ∷ 50 ∷ []) ∷ slotOf (97 ∷
+abbrev names-154 : List ℕ
+names-154 = joined (slotOf (112 ∷ []) ∷ slotOf (97 ∷ []) ∷ slotOf (97 ∷ 49 ∷ []) ∷ slotOf (97 ∷ 50 ∷ []) ∷ slotOf (97 ∷
     102 ∷ []) ∷ slotOf (104 ∷ 97 ∷ []) ∷ slotOf (98 ∷ []) ∷ slotOf (113 ∷ []) ∷ slotOf (113 ∷ 49 ∷ []) ∷ slotOf (113 ∷
     49 ∷ 97 ∷ []) ∷ slotOf (113 ∷ 50 ∷ []) ∷ slotOf (104 ∷ 98 ∷ []) ∷ slotOf (104 ∷ 99 ∷ []) ∷ slotOf (104 ∷ 112 ∷
     []) ∷ slotOf (115 ∷ []) ∷ slotOf (99 ∷ []) ∷ slotOf (99 ∷ 49 ∷ []) ∷ slotOf (99 ∷ 102 ∷ []) ∷ slotOf (102 ∷ []) ∷
     slotOf (101 ∷ []) ∷ slotOf (100 ∷ 111 ∷ 110 ∷ 101 ∷ 46 ∷ 115 ∷ 116 ∷ 97 ∷ 116 ∷ 101 ∷ 46 ∷ 112 ∷ []) ∷
     slotOf (102 ∷ 46 ∷ 42 ∷ []) ∷ slotOf (103 ∷ []) ∷ slotOf (42 ∷ []) ∷ [])
 
-example-158 : alike (played numbers-158 names-158 []) ((4 ∷ []) ∷ []) ≡ true
-unfolding everything joined historyShown queueShown shown playedIf played alike
-example-158 = refl
+example-154 : alike (played numbers-154 names-154 []) ((4 ∷ []) ∷ []) ≡ true
+unfolding everything joined historyShown queueShown pendingShown shown playedIf played alike
+example-154 = refl
 
 -- default list holds itself
-abbrev numbers-159 : List ℕ
-numbers-159 = 6 ∷ 1 ∷ 3 ∷ 1 ∷ 0 ∷ 6 ∷ 0 ∷ 65535 ∷ 65535 ∷ 0 ∷ 0 ∷ 0 ∷ 0 ∷ 0 ∷ 0 ∷ 0 ∷ 0 ∷ 1 ∷ 0 ∷ 0 ∷ 0 ∷ 0 ∷ 0 ∷ 0 ∷
+abbrev numbers-155 : List ℕ
+numbers-155 = 6 ∷ 1 ∷ 3 ∷ 1 ∷ 0 ∷ 6 ∷ 0 ∷ 65535 ∷ 65535 ∷ 0 ∷ 0 ∷ 0 ∷ 0 ∷ 0 ∷ 0 ∷ 0 ∷ 0 ∷ 1 ∷ 0 ∷ 0 ∷ 0 ∷ 0 ∷ 0 ∷ 0 ∷
     0 ∷ 0 ∷ 0 ∷ 0 ∷ 1 ∷ 1 ∷ 1 ∷ 0 ∷ 0 ∷ 0 ∷ 0 ∷ 0 ∷ 0 ∷ 0 ∷ 0 ∷ 1 ∷ 1 ∷ 2 ∷ 0 ∷ 0 ∷ 0 ∷ 0 ∷ 0 ∷ 0 ∷ 0 ∷ 0 ∷ 4 ∷ 1 ∷ 3 ∷
     0 ∷ 0 ∷ 0 ∷ 0 ∷ 0 ∷ 1 ∷ 0 ∷ 0 ∷ 5 ∷ 1 ∷ 4 ∷ 0 ∷ 0 ∷ 0 ∷ 0 ∷ 1 ∷ 1 ∷ 0 ∷ 0 ∷ 2 ∷ 0 ∷ 1 ∷ 65535 ∷ 0 ∷ 2 ∷ 1 ∷ 0 ∷ 0 ∷
     2 ∷ 5 ∷ 4 ∷ 5 ∷ []
 
-abbrev names-159 : List ℕ
-names-159 = joined (slotOf (115 ∷ []) ∷ slotOf (97 ∷ []) ∷ slotOf (98 ∷ []) ∷ slotOf (104 ∷ []) ∷ slotOf (100 ∷ []) ∷
+abbrev names-155 : List ℕ
+names-155 = joined (slotOf (115 ∷ []) ∷ slotOf (97 ∷ []) ∷ slotOf (98 ∷ []) ∷ slotOf (104 ∷ []) ∷ slotOf (100 ∷ []) ∷
     slotOf (101 ∷ []) ∷ [])
 
-example-159 : alike (played numbers-159 names-159 []) ((4 ∷ []) ∷ []) ≡ true
-unfolding everything joined historyShown queueShown shown playedIf played alike
-example-159 = refl
+example-155 : alike (played numbers-155 names-155 []) ((4 ∷ []) ∷ []) ≡ true
+unfolding everything joined historyShown queueShown pendingShown shown playedIf played alike
+example-155 = refl
 
 -- elseif without an open if
-abbrev numbers-160 : List ℕ
-numbers-160 = 2 ∷ 1 ∷ 1 ∷ 2 ∷ 2 ∷ 3 ∷ 0 ∷ 65535 ∷ 65535 ∷ 0 ∷ 0 ∷ 0 ∷ 0 ∷ 0 ∷ 0 ∷ 0 ∷ 0 ∷ 1 ∷ 0 ∷ 0 ∷ 0 ∷ 0 ∷ 0 ∷ 0 ∷
+abbrev numbers-156 : List ℕ
+numbers-156 = 2 ∷ 1 ∷ 1 ∷ 2 ∷ 2 ∷ 3 ∷ 0 ∷ 65535 ∷ 65535 ∷ 0 ∷ 0 ∷ 0 ∷ 0 ∷ 0 ∷ 0 ∷ 0 ∷ 0 ∷ 1 ∷ 0 ∷ 0 ∷ 0 ∷ 0 ∷ 0 ∷ 0 ∷
     0 ∷ 0 ∷ 0 ∷ 0 ∷ 1 ∷ 0 ∷ 2 ∷ 65535 ∷ 0 ∷ 0 ∷ 1 ∷ 0 ∷ 2 ∷ 1 ∷ 1 ∷ 2 ∷ 3 ∷ 1 ∷ 0 ∷ 0 ∷ 1 ∷ 7 ∷ 0 ∷ 0 ∷ []
+
+abbrev names-156 : List ℕ
+names-156 = joined (slotOf (115 ∷ []) ∷ slotOf (101 ∷ []) ∷ slotOf (42 ∷ []) ∷ [])
+
+example-156 : alike (played numbers-156 names-156 []) ((5 ∷ []) ∷ []) ≡ true
+unfolding everything joined historyShown queueShown pendingShown shown playedIf played alike
+example-156 = refl
+
+-- else without an open if
+abbrev numbers-157 : List ℕ
+numbers-157 = 2 ∷ 1 ∷ 1 ∷ 2 ∷ 2 ∷ 3 ∷ 0 ∷ 65535 ∷ 65535 ∷ 0 ∷ 0 ∷ 0 ∷ 0 ∷ 0 ∷ 0 ∷ 0 ∷ 0 ∷ 1 ∷ 0 ∷ 0 ∷ 0 ∷ 0 ∷ 0 ∷ 0 ∷
+    0 ∷ 0 ∷ 0 ∷ 0 ∷ 1 ∷ 0 ∷ 2 ∷ 65535 ∷ 0 ∷ 0 ∷ 1 ∷ 0 ∷ 2 ∷ 1 ∷ 1 ∷ 2 ∷ 4 ∷ 0 ∷ 0 ∷ 0 ∷ 1 ∷ 7 ∷ 0 ∷ 0 ∷ []
+
+abbrev names-157 : List ℕ
+names-157 = joined (slotOf (115 ∷ []) ∷ slotOf (101 ∷ []) ∷ slotOf (42 ∷ []) ∷ [])
+
+example-157 : alike (played numbers-157 names-157 []) ((5 ∷ []) ∷ []) ≡ true
+unfolding everything joined historyShown queueShown pendingShown shown playedIf played alike
+example-157 = refl
+
+-- end without an open if
+abbrev numbers-158 : List ℕ
+numbers-158 = 2 ∷ 1 ∷ 1 ∷ 2 ∷ 2 ∷ 3 ∷ 0 ∷ 65535 ∷ 65535 ∷ 0 ∷ 0 ∷ 0 ∷ 0 ∷ 0 ∷ 0 ∷ 0 ∷ 0 ∷ 1 ∷ 0 ∷ 0 ∷ 0 ∷ 0 ∷ 0 ∷ 0 ∷
+    0 ∷ 0 ∷ 0 ∷ 0 ∷ 1 ∷ 0 ∷ 2 ∷ 65535 ∷ 0 ∷ 0 ∷ 1 ∷ 0 ∷ 2 ∷ 1 ∷ 1 ∷ 2 ∷ 1 ∷ 7 ∷ 0 ∷ 0 ∷ 5 ∷ 0 ∷ 0 ∷ 0 ∷ []
+
+abbrev names-158 : List ℕ
+names-158 = joined (slotOf (115 ∷ []) ∷ slotOf (101 ∷ []) ∷ slotOf (42 ∷ []) ∷ [])
+
+example-158 : alike (played numbers-158 names-158 []) ((5 ∷ []) ∷ []) ≡ true
+unfolding everything joined historyShown queueShown pendingShown shown playedIf played alike
+example-158 = refl
+
+-- elseif behind an end
+abbrev numbers-159 : List ℕ
+numbers-159 = 2 ∷ 1 ∷ 1 ∷ 2 ∷ 6 ∷ 3 ∷ 0 ∷ 65535 ∷ 65535 ∷ 0 ∷ 0 ∷ 0 ∷ 0 ∷ 0 ∷ 0 ∷ 0 ∷ 0 ∷ 1 ∷ 0 ∷ 0 ∷ 0 ∷ 0 ∷ 0 ∷ 0 ∷
+    0 ∷ 0 ∷ 0 ∷ 0 ∷ 1 ∷ 0 ∷ 2 ∷ 65535 ∷ 0 ∷ 0 ∷ 1 ∷ 0 ∷ 6 ∷ 1 ∷ 1 ∷ 2 ∷ 2 ∷ 1 ∷ 0 ∷ 0 ∷ 1 ∷ 7 ∷ 0 ∷ 0 ∷ 5 ∷ 0 ∷ 0 ∷ 0 ∷
+    3 ∷ 1 ∷ 0 ∷ 0 ∷ 1 ∷ 7 ∷ 0 ∷ 0 ∷ 5 ∷ 0 ∷ 0 ∷ 0 ∷ []
+
+abbrev names-159 : List ℕ
+names-159 = joined (slotOf (115 ∷ []) ∷ slotOf (101 ∷ []) ∷ slotOf (42 ∷ []) ∷ [])
+
+example-159 : alike (played numbers-159 names-159 []) ((5 ∷ []) ∷ []) ≡ true
+unfolding everything joined historyShown queueShown pendingShown shown playedIf played alike
+example-159 = refl
+
+-- else behind an end
+abbrev numbers-160 : List ℕ
+numbers-160 = 2 ∷ 1 ∷ 1 ∷ 2 ∷ 6 ∷ 3 ∷ 0 ∷ 65535 ∷ 65535 ∷ 0 ∷ 0 ∷ 0 ∷ 0 ∷ 0 ∷ 0 ∷ 0 ∷ 0 ∷ 1 ∷ 0 ∷ 0 ∷ 0 ∷ 0 ∷ 0 ∷ 0 ∷
+    0 ∷ 0 ∷ 0 ∷ 0 ∷ 1 ∷ 0 ∷ 2 ∷ 65535 ∷ 0 ∷ 0 ∷ 1 ∷ 0 ∷ 6 ∷ 1 ∷ 1 ∷ 2 ∷ 2 ∷ 1 ∷ 0 ∷ 0 ∷ 1 ∷ 7 ∷ 0 ∷ 0 ∷ 5 ∷ 0 ∷ 0 ∷ 0 ∷
+    4 ∷ 0 ∷ 0 ∷ 0 ∷ 1 ∷ 7 ∷ 0 ∷ 0 ∷ 5 ∷ 0 ∷ 0 ∷ 0 ∷ []
 
 abbrev names-160 : List ℕ
 names-160 = joined (slotOf (115 ∷ []) ∷ slotOf (101 ∷ []) ∷ slotOf (42 ∷ []) ∷ [])
 
 example-160 : alike (played numbers-160 names-160 []) ((5 ∷ []) ∷ []) ≡ true
-unfolding everything joined historyShown queueShown shown playedIf played alike
+unfolding everything joined historyShown queueShown pendingShown shown playedIf played alike
 example-160 = refl
 
--- else without an open if
+-- an end too many
 abbrev numbers-161 : List ℕ
-numbers-161 = 2 ∷ 1 ∷ 1 ∷ 2 ∷ 2 ∷ 3 ∷ 0 ∷ 65535 ∷ 65535 ∷ 0 ∷ 0 ∷ 0 ∷ 0 ∷ 0 ∷ 0 ∷ 0 ∷ 0 ∷ 1 ∷ 0 ∷ 0 ∷ 0 ∷ 0 ∷ 0 ∷ 0 ∷
-    0 ∷ 0 ∷ 0 ∷ 0 ∷ 1 ∷ 0 ∷ 2 ∷ 65535 ∷ 0 ∷ 0 ∷ 1 ∷ 0 ∷ 2 ∷ 1 ∷ 1 ∷ 2 ∷ 4 ∷ 0 ∷ 0 ∷ 0 ∷ 1 ∷ 7 ∷ 0 ∷ 0 ∷ []
+numbers-161 = 2 ∷ 1 ∷ 1 ∷ 2 ∷ 5 ∷ 3 ∷ 0 ∷ 65535 ∷ 65535 ∷ 0 ∷ 0 ∷ 0 ∷ 0 ∷ 0 ∷ 0 ∷ 0 ∷ 0 ∷ 1 ∷ 0 ∷ 0 ∷ 0 ∷ 0 ∷ 0 ∷ 0 ∷
+    0 ∷ 0 ∷ 0 ∷ 0 ∷ 1 ∷ 0 ∷ 2 ∷ 65535 ∷ 0 ∷ 0 ∷ 1 ∷ 0 ∷ 5 ∷ 1 ∷ 1 ∷ 2 ∷ 2 ∷ 1 ∷ 0 ∷ 0 ∷ 2 ∷ 1 ∷ 0 ∷ 0 ∷ 5 ∷ 0 ∷ 0 ∷ 0 ∷
+    5 ∷ 0 ∷ 0 ∷ 0 ∷ 5 ∷ 0 ∷ 0 ∷ 0 ∷ []
 
 abbrev names-161 : List ℕ
 names-161 = joined (slotOf (115 ∷ []) ∷ slotOf (101 ∷ []) ∷ slotOf (42 ∷ []) ∷ [])
 
 example-161 : alike (played numbers-161 names-161 []) ((5 ∷ []) ∷ []) ≡ true
-unfolding everything joined historyShown queueShown shown playedIf played alike
+unfolding everything joined historyShown queueShown pendingShown shown playedIf played alike
 example-161 = refl
 
--- end without an open if
+-- an end before its if
 abbrev numbers-162 : List ℕ
 numbers-162 = 2 ∷ 1 ∷ 1 ∷ 2 ∷ 2 ∷ 3 ∷ 0 ∷ 65535 ∷ 65535 ∷ 0 ∷ 0 ∷ 0 ∷ 0 ∷ 0 ∷ 0 ∷ 0 ∷ 0 ∷ 1 ∷ 0 ∷ 0 ∷ 0 ∷ 0 ∷ 0 ∷ 0 ∷
-    0 ∷ 0 ∷ 0 ∷ 0 ∷ 1 ∷ 0 ∷ 2 ∷ 65535 ∷ 0 ∷ 0 ∷ 1 ∷ 0 ∷ 2 ∷ 1 ∷ 1 ∷ 2 ∷ 1 ∷ 7 ∷ 0 ∷ 0 ∷ 5 ∷ 0 ∷ 0 ∷ 0 ∷ []
+    0 ∷ 0 ∷ 0 ∷ 0 ∷ 1 ∷ 0 ∷ 2 ∷ 65535 ∷ 0 ∷ 0 ∷ 1 ∷ 0 ∷ 2 ∷ 1 ∷ 1 ∷ 2 ∷ 5 ∷ 0 ∷ 0 ∷ 0 ∷ 2 ∷ 1 ∷ 0 ∷ 0 ∷ []
 
 abbrev names-162 : List ℕ
 names-162 = joined (slotOf (115 ∷ []) ∷ slotOf (101 ∷ []) ∷ slotOf (42 ∷ []) ∷ [])
 
 example-162 : alike (played numbers-162 names-162 []) ((5 ∷ []) ∷ []) ≡ true
-unfolding everything joined historyShown queueShown shown playedIf played alike
+unfolding everything joined historyShown queueShown pendingShown shown playedIf played alike
 example-162 = refl
 
--- elseif behind an end
+-- elseif after else
 abbrev numbers-163 : List ℕ
-numbers-163 = 2 ∷ 1 ∷ 1 ∷ 2 ∷ 6 ∷ 3 ∷ 0 ∷ 65535 ∷ 65535 ∷ 0 ∷ 0 ∷ 0 ∷ 0 ∷ 0 ∷ 0 ∷ 0 ∷ 0 ∷ 1 ∷ 0 ∷ 0 ∷ 0 ∷ 0 ∷ 0 ∷ 0 ∷
-    0 ∷ 0 ∷ 0 ∷ 0 ∷ 1 ∷ 0 ∷ 2 ∷ 65535 ∷ 0 ∷ 0 ∷ 1 ∷ 0 ∷ 6 ∷ 1 ∷ 1 ∷ 2 ∷ 2 ∷ 1 ∷ 0 ∷ 0 ∷ 1 ∷ 7 ∷ 0 ∷ 0 ∷ 5 ∷ 0 ∷ 0 ∷ 0 ∷
-    3 ∷ 1 ∷ 0 ∷ 0 ∷ 1 ∷ 7 ∷ 0 ∷ 0 ∷ 5 ∷ 0 ∷ 0 ∷ 0 ∷ []
+numbers-163 = 2 ∷ 1 ∷ 1 ∷ 2 ∷ 4 ∷ 3 ∷ 0 ∷ 65535 ∷ 65535 ∷ 0 ∷ 0 ∷ 0 ∷ 0 ∷ 0 ∷ 0 ∷ 0 ∷ 0 ∷ 1 ∷ 0 ∷ 0 ∷ 0 ∷ 0 ∷ 0 ∷ 0 ∷
+    0 ∷ 0 ∷ 0 ∷ 0 ∷ 1 ∷ 0 ∷ 2 ∷ 65535 ∷ 0 ∷ 0 ∷ 1 ∷ 0 ∷ 4 ∷ 1 ∷ 1 ∷ 2 ∷ 2 ∷ 1 ∷ 0 ∷ 0 ∷ 4 ∷ 0 ∷ 0 ∷ 0 ∷ 3 ∷ 1 ∷ 0 ∷ 0 ∷
+    5 ∷ 0 ∷ 0 ∷ 0 ∷ []
 
 abbrev names-163 : List ℕ
 names-163 = joined (slotOf (115 ∷ []) ∷ slotOf (101 ∷ []) ∷ slotOf (42 ∷ []) ∷ [])
 
 example-163 : alike (played numbers-163 names-163 []) ((5 ∷ []) ∷ []) ≡ true
-unfolding everything joined historyShown queueShown shown playedIf played alike
+unfolding everything joined historyShown queueShown pendingShown shown playedIf played alike
 example-163 = refl
 
--- else behind an end
+-- else twice
 abbrev numbers-164 : List ℕ
-numbers-164 = 2 ∷ 1 ∷ 1 ∷ 2 ∷ 6 ∷ 3 ∷ 0 ∷ 65535 ∷ 65535 ∷ 0 ∷ 0 ∷ 0 ∷ 0 ∷ 0 ∷ 0 ∷ 0 ∷ 0 ∷ 1 ∷ 0 ∷ 0 ∷ 0 ∷ 0 ∷ 0 ∷ 0 ∷
-    0 ∷ 0 ∷ 0 ∷ 0 ∷ 1 ∷ 0 ∷ 2 ∷ 65535 ∷ 0 ∷ 0 ∷ 1 ∷ 0 ∷ 6 ∷ 1 ∷ 1 ∷ 2 ∷ 2 ∷ 1 ∷ 0 ∷ 0 ∷ 1 ∷ 7 ∷ 0 ∷ 0 ∷ 5 ∷ 0 ∷ 0 ∷ 0 ∷
-    4 ∷ 0 ∷ 0 ∷ 0 ∷ 1 ∷ 7 ∷ 0 ∷ 0 ∷ 5 ∷ 0 ∷ 0 ∷ 0 ∷ []
+numbers-164 = 2 ∷ 1 ∷ 1 ∷ 2 ∷ 5 ∷ 3 ∷ 0 ∷ 65535 ∷ 65535 ∷ 0 ∷ 0 ∷ 0 ∷ 0 ∷ 0 ∷ 0 ∷ 0 ∷ 0 ∷ 1 ∷ 0 ∷ 0 ∷ 0 ∷ 0 ∷ 0 ∷ 0 ∷
+    0 ∷ 0 ∷ 0 ∷ 0 ∷ 1 ∷ 0 ∷ 2 ∷ 65535 ∷ 0 ∷ 0 ∷ 1 ∷ 0 ∷ 5 ∷ 1 ∷ 1 ∷ 2 ∷ 2 ∷ 1 ∷ 0 ∷ 0 ∷ 4 ∷ 0 ∷ 0 ∷ 0 ∷ 1 ∷ 7 ∷ 0 ∷ 0 ∷
+    4 ∷ 0 ∷ 0 ∷ 0 ∷ 5 ∷ 0 ∷ 0 ∷ 0 ∷ []
 
 abbrev names-164 : List ℕ
 names-164 = joined (slotOf (115 ∷ []) ∷ slotOf (101 ∷ []) ∷ slotOf (42 ∷ []) ∷ [])
 
 example-164 : alike (played numbers-164 names-164 []) ((5 ∷ []) ∷ []) ≡ true
-unfolding everything joined historyShown queueShown shown playedIf played alike
+unfolding everything joined historyShown queueShown pendingShown shown playedIf played alike
 example-164 = refl
 
--- an end too many
+-- elseif after else, inside
 abbrev numbers-165 : List ℕ
-numbers-165 = 2 ∷ 1 ∷ 1 ∷ 2 ∷ 5 ∷ 3 ∷ 0 ∷ 65535 ∷ 65535 ∷ 0 ∷ 0 ∷ 0 ∷ 0 ∷ 0 ∷ 0 ∷ 0 ∷ 0 ∷ 1 ∷ 0 ∷ 0 ∷ 0 ∷ 0 ∷ 0 ∷ 0 ∷
-    0 ∷ 0 ∷ 0 ∷ 0 ∷ 1 ∷ 0 ∷ 2 ∷ 65535 ∷ 0 ∷ 0 ∷ 1 ∷ 0 ∷ 5 ∷ 1 ∷ 1 ∷ 2 ∷ 2 ∷ 1 ∷ 0 ∷ 0 ∷ 2 ∷ 1 ∷ 0 ∷ 0 ∷ 5 ∷ 0 ∷ 0 ∷ 0 ∷
-    5 ∷ 0 ∷ 0 ∷ 0 ∷ 5 ∷ 0 ∷ 0 ∷ 0 ∷ []
+numbers-165 = 2 ∷ 1 ∷ 1 ∷ 2 ∷ 7 ∷ 3 ∷ 0 ∷ 65535 ∷ 65535 ∷ 0 ∷ 0 ∷ 0 ∷ 0 ∷ 0 ∷ 0 ∷ 0 ∷ 0 ∷ 1 ∷ 0 ∷ 0 ∷ 0 ∷ 0 ∷ 0 ∷ 0 ∷
+    0 ∷ 0 ∷ 0 ∷ 0 ∷ 1 ∷ 0 ∷ 2 ∷ 65535 ∷ 0 ∷ 0 ∷ 1 ∷ 0 ∷ 7 ∷ 1 ∷ 1 ∷ 2 ∷ 2 ∷ 1 ∷ 0 ∷ 0 ∷ 2 ∷ 1 ∷ 0 ∷ 0 ∷ 4 ∷ 0 ∷ 0 ∷ 0 ∷
+    1 ∷ 7 ∷ 0 ∷ 0 ∷ 3 ∷ 1 ∷ 0 ∷ 0 ∷ 5 ∷ 0 ∷ 0 ∷ 0 ∷ 5 ∷ 0 ∷ 0 ∷ 0 ∷ []
 
 abbrev names-165 : List ℕ
 names-165 = joined (slotOf (115 ∷ []) ∷ slotOf (101 ∷ []) ∷ slotOf (42 ∷ []) ∷ [])
 
 example-165 : alike (played numbers-165 names-165 []) ((5 ∷ []) ∷ []) ≡ true
-unfolding everything joined historyShown queueShown shown playedIf played alike
+unfolding everything joined historyShown queueShown pendingShown shown playedIf played alike
 example-165 = refl
 
--- an end before its if
+-- elseif after else, behind a whole if
 abbrev numbers-166 : List ℕ
-numbers-166 = 2 ∷ 1 ∷ 1 ∷ 2 ∷ 2 ∷ 3 ∷ 0 ∷ 65535 ∷ 65535 ∷ 0 ∷ 0 ∷ 0 ∷ 0 ∷ 0 ∷ 0 ∷ 0 ∷ 0 ∷ 1 ∷ 0 ∷ 0 ∷ 0 ∷ 0 ∷ 0 ∷ 0 ∷
-    0 ∷ 0 ∷ 0 ∷ 0 ∷ 1 ∷ 0 ∷ 2 ∷ 65535 ∷ 0 ∷ 0 ∷ 1 ∷ 0 ∷ 2 ∷ 1 ∷ 1 ∷ 2 ∷ 5 ∷ 0 ∷ 0 ∷ 0 ∷ 2 ∷ 1 ∷ 0 ∷ 0 ∷ []
+numbers-166 = 2 ∷ 1 ∷ 1 ∷ 2 ∷ 6 ∷ 3 ∷ 0 ∷ 65535 ∷ 65535 ∷ 0 ∷ 0 ∷ 0 ∷ 0 ∷ 0 ∷ 0 ∷ 0 ∷ 0 ∷ 1 ∷ 0 ∷ 0 ∷ 0 ∷ 0 ∷ 0 ∷ 0 ∷
+    0 ∷ 0 ∷ 0 ∷ 0 ∷ 1 ∷ 0 ∷ 2 ∷ 65535 ∷ 0 ∷ 0 ∷ 1 ∷ 0 ∷ 6 ∷ 1 ∷ 1 ∷ 2 ∷ 2 ∷ 1 ∷ 0 ∷ 0 ∷ 4 ∷ 0 ∷ 0 ∷ 0 ∷ 2 ∷ 1 ∷ 0 ∷ 0 ∷
+    5 ∷ 0 ∷ 0 ∷ 0 ∷ 3 ∷ 1 ∷ 0 ∷ 0 ∷ 5 ∷ 0 ∷ 0 ∷ 0 ∷ []
 
 abbrev names-166 : List ℕ
 names-166 = joined (slotOf (115 ∷ []) ∷ slotOf (101 ∷ []) ∷ slotOf (42 ∷ []) ∷ [])
 
 example-166 : alike (played numbers-166 names-166 []) ((5 ∷ []) ∷ []) ≡ true
-unfolding everything joined historyShown queueShown shown playedIf played alike
+unfolding everything joined historyShown queueShown pendingShown shown playedIf played alike
 example-166 = refl
 
--- elseif after else
+-- else twice, inside an else
 abbrev numbers-167 : List ℕ
-numbers-167 = 2 ∷ 1 ∷ 1 ∷ 2 ∷ 4 ∷ 3 ∷ 0 ∷ 65535 ∷ 65535 ∷ 0 ∷ 0 ∷ 0 ∷ 0 ∷ 0 ∷ 0 ∷ 0 ∷ 0 ∷ 1 ∷ 0 ∷ 0 ∷ 0 ∷ 0 ∷ 0 ∷ 0 ∷
-    0 ∷ 0 ∷ 0 ∷ 0 ∷ 1 ∷ 0 ∷ 2 ∷ 65535 ∷ 0 ∷ 0 ∷ 1 ∷ 0 ∷ 4 ∷ 1 ∷ 1 ∷ 2 ∷ 2 ∷ 1 ∷ 0 ∷ 0 ∷ 4 ∷ 0 ∷ 0 ∷ 0 ∷ 3 ∷ 1 ∷ 0 ∷ 0 ∷
-    5 ∷ 0 ∷ 0 ∷ 0 ∷ []
+numbers-167 = 2 ∷ 1 ∷ 1 ∷ 2 ∷ 7 ∷ 3 ∷ 0 ∷ 65535 ∷ 65535 ∷ 0 ∷ 0 ∷ 0 ∷ 0 ∷ 0 ∷ 0 ∷ 0 ∷ 0 ∷ 1 ∷ 0 ∷ 0 ∷ 0 ∷ 0 ∷ 0 ∷ 0 ∷
+    0 ∷ 0 ∷ 0 ∷ 0 ∷ 1 ∷ 0 ∷ 2 ∷ 65535 ∷ 0 ∷ 0 ∷ 1 ∷ 0 ∷ 7 ∷ 1 ∷ 1 ∷ 2 ∷ 2 ∷ 1 ∷ 0 ∷ 0 ∷ 4 ∷ 0 ∷ 0 ∷ 0 ∷ 2 ∷ 1 ∷ 0 ∷ 0 ∷
+    4 ∷ 0 ∷ 0 ∷ 0 ∷ 4 ∷ 0 ∷ 0 ∷ 0 ∷ 5 ∷ 0 ∷ 0 ∷ 0 ∷ 5 ∷ 0 ∷ 0 ∷ 0 ∷ []
 
 abbrev names-167 : List ℕ
 names-167 = joined (slotOf (115 ∷ []) ∷ slotOf (101 ∷ []) ∷ slotOf (42 ∷ []) ∷ [])
 
 example-167 : alike (played numbers-167 names-167 []) ((5 ∷ []) ∷ []) ≡ true
-unfolding everything joined historyShown queueShown shown playedIf played alike
+unfolding everything joined historyShown queueShown pendingShown shown playedIf played alike
 example-167 = refl
 
--- else twice
+-- unclosed if
 abbrev numbers-168 : List ℕ
-numbers-168 = 2 ∷ 1 ∷ 1 ∷ 2 ∷ 5 ∷ 3 ∷ 0 ∷ 65535 ∷ 65535 ∷ 0 ∷ 0 ∷ 0 ∷ 0 ∷ 0 ∷ 0 ∷ 0 ∷ 0 ∷ 1 ∷ 0 ∷ 0 ∷ 0 ∷ 0 ∷ 0 ∷ 0 ∷
-    0 ∷ 0 ∷ 0 ∷ 0 ∷ 1 ∷ 0 ∷ 2 ∷ 65535 ∷ 0 ∷ 0 ∷ 1 ∷ 0 ∷ 5 ∷ 1 ∷ 1 ∷ 2 ∷ 2 ∷ 1 ∷ 0 ∷ 0 ∷ 4 ∷ 0 ∷ 0 ∷ 0 ∷ 1 ∷ 7 ∷ 0 ∷ 0 ∷
-    4 ∷ 0 ∷ 0 ∷ 0 ∷ 5 ∷ 0 ∷ 0 ∷ 0 ∷ []
+numbers-168 = 2 ∷ 1 ∷ 1 ∷ 2 ∷ 2 ∷ 3 ∷ 0 ∷ 65535 ∷ 65535 ∷ 0 ∷ 0 ∷ 0 ∷ 0 ∷ 0 ∷ 0 ∷ 0 ∷ 0 ∷ 1 ∷ 0 ∷ 0 ∷ 0 ∷ 0 ∷ 0 ∷ 0 ∷
+    0 ∷ 0 ∷ 0 ∷ 0 ∷ 1 ∷ 0 ∷ 2 ∷ 65535 ∷ 0 ∷ 0 ∷ 1 ∷ 0 ∷ 2 ∷ 1 ∷ 1 ∷ 2 ∷ 2 ∷ 1 ∷ 0 ∷ 0 ∷ 1 ∷ 7 ∷ 0 ∷ 0 ∷ []
 
 abbrev names-168 : List ℕ
 names-168 = joined (slotOf (115 ∷ []) ∷ slotOf (101 ∷ []) ∷ slotOf (42 ∷ []) ∷ [])
 
 example-168 : alike (played numbers-168 names-168 []) ((5 ∷ []) ∷ []) ≡ true
-unfolding everything joined historyShown queueShown shown playedIf played alike
+unfolding everything joined historyShown queueShown pendingShown shown playedIf played alike
 example-168 = refl
 
--- elseif after else, inside
+-- unclosed if with an else
 abbrev numbers-169 : List ℕ
-numbers-169 = 2 ∷ 1 ∷ 1 ∷ 2 ∷ 7 ∷ 3 ∷ 0 ∷ 65535 ∷ 65535 ∷ 0 ∷ 0 ∷ 0 ∷ 0 ∷ 0 ∷ 0 ∷ 0 ∷ 0 ∷ 1 ∷ 0 ∷ 0 ∷ 0 ∷ 0 ∷ 0 ∷ 0 ∷
-    0 ∷ 0 ∷ 0 ∷ 0 ∷ 1 ∷ 0 ∷ 2 ∷ 65535 ∷ 0 ∷ 0 ∷ 1 ∷ 0 ∷ 7 ∷ 1 ∷ 1 ∷ 2 ∷ 2 ∷ 1 ∷ 0 ∷ 0 ∷ 2 ∷ 1 ∷ 0 ∷ 0 ∷ 4 ∷ 0 ∷ 0 ∷ 0 ∷
-    1 ∷ 7 ∷ 0 ∷ 0 ∷ 3 ∷ 1 ∷ 0 ∷ 0 ∷ 5 ∷ 0 ∷ 0 ∷ 0 ∷ 5 ∷ 0 ∷ 0 ∷ 0 ∷ []
+numbers-169 = 2 ∷ 1 ∷ 1 ∷ 2 ∷ 4 ∷ 3 ∷ 0 ∷ 65535 ∷ 65535 ∷ 0 ∷ 0 ∷ 0 ∷ 0 ∷ 0 ∷ 0 ∷ 0 ∷ 0 ∷ 1 ∷ 0 ∷ 0 ∷ 0 ∷ 0 ∷ 0 ∷ 0 ∷
+    0 ∷ 0 ∷ 0 ∷ 0 ∷ 1 ∷ 0 ∷ 2 ∷ 65535 ∷ 0 ∷ 0 ∷ 1 ∷ 0 ∷ 4 ∷ 1 ∷ 1 ∷ 2 ∷ 2 ∷ 1 ∷ 0 ∷ 0 ∷ 1 ∷ 7 ∷ 0 ∷ 0 ∷ 4 ∷ 0 ∷ 0 ∷ 0 ∷
+    1 ∷ 7 ∷ 0 ∷ 0 ∷ []
 
 abbrev names-169 : List ℕ
 names-169 = joined (slotOf (115 ∷ []) ∷ slotOf (101 ∷ []) ∷ slotOf (42 ∷ []) ∷ [])
 
 example-169 : alike (played numbers-169 names-169 []) ((5 ∷ []) ∷ []) ≡ true
-unfolding everything joined historyShown queueShown shown playedIf played alike
+unfolding everything joined historyShown queueShown pendingShown shown playedIf played alike
 example-169 = refl
 
--- elseif after else, behind a whole if
+-- unclosed if around a closed one
 abbrev numbers-170 : List ℕ
-numbers-170 = 2 ∷ 1 ∷ 1 ∷ 2 ∷ 6 ∷ 3 ∷ 0 ∷ 65535 ∷ 65535 ∷ 0 ∷ 0 ∷ 0 ∷ 0 ∷ 0 ∷ 0 ∷ 0 ∷ 0 ∷ 1 ∷ 0 ∷ 0 ∷ 0 ∷ 0 ∷ 0 ∷ 0 ∷
-    0 ∷ 0 ∷ 0 ∷ 0 ∷ 1 ∷ 0 ∷ 2 ∷ 65535 ∷ 0 ∷ 0 ∷ 1 ∷ 0 ∷ 6 ∷ 1 ∷ 1 ∷ 2 ∷ 2 ∷ 1 ∷ 0 ∷ 0 ∷ 4 ∷ 0 ∷ 0 ∷ 0 ∷ 2 ∷ 1 ∷ 0 ∷ 0 ∷
-    5 ∷ 0 ∷ 0 ∷ 0 ∷ 3 ∷ 1 ∷ 0 ∷ 0 ∷ 5 ∷ 0 ∷ 0 ∷ 0 ∷ []
+numbers-170 = 2 ∷ 1 ∷ 1 ∷ 2 ∷ 4 ∷ 3 ∷ 0 ∷ 65535 ∷ 65535 ∷ 0 ∷ 0 ∷ 0 ∷ 0 ∷ 0 ∷ 0 ∷ 0 ∷ 0 ∷ 1 ∷ 0 ∷ 0 ∷ 0 ∷ 0 ∷ 0 ∷ 0 ∷
+    0 ∷ 0 ∷ 0 ∷ 0 ∷ 1 ∷ 0 ∷ 2 ∷ 65535 ∷ 0 ∷ 0 ∷ 1 ∷ 0 ∷ 4 ∷ 1 ∷ 1 ∷ 2 ∷ 2 ∷ 1 ∷ 0 ∷ 0 ∷ 2 ∷ 1 ∷ 0 ∷ 0 ∷ 1 ∷ 7 ∷ 0 ∷ 0 ∷
+    5 ∷ 0 ∷ 0 ∷ 0 ∷ []
 
 abbrev names-170 : List ℕ
 names-170 = joined (slotOf (115 ∷ []) ∷ slotOf (101 ∷ []) ∷ slotOf (42 ∷ []) ∷ [])
 
 example-170 : alike (played numbers-170 names-170 []) ((5 ∷ []) ∷ []) ≡ true
-unfolding everything joined historyShown queueShown shown playedIf played alike
+unfolding everything joined historyShown queueShown pendingShown shown playedIf played alike
 example-170 = refl
 
--- else twice, inside an else
+-- unclosed if behind a closed one
 abbrev numbers-171 : List ℕ
-numbers-171 = 2 ∷ 1 ∷ 1 ∷ 2 ∷ 7 ∷ 3 ∷ 0 ∷ 65535 ∷ 65535 ∷ 0 ∷ 0 ∷ 0 ∷ 0 ∷ 0 ∷ 0 ∷ 0 ∷ 0 ∷ 1 ∷ 0 ∷ 0 ∷ 0 ∷ 0 ∷ 0 ∷ 0 ∷
-    0 ∷ 0 ∷ 0 ∷ 0 ∷ 1 ∷ 0 ∷ 2 ∷ 65535 ∷ 0 ∷ 0 ∷ 1 ∷ 0 ∷ 7 ∷ 1 ∷ 1 ∷ 2 ∷ 2 ∷ 1 ∷ 0 ∷ 0 ∷ 4 ∷ 0 ∷ 0 ∷ 0 ∷ 2 ∷ 1 ∷ 0 ∷ 0 ∷
-    4 ∷ 0 ∷ 0 ∷ 0 ∷ 4 ∷ 0 ∷ 0 ∷ 0 ∷ 5 ∷ 0 ∷ 0 ∷ 0 ∷ 5 ∷ 0 ∷ 0 ∷ 0 ∷ []
+numbers-171 = 2 ∷ 1 ∷ 1 ∷ 2 ∷ 3 ∷ 3 ∷ 0 ∷ 65535 ∷ 65535 ∷ 0 ∷ 0 ∷ 0 ∷ 0 ∷ 0 ∷ 0 ∷ 0 ∷ 0 ∷ 1 ∷ 0 ∷ 0 ∷ 0 ∷ 0 ∷ 0 ∷ 0 ∷
+    0 ∷ 0 ∷ 0 ∷ 0 ∷ 1 ∷ 0 ∷ 2 ∷ 65535 ∷ 0 ∷ 0 ∷ 1 ∷ 0 ∷ 3 ∷ 1 ∷ 1 ∷ 2 ∷ 2 ∷ 1 ∷ 0 ∷ 0 ∷ 5 ∷ 0 ∷ 0 ∷ 0 ∷ 2 ∷ 1 ∷ 0 ∷ 0 ∷
+    []
 
 abbrev names-171 : List ℕ
 names-171 = joined (slotOf (115 ∷ []) ∷ slotOf (101 ∷ []) ∷ slotOf (42 ∷ []) ∷ [])
 
 example-171 : alike (played numbers-171 names-171 []) ((5 ∷ []) ∷ []) ≡ true
-unfolding everything joined historyShown queueShown shown playedIf played alike
+unfolding everything joined historyShown queueShown pendingShown shown playedIf played alike
 example-171 = refl
 
--- unclosed if
+-- a fifth level
 abbrev numbers-172 : List ℕ
-numbers-172 = 2 ∷ 1 ∷ 1 ∷ 2 ∷ 2 ∷ 3 ∷ 0 ∷ 65535 ∷ 65535 ∷ 0 ∷ 0 ∷ 0 ∷ 0 ∷ 0 ∷ 0 ∷ 0 ∷ 0 ∷ 1 ∷ 0 ∷ 0 ∷ 0 ∷ 0 ∷ 0 ∷ 0 ∷
-    0 ∷ 0 ∷ 0 ∷ 0 ∷ 1 ∷ 0 ∷ 2 ∷ 65535 ∷ 0 ∷ 0 ∷ 1 ∷ 0 ∷ 2 ∷ 1 ∷ 1 ∷ 2 ∷ 2 ∷ 1 ∷ 0 ∷ 0 ∷ 1 ∷ 7 ∷ 0 ∷ 0 ∷ []
+numbers-172 = 2 ∷ 1 ∷ 1 ∷ 2 ∷ 10 ∷ 3 ∷ 0 ∷ 65535 ∷ 65535 ∷ 0 ∷ 0 ∷ 0 ∷ 0 ∷ 0 ∷ 0 ∷ 0 ∷ 0 ∷ 1 ∷ 0 ∷ 0 ∷ 0 ∷ 0 ∷ 0 ∷ 0 ∷
+    0 ∷ 0 ∷ 0 ∷ 0 ∷ 1 ∷ 0 ∷ 2 ∷ 65535 ∷ 0 ∷ 0 ∷ 1 ∷ 0 ∷ 10 ∷ 1 ∷ 1 ∷ 2 ∷ 2 ∷ 1 ∷ 0 ∷ 0 ∷ 2 ∷ 1 ∷ 0 ∷ 0 ∷ 2 ∷ 1 ∷ 0 ∷
+    0 ∷ 2 ∷ 1 ∷ 0 ∷ 0 ∷ 2 ∷ 1 ∷ 0 ∷ 0 ∷ 5 ∷ 0 ∷ 0 ∷ 0 ∷ 5 ∷ 0 ∷ 0 ∷ 0 ∷ 5 ∷ 0 ∷ 0 ∷ 0 ∷ 5 ∷ 0 ∷ 0 ∷ 0 ∷ 5 ∷ 0 ∷ 0 ∷ 0 ∷
+    []
 
 abbrev names-172 : List ℕ
 names-172 = joined (slotOf (115 ∷ []) ∷ slotOf (101 ∷ []) ∷ slotOf (42 ∷ []) ∷ [])
 
 example-172 : alike (played numbers-172 names-172 []) ((5 ∷ []) ∷ []) ≡ true
-unfolding everything joined historyShown queueShown shown playedIf played alike
+unfolding everything joined historyShown queueShown pendingShown shown playedIf played alike
 example-172 = refl
 
--- unclosed if with an else
+-- a fifth level in an else
 abbrev numbers-173 : List ℕ
-numbers-173 = 2 ∷ 1 ∷ 1 ∷ 2 ∷ 4 ∷ 3 ∷ 0 ∷ 65535 ∷ 65535 ∷ 0 ∷ 0 ∷ 0 ∷ 0 ∷ 0 ∷ 0 ∷ 0 ∷ 0 ∷ 1 ∷ 0 ∷ 0 ∷ 0 ∷ 0 ∷ 0 ∷ 0 ∷
-    0 ∷ 0 ∷ 0 ∷ 0 ∷ 1 ∷ 0 ∷ 2 ∷ 65535 ∷ 0 ∷ 0 ∷ 1 ∷ 0 ∷ 4 ∷ 1 ∷ 1 ∷ 2 ∷ 2 ∷ 1 ∷ 0 ∷ 0 ∷ 1 ∷ 7 ∷ 0 ∷ 0 ∷ 4 ∷ 0 ∷ 0 ∷ 0 ∷
-    1 ∷ 7 ∷ 0 ∷ 0 ∷ []
+numbers-173 = 2 ∷ 1 ∷ 1 ∷ 2 ∷ 11 ∷ 3 ∷ 0 ∷ 65535 ∷ 65535 ∷ 0 ∷ 0 ∷ 0 ∷ 0 ∷ 0 ∷ 0 ∷ 0 ∷ 0 ∷ 1 ∷ 0 ∷ 0 ∷ 0 ∷ 0 ∷ 0 ∷ 0 ∷
+    0 ∷ 0 ∷ 0 ∷ 0 ∷ 1 ∷ 0 ∷ 2 ∷ 65535 ∷ 0 ∷ 0 ∷ 1 ∷ 0 ∷ 11 ∷ 1 ∷ 1 ∷ 2 ∷ 2 ∷ 1 ∷ 0 ∷ 0 ∷ 4 ∷ 0 ∷ 0 ∷ 0 ∷ 2 ∷ 1 ∷ 0 ∷
+    0 ∷ 2 ∷ 1 ∷ 0 ∷ 0 ∷ 2 ∷ 1 ∷ 0 ∷ 0 ∷ 2 ∷ 1 ∷ 0 ∷ 0 ∷ 5 ∷ 0 ∷ 0 ∷ 0 ∷ 5 ∷ 0 ∷ 0 ∷ 0 ∷ 5 ∷ 0 ∷ 0 ∷ 0 ∷ 5 ∷ 0 ∷ 0 ∷ 0 ∷
+    5 ∷ 0 ∷ 0 ∷ 0 ∷ []
 
 abbrev names-173 : List ℕ
 names-173 = joined (slotOf (115 ∷ []) ∷ slotOf (101 ∷ []) ∷ slotOf (42 ∷ []) ∷ [])
 
 example-173 : alike (played numbers-173 names-173 []) ((5 ∷ []) ∷ []) ≡ true
-unfolding everything joined historyShown queueShown shown playedIf played alike
+unfolding everything joined historyShown queueShown pendingShown shown playedIf played alike
 example-173 = refl
 
--- unclosed if around a closed one
+-- six levels
 abbrev numbers-174 : List ℕ
-numbers-174 = 2 ∷ 1 ∷ 1 ∷ 2 ∷ 4 ∷ 3 ∷ 0 ∷ 65535 ∷ 65535 ∷ 0 ∷ 0 ∷ 0 ∷ 0 ∷ 0 ∷ 0 ∷ 0 ∷ 0 ∷ 1 ∷ 0 ∷ 0 ∷ 0 ∷ 0 ∷ 0 ∷ 0 ∷
-    0 ∷ 0 ∷ 0 ∷ 0 ∷ 1 ∷ 0 ∷ 2 ∷ 65535 ∷ 0 ∷ 0 ∷ 1 ∷ 0 ∷ 4 ∷ 1 ∷ 1 ∷ 2 ∷ 2 ∷ 1 ∷ 0 ∷ 0 ∷ 2 ∷ 1 ∷ 0 ∷ 0 ∷ 1 ∷ 7 ∷ 0 ∷ 0 ∷
-    5 ∷ 0 ∷ 0 ∷ 0 ∷ []
+numbers-174 = 2 ∷ 1 ∷ 1 ∷ 2 ∷ 12 ∷ 3 ∷ 0 ∷ 65535 ∷ 65535 ∷ 0 ∷ 0 ∷ 0 ∷ 0 ∷ 0 ∷ 0 ∷ 0 ∷ 0 ∷ 1 ∷ 0 ∷ 0 ∷ 0 ∷ 0 ∷ 0 ∷ 0 ∷
+    0 ∷ 0 ∷ 0 ∷ 0 ∷ 1 ∷ 0 ∷ 2 ∷ 65535 ∷ 0 ∷ 0 ∷ 1 ∷ 0 ∷ 12 ∷ 1 ∷ 1 ∷ 2 ∷ 2 ∷ 1 ∷ 0 ∷ 0 ∷ 2 ∷ 1 ∷ 0 ∷ 0 ∷ 2 ∷ 1 ∷ 0 ∷
+    0 ∷ 2 ∷ 1 ∷ 0 ∷ 0 ∷ 2 ∷ 1 ∷ 0 ∷ 0 ∷ 2 ∷ 1 ∷ 0 ∷ 0 ∷ 5 ∷ 0 ∷ 0 ∷ 0 ∷ 5 ∷ 0 ∷ 0 ∷ 0 ∷ 5 ∷ 0 ∷ 0 ∷ 0 ∷ 5 ∷ 0 ∷ 0 ∷ 0 ∷
+    5 ∷ 0 ∷ 0 ∷ 0 ∷ 5 ∷ 0 ∷ 0 ∷ 0 ∷ []
 
 abbrev names-174 : List ℕ
 names-174 = joined (slotOf (115 ∷ []) ∷ slotOf (101 ∷ []) ∷ slotOf (42 ∷ []) ∷ [])
 
 example-174 : alike (played numbers-174 names-174 []) ((5 ∷ []) ∷ []) ≡ true
-unfolding everything joined historyShown queueShown shown playedIf played alike
+unfolding everything joined historyShown queueShown pendingShown shown playedIf played alike
 example-174 = refl
 
--- unclosed if behind a closed one
-abbrev numbers-175 : List ℕ
-numbers-175 = 2 ∷ 1 ∷ 1 ∷ 2 ∷ 3 ∷ 3 ∷ 0 ∷ 65535 ∷ 65535 ∷ 0 ∷ 0 ∷ 0 ∷ 0 ∷ 0 ∷ 0 ∷ 0 ∷ 0 ∷ 1 ∷ 0 ∷ 0 ∷ 0 ∷ 0 ∷ 0 ∷ 0 ∷
-    0 ∷ 0 ∷ 0 ∷ 0 ∷ 1 ∷ 0 ∷ 2 ∷ 65535 ∷ 0 ∷ 0 ∷ 1 ∷ 0 ∷ 3 ∷ 1 ∷ 1 ∷ 2 ∷ 2 ∷ 1 ∷ 0 ∷ 0 ∷ 5 ∷ 0 ∷ 0 ∷ 0 ∷ 2 ∷ 1 ∷ 0 ∷ 0 ∷
-    []
-
-abbrev names-175 : List ℕ
-names-175 = joined (slotOf (115 ∷ []) ∷ slotOf (101 ∷ []) ∷ slotOf (42 ∷ []) ∷ [])
-
-example-175 : alike (played numbers-175 names-175 []) ((5 ∷ []) ∷ []) ≡ true
-unfolding everything joined historyShown queueShown shown playedIf played alike
-example-175 = refl
-
--- a fifth level
-abbrev numbers-176 : List ℕ
-numbers-176 = 2 ∷ 1 ∷ 1 ∷ 2 ∷ 10 ∷ 3 ∷ 0 ∷ 65535 ∷ 65535 ∷ 0 ∷ 0 ∷ 0 ∷ 0 ∷ 0 ∷ 0 ∷ 0 ∷ 0 ∷ 1 ∷ 0 ∷ 0 ∷ 0 ∷ 0 ∷ 0 ∷ 0 ∷
-    0 ∷ 0 ∷ 0 ∷ 0 ∷ 1 ∷ 0 ∷ 2 ∷ 65535 ∷ 0 ∷ 0 ∷ 1 ∷ 0 ∷ 10 ∷ 1 ∷ 1 ∷ 2 ∷ 2 ∷ 1 ∷ 0 ∷ 0 ∷ 2 ∷ 1 ∷ 0 ∷ 0 ∷ 2 ∷ 1 ∷ 0 ∷
-    0 ∷ 2 ∷ 1 ∷ 0 ∷ 0 ∷ 2 ∷ 1 ∷ 0 ∷ 0 ∷ 5 ∷ 0 ∷ 0 ∷ 0 ∷ 5 ∷ 0 ∷ 0 ∷ 0 ∷ 5 ∷ 0 ∷ 0 ∷ 0 ∷ 5 ∷ 0 ∷ 0 ∷ 0 ∷ 5 ∷ 0 ∷ 0 ∷ 0 ∷
-    []
-
-abbrev names-176 : List ℕ
-names-176 = joined (slotOf (115 ∷ []) ∷ slotOf (101 ∷ []) ∷ slotOf (42 ∷ []) ∷ [])
-
-example-176 : alike (played numbers-176 names-176 []) ((5 ∷ []) ∷ []) ≡ true
-unfolding everything joined historyShown queueShown shown playedIf played alike
-example-176 = refl
-
--- a fifth level in an else
-abbrev numbers-177 : List ℕ
-numbers-177 = 2 ∷ 1 ∷ 1 ∷ 2 ∷ 11 ∷ 3 ∷ 0 ∷ 65535 ∷ 65535 ∷ 0 ∷ 0 ∷ 0 ∷ 0 ∷ 0 ∷ 0 ∷ 0 ∷ 0 ∷ 1 ∷ 0 ∷ 0 ∷ 0 ∷ 0 ∷ 0 ∷ 0 ∷
-    0 ∷ 0 ∷ 0 ∷ 0 ∷ 1 ∷ 0 ∷ 2 ∷ 65535 ∷ 0 ∷ 0 ∷ 1 ∷ 0 ∷ 11 ∷ 1 ∷ 1 ∷ 2 ∷ 2 ∷ 1 ∷ 0 ∷ 0 ∷ 4 ∷ 0 ∷ 0 ∷ 0 ∷ 2 ∷ 1 ∷ 0 ∷
-    0 ∷ 2 ∷ 1 ∷ 0 ∷ 0 ∷ 2 ∷ 1 ∷ 0 ∷ 0 ∷ 2 ∷ 1 ∷ 0 ∷ 0 ∷ 5 ∷ 0 ∷ 0 ∷ 0 ∷ 5 ∷ 0 ∷ 0 ∷ 0 ∷ 5 ∷ 0 ∷ 0 ∷ 0 ∷ 5 ∷ 0 ∷ 0 ∷ 0 ∷
-    5 ∷ 0 ∷ 0 ∷ 0 ∷ []
-
-abbrev names-177 : List ℕ
-names-177 = joined (slotOf (115 ∷ []) ∷ slotOf (101 ∷ []) ∷ slotOf (42 ∷ []) ∷ [])
-
-example-177 : alike (played numbers-177 names-177 []) ((5 ∷ []) ∷ []) ≡ true
-unfolding everything joined historyShown queueShown shown playedIf played alike
-example-177 = refl
-
--- six levels
-abbrev numbers-178 : List ℕ
-numbers-178 = 2 ∷ 1 ∷ 1 ∷ 2 ∷ 12 ∷ 3 ∷ 0 ∷ 65535 ∷ 65535 ∷ 0 ∷ 0 ∷ 0 ∷ 0 ∷ 0 ∷ 0 ∷ 0 ∷ 0 ∷ 1 ∷ 0 ∷ 0 ∷ 0 ∷ 0 ∷ 0 ∷ 0 ∷
-    0 ∷ 0 ∷ 0 ∷ 0 ∷ 1 ∷ 0 ∷ 2 ∷ 65535 ∷ 0 ∷ 0 ∷ 1 ∷ 0 ∷ 12 ∷ 1 ∷ 1 ∷ 2 ∷ 2 ∷ 1 ∷ 0 ∷ 0 ∷ 2 ∷ 1 ∷ 0 ∷ 0 ∷ 2 ∷ 1 ∷ 0 ∷
-    0 ∷ 2 ∷ 1 ∷ 0 ∷ 0 ∷ 2 ∷ 1 ∷ 0 ∷ 0 ∷ 2 ∷ 1 ∷ 0 ∷ 0 ∷ 5 ∷ 0 ∷ 0 ∷ 0 ∷ 5 ∷ 0 ∷ 0 ∷ 0 ∷ 5 ∷ 0 ∷ 0 ∷ 0 ∷ 5 ∷ 0 ∷ 0 ∷ 0 ∷
-    5 ∷ 0 ∷ 0 ∷ 0 ∷ 5 ∷ 0 ∷ 0 ∷ 0 ∷ []
-
-abbrev names-178 : List ℕ
-names-178 = joined (slotOf (115 ∷ []) ∷ slotOf (101 ∷ []) ∷ slotOf (42 ∷ []) ∷ [])
-
-example-178 : alike (played numbers-178 names-178 []) ((5 ∷ []) ∷ []) ≡ true
-unfolding everything joined historyShown queueShown shown playedIf played alike
-example-178 = refl
-
 -- thirty-three actions with an if
-abbrev numbers-179 : List ℕ
-numbers-179 = 2 ∷ 1 ∷ 1 ∷ 2 ∷ 33 ∷ 3 ∷ 0 ∷ 65535 ∷ 65535 ∷ 0 ∷ 0 ∷ 0 ∷ 0 ∷ 0 ∷ 0 ∷ 0 ∷ 0 ∷ 1 ∷ 0 ∷ 0 ∷ 0 ∷ 0 ∷ 0 ∷ 0 ∷
+abbrev numbers-175 : List ℕ
+numbers-175 = 2 ∷ 1 ∷ 1 ∷ 2 ∷ 33 ∷ 3 ∷ 0 ∷ 65535 ∷ 65535 ∷ 0 ∷ 0 ∷ 0 ∷ 0 ∷ 0 ∷ 0 ∷ 0 ∷ 0 ∷ 1 ∷ 0 ∷ 0 ∷ 0 ∷ 0 ∷ 0 ∷ 0 ∷
     0 ∷ 0 ∷ 0 ∷ 0 ∷ 1 ∷ 0 ∷ 2 ∷ 65535 ∷ 0 ∷ 0 ∷ 1 ∷ 0 ∷ 33 ∷ 1 ∷ 1 ∷ 2 ∷ 2 ∷ 1 ∷ 0 ∷ 0 ∷ 1 ∷ 7 ∷ 0 ∷ 0 ∷ 1 ∷ 7 ∷ 0 ∷
     0 ∷ 1 ∷ 7 ∷ 0 ∷ 0 ∷ 1 ∷ 7 ∷ 0 ∷ 0 ∷ 1 ∷ 7 ∷ 0 ∷ 0 ∷ 1 ∷ 7 ∷ 0 ∷ 0 ∷ 1 ∷ 7 ∷ 0 ∷ 0 ∷ 1 ∷ 7 ∷ 0 ∷ 0 ∷ 1 ∷ 7 ∷ 0 ∷ 0 ∷
     1 ∷ 7 ∷ 0 ∷ 0 ∷ 1 ∷ 7 ∷ 0 ∷ 0 ∷ 1 ∷ 7 ∷ 0 ∷ 0 ∷ 1 ∷ 7 ∷ 0 ∷ 0 ∷ 1 ∷ 7 ∷ 0 ∷ 0 ∷ 1 ∷ 7 ∷ 0 ∷ 0 ∷ 1 ∷ 7 ∷ 0 ∷ 0 ∷ 1 ∷
@@ -2726,207 +2679,556 @@ numbers-179 = 2 ∷ 1 ∷ 1 ∷ 2 ∷ 33 ∷ 3 ∷ 0 ∷ 65535 ∷ 65535 ∷ 0 �
     0 ∷ 0 ∷ 1 ∷ 7 ∷ 0 ∷ 0 ∷ 1 ∷ 7 ∷ 0 ∷ 0 ∷ 1 ∷ 7 ∷ 0 ∷ 0 ∷ 1 ∷ 7 ∷ 0 ∷ 0 ∷ 1 ∷ 7 ∷ 0 ∷ 0 ∷ 1 ∷ 7 ∷ 0 ∷ 0 ∷ 1 ∷ 7 ∷ 0 ∷
     0 ∷ 5 ∷ 0 ∷ 0 ∷ 0 ∷ []
 
-abbrev names-179 : List ℕ
-names-179 = joined (slotOf (115 ∷ []) ∷ slotOf (101 ∷ []) ∷ slotOf (42 ∷ []) ∷ [])
+abbrev names-175 : List ℕ
+names-175 = joined (slotOf (115 ∷ []) ∷ slotOf (101 ∷ []) ∷ slotOf (42 ∷ []) ∷ [])
 
-example-179 : alike (played numbers-179 names-179 []) ((1 ∷ []) ∷ []) ≡ true
-unfolding everything joined historyShown queueShown shown playedIf played alike
-example-179 = refl
+example-175 : alike (played numbers-175 names-175 []) ((1 ∷ []) ∷ []) ≡ true
+unfolding everything joined historyShown queueShown pendingShown shown playedIf played alike
+example-175 = refl
 
 -- if In names the root
-abbrev numbers-180 : List ℕ
-numbers-180 = 2 ∷ 1 ∷ 1 ∷ 2 ∷ 2 ∷ 3 ∷ 0 ∷ 65535 ∷ 65535 ∷ 0 ∷ 0 ∷ 0 ∷ 0 ∷ 0 ∷ 0 ∷ 0 ∷ 0 ∷ 1 ∷ 0 ∷ 0 ∷ 0 ∷ 0 ∷ 0 ∷ 0 ∷
+abbrev numbers-176 : List ℕ
+numbers-176 = 2 ∷ 1 ∷ 1 ∷ 2 ∷ 2 ∷ 3 ∷ 0 ∷ 65535 ∷ 65535 ∷ 0 ∷ 0 ∷ 0 ∷ 0 ∷ 0 ∷ 0 ∷ 0 ∷ 0 ∷ 1 ∷ 0 ∷ 0 ∷ 0 ∷ 0 ∷ 0 ∷ 0 ∷
     0 ∷ 0 ∷ 0 ∷ 0 ∷ 1 ∷ 0 ∷ 2 ∷ 65535 ∷ 0 ∷ 0 ∷ 1 ∷ 0 ∷ 2 ∷ 1 ∷ 1 ∷ 2 ∷ 2 ∷ 0 ∷ 0 ∷ 0 ∷ 5 ∷ 0 ∷ 0 ∷ 0 ∷ []
+
+abbrev names-176 : List ℕ
+names-176 = joined (slotOf (115 ∷ []) ∷ slotOf (101 ∷ []) ∷ slotOf (42 ∷ []) ∷ [])
+
+example-176 : alike (played numbers-176 names-176 []) ((5 ∷ []) ∷ []) ≡ true
+unfolding everything joined historyShown queueShown pendingShown shown playedIf played alike
+example-176 = refl
+
+-- elseif In names the root
+abbrev numbers-177 : List ℕ
+numbers-177 = 2 ∷ 1 ∷ 1 ∷ 2 ∷ 3 ∷ 3 ∷ 0 ∷ 65535 ∷ 65535 ∷ 0 ∷ 0 ∷ 0 ∷ 0 ∷ 0 ∷ 0 ∷ 0 ∷ 0 ∷ 1 ∷ 0 ∷ 0 ∷ 0 ∷ 0 ∷ 0 ∷ 0 ∷
+    0 ∷ 0 ∷ 0 ∷ 0 ∷ 1 ∷ 0 ∷ 2 ∷ 65535 ∷ 0 ∷ 0 ∷ 1 ∷ 0 ∷ 3 ∷ 1 ∷ 1 ∷ 2 ∷ 2 ∷ 1 ∷ 0 ∷ 0 ∷ 3 ∷ 0 ∷ 0 ∷ 0 ∷ 5 ∷ 0 ∷ 0 ∷ 0 ∷
+    []
+
+abbrev names-177 : List ℕ
+names-177 = joined (slotOf (115 ∷ []) ∷ slotOf (101 ∷ []) ∷ slotOf (42 ∷ []) ∷ [])
+
+example-177 : alike (played numbers-177 names-177 []) ((5 ∷ []) ∷ []) ≡ true
+unfolding everything joined historyShown queueShown pendingShown shown playedIf played alike
+example-177 = refl
+
+-- if In names a history
+abbrev numbers-178 : List ℕ
+numbers-178 = 6 ∷ 1 ∷ 3 ∷ 1 ∷ 3 ∷ 6 ∷ 0 ∷ 65535 ∷ 65535 ∷ 0 ∷ 0 ∷ 0 ∷ 0 ∷ 0 ∷ 0 ∷ 0 ∷ 0 ∷ 1 ∷ 0 ∷ 0 ∷ 0 ∷ 3 ∷ 0 ∷ 0 ∷
+    0 ∷ 0 ∷ 0 ∷ 0 ∷ 1 ∷ 1 ∷ 1 ∷ 0 ∷ 0 ∷ 0 ∷ 0 ∷ 0 ∷ 0 ∷ 0 ∷ 0 ∷ 1 ∷ 1 ∷ 2 ∷ 0 ∷ 0 ∷ 0 ∷ 0 ∷ 0 ∷ 0 ∷ 0 ∷ 0 ∷ 4 ∷ 1 ∷ 3 ∷
+    0 ∷ 0 ∷ 0 ∷ 0 ∷ 0 ∷ 1 ∷ 0 ∷ 0 ∷ 5 ∷ 1 ∷ 4 ∷ 0 ∷ 0 ∷ 0 ∷ 0 ∷ 1 ∷ 1 ∷ 0 ∷ 0 ∷ 2 ∷ 0 ∷ 1 ∷ 65535 ∷ 0 ∷ 2 ∷ 1 ∷ 0 ∷ 0 ∷
+    2 ∷ 3 ∷ 4 ∷ 5 ∷ 2 ∷ 5 ∷ 0 ∷ 0 ∷ 1 ∷ 7 ∷ 0 ∷ 0 ∷ 5 ∷ 0 ∷ 0 ∷ 0 ∷ []
+
+abbrev names-178 : List ℕ
+names-178 = joined (slotOf (115 ∷ []) ∷ slotOf (97 ∷ []) ∷ slotOf (98 ∷ []) ∷ slotOf (104 ∷ []) ∷ slotOf (100 ∷ []) ∷
+    slotOf (101 ∷ []) ∷ [])
+
+example-178 : alike (played numbers-178 names-178 []) ((5 ∷ []) ∷ []) ≡ true
+unfolding everything joined historyShown queueShown pendingShown shown playedIf played alike
+example-178 = refl
+
+-- elseif In names a history
+abbrev numbers-179 : List ℕ
+numbers-179 = 6 ∷ 1 ∷ 3 ∷ 1 ∷ 4 ∷ 6 ∷ 0 ∷ 65535 ∷ 65535 ∷ 0 ∷ 0 ∷ 0 ∷ 0 ∷ 0 ∷ 0 ∷ 0 ∷ 0 ∷ 1 ∷ 0 ∷ 0 ∷ 0 ∷ 4 ∷ 0 ∷ 0 ∷
+    0 ∷ 0 ∷ 0 ∷ 0 ∷ 1 ∷ 1 ∷ 1 ∷ 0 ∷ 0 ∷ 0 ∷ 0 ∷ 0 ∷ 0 ∷ 0 ∷ 0 ∷ 1 ∷ 1 ∷ 2 ∷ 0 ∷ 0 ∷ 0 ∷ 0 ∷ 0 ∷ 0 ∷ 0 ∷ 0 ∷ 4 ∷ 1 ∷ 3 ∷
+    0 ∷ 0 ∷ 0 ∷ 0 ∷ 0 ∷ 1 ∷ 0 ∷ 0 ∷ 5 ∷ 1 ∷ 4 ∷ 0 ∷ 0 ∷ 0 ∷ 0 ∷ 1 ∷ 1 ∷ 0 ∷ 0 ∷ 2 ∷ 0 ∷ 1 ∷ 65535 ∷ 0 ∷ 2 ∷ 1 ∷ 0 ∷ 0 ∷
+    2 ∷ 3 ∷ 4 ∷ 5 ∷ 2 ∷ 1 ∷ 0 ∷ 0 ∷ 1 ∷ 7 ∷ 0 ∷ 0 ∷ 3 ∷ 5 ∷ 0 ∷ 0 ∷ 5 ∷ 0 ∷ 0 ∷ 0 ∷ []
+
+abbrev names-179 : List ℕ
+names-179 = joined (slotOf (115 ∷ []) ∷ slotOf (97 ∷ []) ∷ slotOf (98 ∷ []) ∷ slotOf (104 ∷ []) ∷ slotOf (100 ∷ []) ∷
+    slotOf (101 ∷ []) ∷ [])
+
+example-179 : alike (played numbers-179 names-179 []) ((5 ∷ []) ∷ []) ≡ true
+unfolding everything joined historyShown queueShown pendingShown shown playedIf played alike
+example-179 = refl
+
+-- if of a row past the rows
+abbrev numbers-180 : List ℕ
+numbers-180 = 2 ∷ 1 ∷ 1 ∷ 2 ∷ 3 ∷ 3 ∷ 0 ∷ 65535 ∷ 65535 ∷ 0 ∷ 0 ∷ 0 ∷ 0 ∷ 0 ∷ 0 ∷ 0 ∷ 0 ∷ 1 ∷ 0 ∷ 0 ∷ 0 ∷ 0 ∷ 0 ∷ 0 ∷
+    0 ∷ 0 ∷ 0 ∷ 0 ∷ 1 ∷ 0 ∷ 2 ∷ 65535 ∷ 0 ∷ 0 ∷ 1 ∷ 0 ∷ 2 ∷ 1 ∷ 1 ∷ 2 ∷ 0 ∷ 1 ∷ 0 ∷ 0 ∷ 1 ∷ 1 ∷ 0 ∷ 0 ∷ 2 ∷ 2 ∷ 0 ∷ 0 ∷
+    []
 
 abbrev names-180 : List ℕ
 names-180 = joined (slotOf (115 ∷ []) ∷ slotOf (101 ∷ []) ∷ slotOf (42 ∷ []) ∷ [])
 
-example-180 : alike (played numbers-180 names-180 []) ((5 ∷ []) ∷ []) ≡ true
-unfolding everything joined historyShown queueShown shown playedIf played alike
+example-180 : alike (played numbers-180 names-180 []) ((1 ∷ []) ∷ []) ≡ true
+unfolding everything joined historyShown queueShown pendingShown shown playedIf played alike
 example-180 = refl
 
--- elseif In names the root
+-- elseif of a row past the rows
 abbrev numbers-181 : List ℕ
 numbers-181 = 2 ∷ 1 ∷ 1 ∷ 2 ∷ 3 ∷ 3 ∷ 0 ∷ 65535 ∷ 65535 ∷ 0 ∷ 0 ∷ 0 ∷ 0 ∷ 0 ∷ 0 ∷ 0 ∷ 0 ∷ 1 ∷ 0 ∷ 0 ∷ 0 ∷ 0 ∷ 0 ∷ 0 ∷
-    0 ∷ 0 ∷ 0 ∷ 0 ∷ 1 ∷ 0 ∷ 2 ∷ 65535 ∷ 0 ∷ 0 ∷ 1 ∷ 0 ∷ 3 ∷ 1 ∷ 1 ∷ 2 ∷ 2 ∷ 1 ∷ 0 ∷ 0 ∷ 3 ∷ 0 ∷ 0 ∷ 0 ∷ 5 ∷ 0 ∷ 0 ∷ 0 ∷
+    0 ∷ 0 ∷ 0 ∷ 0 ∷ 1 ∷ 0 ∷ 2 ∷ 65535 ∷ 0 ∷ 0 ∷ 1 ∷ 0 ∷ 2 ∷ 1 ∷ 1 ∷ 2 ∷ 0 ∷ 1 ∷ 0 ∷ 0 ∷ 1 ∷ 1 ∷ 0 ∷ 0 ∷ 3 ∷ 2 ∷ 0 ∷ 0 ∷
     []
 
 abbrev names-181 : List ℕ
 names-181 = joined (slotOf (115 ∷ []) ∷ slotOf (101 ∷ []) ∷ slotOf (42 ∷ []) ∷ [])
 
-example-181 : alike (played numbers-181 names-181 []) ((5 ∷ []) ∷ []) ≡ true
-unfolding everything joined historyShown queueShown shown playedIf played alike
+example-181 : alike (played numbers-181 names-181 []) ((1 ∷ []) ∷ []) ≡ true
+unfolding everything joined historyShown queueShown pendingShown shown playedIf played alike
 example-181 = refl
 
--- if In names a history
+-- if of none
 abbrev numbers-182 : List ℕ
-numbers-182 = 6 ∷ 1 ∷ 3 ∷ 1 ∷ 3 ∷ 6 ∷ 0 ∷ 65535 ∷ 65535 ∷ 0 ∷ 0 ∷ 0 ∷ 0 ∷ 0 ∷ 0 ∷ 0 ∷ 0 ∷ 1 ∷ 0 ∷ 0 ∷ 0 ∷ 3 ∷ 0 ∷ 0 ∷
-    0 ∷ 0 ∷ 0 ∷ 0 ∷ 1 ∷ 1 ∷ 1 ∷ 0 ∷ 0 ∷ 0 ∷ 0 ∷ 0 ∷ 0 ∷ 0 ∷ 0 ∷ 1 ∷ 1 ∷ 2 ∷ 0 ∷ 0 ∷ 0 ∷ 0 ∷ 0 ∷ 0 ∷ 0 ∷ 0 ∷ 4 ∷ 1 ∷ 3 ∷
-    0 ∷ 0 ∷ 0 ∷ 0 ∷ 0 ∷ 1 ∷ 0 ∷ 0 ∷ 5 ∷ 1 ∷ 4 ∷ 0 ∷ 0 ∷ 0 ∷ 0 ∷ 1 ∷ 1 ∷ 0 ∷ 0 ∷ 2 ∷ 0 ∷ 1 ∷ 65535 ∷ 0 ∷ 2 ∷ 1 ∷ 0 ∷ 0 ∷
-    2 ∷ 3 ∷ 4 ∷ 5 ∷ 2 ∷ 5 ∷ 0 ∷ 0 ∷ 1 ∷ 7 ∷ 0 ∷ 0 ∷ 5 ∷ 0 ∷ 0 ∷ 0 ∷ []
+numbers-182 = 2 ∷ 1 ∷ 1 ∷ 2 ∷ 3 ∷ 3 ∷ 0 ∷ 65535 ∷ 65535 ∷ 0 ∷ 0 ∷ 0 ∷ 0 ∷ 0 ∷ 0 ∷ 0 ∷ 0 ∷ 1 ∷ 0 ∷ 0 ∷ 0 ∷ 0 ∷ 0 ∷ 0 ∷
+    0 ∷ 0 ∷ 0 ∷ 0 ∷ 1 ∷ 0 ∷ 2 ∷ 65535 ∷ 0 ∷ 0 ∷ 1 ∷ 0 ∷ 2 ∷ 1 ∷ 1 ∷ 2 ∷ 0 ∷ 1 ∷ 0 ∷ 0 ∷ 1 ∷ 1 ∷ 0 ∷ 0 ∷ 2 ∷ 65535 ∷ 0 ∷
+    0 ∷ []
 
 abbrev names-182 : List ℕ
-names-182 = joined (slotOf (115 ∷ []) ∷ slotOf (97 ∷ []) ∷ slotOf (98 ∷ []) ∷ slotOf (104 ∷ []) ∷ slotOf (100 ∷ []) ∷
-    slotOf (101 ∷ []) ∷ [])
+names-182 = joined (slotOf (115 ∷ []) ∷ slotOf (101 ∷ []) ∷ slotOf (42 ∷ []) ∷ [])
 
-example-182 : alike (played numbers-182 names-182 []) ((5 ∷ []) ∷ []) ≡ true
-unfolding everything joined historyShown queueShown shown playedIf played alike
+example-182 : alike (played numbers-182 names-182 []) ((1 ∷ []) ∷ []) ≡ true
+unfolding everything joined historyShown queueShown pendingShown shown playedIf played alike
 example-182 = refl
 
--- elseif In names a history
+-- elseif of a huge row
 abbrev numbers-183 : List ℕ
-numbers-183 = 6 ∷ 1 ∷ 3 ∷ 1 ∷ 4 ∷ 6 ∷ 0 ∷ 65535 ∷ 65535 ∷ 0 ∷ 0 ∷ 0 ∷ 0 ∷ 0 ∷ 0 ∷ 0 ∷ 0 ∷ 1 ∷ 0 ∷ 0 ∷ 0 ∷ 4 ∷ 0 ∷ 0 ∷
-    0 ∷ 0 ∷ 0 ∷ 0 ∷ 1 ∷ 1 ∷ 1 ∷ 0 ∷ 0 ∷ 0 ∷ 0 ∷ 0 ∷ 0 ∷ 0 ∷ 0 ∷ 1 ∷ 1 ∷ 2 ∷ 0 ∷ 0 ∷ 0 ∷ 0 ∷ 0 ∷ 0 ∷ 0 ∷ 0 ∷ 4 ∷ 1 ∷ 3 ∷
-    0 ∷ 0 ∷ 0 ∷ 0 ∷ 0 ∷ 1 ∷ 0 ∷ 0 ∷ 5 ∷ 1 ∷ 4 ∷ 0 ∷ 0 ∷ 0 ∷ 0 ∷ 1 ∷ 1 ∷ 0 ∷ 0 ∷ 2 ∷ 0 ∷ 1 ∷ 65535 ∷ 0 ∷ 2 ∷ 1 ∷ 0 ∷ 0 ∷
-    2 ∷ 3 ∷ 4 ∷ 5 ∷ 2 ∷ 1 ∷ 0 ∷ 0 ∷ 1 ∷ 7 ∷ 0 ∷ 0 ∷ 3 ∷ 5 ∷ 0 ∷ 0 ∷ 5 ∷ 0 ∷ 0 ∷ 0 ∷ []
+numbers-183 = 2 ∷ 1 ∷ 1 ∷ 2 ∷ 3 ∷ 3 ∷ 0 ∷ 65535 ∷ 65535 ∷ 0 ∷ 0 ∷ 0 ∷ 0 ∷ 0 ∷ 0 ∷ 0 ∷ 0 ∷ 1 ∷ 0 ∷ 0 ∷ 0 ∷ 0 ∷ 0 ∷ 0 ∷
+    0 ∷ 0 ∷ 0 ∷ 0 ∷ 1 ∷ 0 ∷ 2 ∷ 65535 ∷ 0 ∷ 0 ∷ 1 ∷ 0 ∷ 2 ∷ 1 ∷ 1 ∷ 2 ∷ 0 ∷ 1 ∷ 0 ∷ 0 ∷ 1 ∷ 1 ∷ 0 ∷ 0 ∷ 3 ∷
+    18446744073709551615 ∷ 0 ∷ 0 ∷ []
 
 abbrev names-183 : List ℕ
-names-183 = joined (slotOf (115 ∷ []) ∷ slotOf (97 ∷ []) ∷ slotOf (98 ∷ []) ∷ slotOf (104 ∷ []) ∷ slotOf (100 ∷ []) ∷
-    slotOf (101 ∷ []) ∷ [])
+names-183 = joined (slotOf (115 ∷ []) ∷ slotOf (101 ∷ []) ∷ slotOf (42 ∷ []) ∷ [])
 
-example-183 : alike (played numbers-183 names-183 []) ((5 ∷ []) ∷ []) ≡ true
-unfolding everything joined historyShown queueShown shown playedIf played alike
+example-183 : alike (played numbers-183 names-183 []) ((1 ∷ []) ∷ []) ≡ true
+unfolding everything joined historyShown queueShown pendingShown shown playedIf played alike
 example-183 = refl
 
--- if of a row past the rows
+-- else of a row
 abbrev numbers-184 : List ℕ
 numbers-184 = 2 ∷ 1 ∷ 1 ∷ 2 ∷ 3 ∷ 3 ∷ 0 ∷ 65535 ∷ 65535 ∷ 0 ∷ 0 ∷ 0 ∷ 0 ∷ 0 ∷ 0 ∷ 0 ∷ 0 ∷ 1 ∷ 0 ∷ 0 ∷ 0 ∷ 0 ∷ 0 ∷ 0 ∷
-    0 ∷ 0 ∷ 0 ∷ 0 ∷ 1 ∷ 0 ∷ 2 ∷ 65535 ∷ 0 ∷ 0 ∷ 1 ∷ 0 ∷ 2 ∷ 1 ∷ 1 ∷ 2 ∷ 0 ∷ 1 ∷ 0 ∷ 0 ∷ 1 ∷ 1 ∷ 0 ∷ 0 ∷ 2 ∷ 2 ∷ 0 ∷ 0 ∷
+    0 ∷ 0 ∷ 0 ∷ 0 ∷ 1 ∷ 0 ∷ 2 ∷ 65535 ∷ 0 ∷ 0 ∷ 1 ∷ 0 ∷ 2 ∷ 1 ∷ 1 ∷ 2 ∷ 0 ∷ 1 ∷ 0 ∷ 0 ∷ 1 ∷ 1 ∷ 0 ∷ 0 ∷ 4 ∷ 1 ∷ 0 ∷ 0 ∷
     []
 
 abbrev names-184 : List ℕ
 names-184 = joined (slotOf (115 ∷ []) ∷ slotOf (101 ∷ []) ∷ slotOf (42 ∷ []) ∷ [])
 
 example-184 : alike (played numbers-184 names-184 []) ((1 ∷ []) ∷ []) ≡ true
-unfolding everything joined historyShown queueShown shown playedIf played alike
+unfolding everything joined historyShown queueShown pendingShown shown playedIf played alike
 example-184 = refl
 
--- elseif of a row past the rows
+-- else of none
 abbrev numbers-185 : List ℕ
 numbers-185 = 2 ∷ 1 ∷ 1 ∷ 2 ∷ 3 ∷ 3 ∷ 0 ∷ 65535 ∷ 65535 ∷ 0 ∷ 0 ∷ 0 ∷ 0 ∷ 0 ∷ 0 ∷ 0 ∷ 0 ∷ 1 ∷ 0 ∷ 0 ∷ 0 ∷ 0 ∷ 0 ∷ 0 ∷
-    0 ∷ 0 ∷ 0 ∷ 0 ∷ 1 ∷ 0 ∷ 2 ∷ 65535 ∷ 0 ∷ 0 ∷ 1 ∷ 0 ∷ 2 ∷ 1 ∷ 1 ∷ 2 ∷ 0 ∷ 1 ∷ 0 ∷ 0 ∷ 1 ∷ 1 ∷ 0 ∷ 0 ∷ 3 ∷ 2 ∷ 0 ∷ 0 ∷
-    []
+    0 ∷ 0 ∷ 0 ∷ 0 ∷ 1 ∷ 0 ∷ 2 ∷ 65535 ∷ 0 ∷ 0 ∷ 1 ∷ 0 ∷ 2 ∷ 1 ∷ 1 ∷ 2 ∷ 0 ∷ 1 ∷ 0 ∷ 0 ∷ 1 ∷ 1 ∷ 0 ∷ 0 ∷ 4 ∷ 65535 ∷ 0 ∷
+    0 ∷ []
 
 abbrev names-185 : List ℕ
 names-185 = joined (slotOf (115 ∷ []) ∷ slotOf (101 ∷ []) ∷ slotOf (42 ∷ []) ∷ [])
 
 example-185 : alike (played numbers-185 names-185 []) ((1 ∷ []) ∷ []) ≡ true
-unfolding everything joined historyShown queueShown shown playedIf played alike
+unfolding everything joined historyShown queueShown pendingShown shown playedIf played alike
 example-185 = refl
 
--- if of none
+-- end of a row
 abbrev numbers-186 : List ℕ
 numbers-186 = 2 ∷ 1 ∷ 1 ∷ 2 ∷ 3 ∷ 3 ∷ 0 ∷ 65535 ∷ 65535 ∷ 0 ∷ 0 ∷ 0 ∷ 0 ∷ 0 ∷ 0 ∷ 0 ∷ 0 ∷ 1 ∷ 0 ∷ 0 ∷ 0 ∷ 0 ∷ 0 ∷ 0 ∷
-    0 ∷ 0 ∷ 0 ∷ 0 ∷ 1 ∷ 0 ∷ 2 ∷ 65535 ∷ 0 ∷ 0 ∷ 1 ∷ 0 ∷ 2 ∷ 1 ∷ 1 ∷ 2 ∷ 0 ∷ 1 ∷ 0 ∷ 0 ∷ 1 ∷ 1 ∷ 0 ∷ 0 ∷ 2 ∷ 65535 ∷ 0 ∷
-    0 ∷ []
+    0 ∷ 0 ∷ 0 ∷ 0 ∷ 1 ∷ 0 ∷ 2 ∷ 65535 ∷ 0 ∷ 0 ∷ 1 ∷ 0 ∷ 2 ∷ 1 ∷ 1 ∷ 2 ∷ 0 ∷ 1 ∷ 0 ∷ 0 ∷ 1 ∷ 1 ∷ 0 ∷ 0 ∷ 5 ∷ 1 ∷ 0 ∷ 0 ∷
+    []
 
 abbrev names-186 : List ℕ
 names-186 = joined (slotOf (115 ∷ []) ∷ slotOf (101 ∷ []) ∷ slotOf (42 ∷ []) ∷ [])
 
 example-186 : alike (played numbers-186 names-186 []) ((1 ∷ []) ∷ []) ≡ true
-unfolding everything joined historyShown queueShown shown playedIf played alike
+unfolding everything joined historyShown queueShown pendingShown shown playedIf played alike
 example-186 = refl
 
--- elseif of a huge row
+-- if with a delay
 abbrev numbers-187 : List ℕ
 numbers-187 = 2 ∷ 1 ∷ 1 ∷ 2 ∷ 3 ∷ 3 ∷ 0 ∷ 65535 ∷ 65535 ∷ 0 ∷ 0 ∷ 0 ∷ 0 ∷ 0 ∷ 0 ∷ 0 ∷ 0 ∷ 1 ∷ 0 ∷ 0 ∷ 0 ∷ 0 ∷ 0 ∷ 0 ∷
-    0 ∷ 0 ∷ 0 ∷ 0 ∷ 1 ∷ 0 ∷ 2 ∷ 65535 ∷ 0 ∷ 0 ∷ 1 ∷ 0 ∷ 2 ∷ 1 ∷ 1 ∷ 2 ∷ 0 ∷ 1 ∷ 0 ∷ 0 ∷ 1 ∷ 1 ∷ 0 ∷ 0 ∷ 3 ∷
-    18446744073709551615 ∷ 0 ∷ 0 ∷ []
+    0 ∷ 0 ∷ 0 ∷ 0 ∷ 1 ∷ 0 ∷ 2 ∷ 65535 ∷ 0 ∷ 0 ∷ 1 ∷ 0 ∷ 2 ∷ 1 ∷ 1 ∷ 2 ∷ 0 ∷ 1 ∷ 0 ∷ 0 ∷ 1 ∷ 1 ∷ 0 ∷ 0 ∷ 2 ∷ 1 ∷ 1 ∷ 0 ∷
+    []
 
 abbrev names-187 : List ℕ
 names-187 = joined (slotOf (115 ∷ []) ∷ slotOf (101 ∷ []) ∷ slotOf (42 ∷ []) ∷ [])
 
 example-187 : alike (played numbers-187 names-187 []) ((1 ∷ []) ∷ []) ≡ true
-unfolding everything joined historyShown queueShown shown playedIf played alike
+unfolding everything joined historyShown queueShown pendingShown shown playedIf played alike
 example-187 = refl
 
--- else of a row
+-- elseif with a send id
 abbrev numbers-188 : List ℕ
 numbers-188 = 2 ∷ 1 ∷ 1 ∷ 2 ∷ 3 ∷ 3 ∷ 0 ∷ 65535 ∷ 65535 ∷ 0 ∷ 0 ∷ 0 ∷ 0 ∷ 0 ∷ 0 ∷ 0 ∷ 0 ∷ 1 ∷ 0 ∷ 0 ∷ 0 ∷ 0 ∷ 0 ∷ 0 ∷
-    0 ∷ 0 ∷ 0 ∷ 0 ∷ 1 ∷ 0 ∷ 2 ∷ 65535 ∷ 0 ∷ 0 ∷ 1 ∷ 0 ∷ 2 ∷ 1 ∷ 1 ∷ 2 ∷ 0 ∷ 1 ∷ 0 ∷ 0 ∷ 1 ∷ 1 ∷ 0 ∷ 0 ∷ 4 ∷ 1 ∷ 0 ∷ 0 ∷
+    0 ∷ 0 ∷ 0 ∷ 0 ∷ 1 ∷ 0 ∷ 2 ∷ 65535 ∷ 0 ∷ 0 ∷ 1 ∷ 0 ∷ 2 ∷ 1 ∷ 1 ∷ 2 ∷ 0 ∷ 1 ∷ 0 ∷ 0 ∷ 1 ∷ 1 ∷ 0 ∷ 0 ∷ 3 ∷ 1 ∷ 0 ∷ 1 ∷
     []
 
 abbrev names-188 : List ℕ
 names-188 = joined (slotOf (115 ∷ []) ∷ slotOf (101 ∷ []) ∷ slotOf (42 ∷ []) ∷ [])
 
 example-188 : alike (played numbers-188 names-188 []) ((1 ∷ []) ∷ []) ≡ true
-unfolding everything joined historyShown queueShown shown playedIf played alike
+unfolding everything joined historyShown queueShown pendingShown shown playedIf played alike
 example-188 = refl
 
--- else of none
+-- else with a delay
 abbrev numbers-189 : List ℕ
 numbers-189 = 2 ∷ 1 ∷ 1 ∷ 2 ∷ 3 ∷ 3 ∷ 0 ∷ 65535 ∷ 65535 ∷ 0 ∷ 0 ∷ 0 ∷ 0 ∷ 0 ∷ 0 ∷ 0 ∷ 0 ∷ 1 ∷ 0 ∷ 0 ∷ 0 ∷ 0 ∷ 0 ∷ 0 ∷
-    0 ∷ 0 ∷ 0 ∷ 0 ∷ 1 ∷ 0 ∷ 2 ∷ 65535 ∷ 0 ∷ 0 ∷ 1 ∷ 0 ∷ 2 ∷ 1 ∷ 1 ∷ 2 ∷ 0 ∷ 1 ∷ 0 ∷ 0 ∷ 1 ∷ 1 ∷ 0 ∷ 0 ∷ 4 ∷ 65535 ∷ 0 ∷
-    0 ∷ []
+    0 ∷ 0 ∷ 0 ∷ 0 ∷ 1 ∷ 0 ∷ 2 ∷ 65535 ∷ 0 ∷ 0 ∷ 1 ∷ 0 ∷ 2 ∷ 1 ∷ 1 ∷ 2 ∷ 0 ∷ 1 ∷ 0 ∷ 0 ∷ 1 ∷ 1 ∷ 0 ∷ 0 ∷ 4 ∷ 0 ∷ 1 ∷ 0 ∷
+    []
 
 abbrev names-189 : List ℕ
 names-189 = joined (slotOf (115 ∷ []) ∷ slotOf (101 ∷ []) ∷ slotOf (42 ∷ []) ∷ [])
 
 example-189 : alike (played numbers-189 names-189 []) ((1 ∷ []) ∷ []) ≡ true
-unfolding everything joined historyShown queueShown shown playedIf played alike
+unfolding everything joined historyShown queueShown pendingShown shown playedIf played alike
 example-189 = refl
 
--- end of a row
+-- end with a send id
 abbrev numbers-190 : List ℕ
 numbers-190 = 2 ∷ 1 ∷ 1 ∷ 2 ∷ 3 ∷ 3 ∷ 0 ∷ 65535 ∷ 65535 ∷ 0 ∷ 0 ∷ 0 ∷ 0 ∷ 0 ∷ 0 ∷ 0 ∷ 0 ∷ 1 ∷ 0 ∷ 0 ∷ 0 ∷ 0 ∷ 0 ∷ 0 ∷
-    0 ∷ 0 ∷ 0 ∷ 0 ∷ 1 ∷ 0 ∷ 2 ∷ 65535 ∷ 0 ∷ 0 ∷ 1 ∷ 0 ∷ 2 ∷ 1 ∷ 1 ∷ 2 ∷ 0 ∷ 1 ∷ 0 ∷ 0 ∷ 1 ∷ 1 ∷ 0 ∷ 0 ∷ 5 ∷ 1 ∷ 0 ∷ 0 ∷
-    []
+    0 ∷ 0 ∷ 0 ∷ 0 ∷ 1 ∷ 0 ∷ 2 ∷ 65535 ∷ 0 ∷ 0 ∷ 1 ∷ 0 ∷ 2 ∷ 1 ∷ 1 ∷ 2 ∷ 0 ∷ 1 ∷ 0 ∷ 0 ∷ 1 ∷ 1 ∷ 0 ∷ 0 ∷ 5 ∷ 0 ∷ 0 ∷
+    65535 ∷ []
 
 abbrev names-190 : List ℕ
 names-190 = joined (slotOf (115 ∷ []) ∷ slotOf (101 ∷ []) ∷ slotOf (42 ∷ []) ∷ [])
 
 example-190 : alike (played numbers-190 names-190 []) ((1 ∷ []) ∷ []) ≡ true
-unfolding everything joined historyShown queueShown shown playedIf played alike
+unfolding everything joined historyShown queueShown pendingShown shown playedIf played alike
 example-190 = refl
 
--- if with a delay
+-- send of an event past the slots
 abbrev numbers-191 : List ℕ
 numbers-191 = 2 ∷ 1 ∷ 1 ∷ 2 ∷ 3 ∷ 3 ∷ 0 ∷ 65535 ∷ 65535 ∷ 0 ∷ 0 ∷ 0 ∷ 0 ∷ 0 ∷ 0 ∷ 0 ∷ 0 ∷ 1 ∷ 0 ∷ 0 ∷ 0 ∷ 0 ∷ 0 ∷ 0 ∷
-    0 ∷ 0 ∷ 0 ∷ 0 ∷ 1 ∷ 0 ∷ 2 ∷ 65535 ∷ 0 ∷ 0 ∷ 1 ∷ 0 ∷ 2 ∷ 1 ∷ 1 ∷ 2 ∷ 0 ∷ 1 ∷ 0 ∷ 0 ∷ 1 ∷ 1 ∷ 0 ∷ 0 ∷ 2 ∷ 1 ∷ 1 ∷ 0 ∷
-    []
+    0 ∷ 0 ∷ 0 ∷ 0 ∷ 1 ∷ 0 ∷ 2 ∷ 65535 ∷ 0 ∷ 0 ∷ 1 ∷ 0 ∷ 2 ∷ 1 ∷ 1 ∷ 2 ∷ 0 ∷ 1 ∷ 0 ∷ 0 ∷ 1 ∷ 1 ∷ 0 ∷ 0 ∷ 6 ∷ 3 ∷ 0 ∷
+    65535 ∷ []
 
 abbrev names-191 : List ℕ
 names-191 = joined (slotOf (115 ∷ []) ∷ slotOf (101 ∷ []) ∷ slotOf (42 ∷ []) ∷ [])
 
 example-191 : alike (played numbers-191 names-191 []) ((1 ∷ []) ∷ []) ≡ true
-unfolding everything joined historyShown queueShown shown playedIf played alike
+unfolding everything joined historyShown queueShown pendingShown shown playedIf played alike
 example-191 = refl
 
--- elseif with a send id
+-- send of no event
 abbrev numbers-192 : List ℕ
 numbers-192 = 2 ∷ 1 ∷ 1 ∷ 2 ∷ 3 ∷ 3 ∷ 0 ∷ 65535 ∷ 65535 ∷ 0 ∷ 0 ∷ 0 ∷ 0 ∷ 0 ∷ 0 ∷ 0 ∷ 0 ∷ 1 ∷ 0 ∷ 0 ∷ 0 ∷ 0 ∷ 0 ∷ 0 ∷
-    0 ∷ 0 ∷ 0 ∷ 0 ∷ 1 ∷ 0 ∷ 2 ∷ 65535 ∷ 0 ∷ 0 ∷ 1 ∷ 0 ∷ 2 ∷ 1 ∷ 1 ∷ 2 ∷ 0 ∷ 1 ∷ 0 ∷ 0 ∷ 1 ∷ 1 ∷ 0 ∷ 0 ∷ 3 ∷ 1 ∷ 0 ∷ 1 ∷
-    []
+    0 ∷ 0 ∷ 0 ∷ 0 ∷ 1 ∷ 0 ∷ 2 ∷ 65535 ∷ 0 ∷ 0 ∷ 1 ∷ 0 ∷ 2 ∷ 1 ∷ 1 ∷ 2 ∷ 0 ∷ 1 ∷ 0 ∷ 0 ∷ 1 ∷ 1 ∷ 0 ∷ 0 ∷ 6 ∷ 65535 ∷ 0 ∷
+    65535 ∷ []
 
 abbrev names-192 : List ℕ
 names-192 = joined (slotOf (115 ∷ []) ∷ slotOf (101 ∷ []) ∷ slotOf (42 ∷ []) ∷ [])
 
 example-192 : alike (played numbers-192 names-192 []) ((1 ∷ []) ∷ []) ≡ true
-unfolding everything joined historyShown queueShown shown playedIf played alike
+unfolding everything joined historyShown queueShown pendingShown shown playedIf played alike
 example-192 = refl
 
--- else with a delay
+-- delay 4,294,967,296
 abbrev numbers-193 : List ℕ
 numbers-193 = 2 ∷ 1 ∷ 1 ∷ 2 ∷ 3 ∷ 3 ∷ 0 ∷ 65535 ∷ 65535 ∷ 0 ∷ 0 ∷ 0 ∷ 0 ∷ 0 ∷ 0 ∷ 0 ∷ 0 ∷ 1 ∷ 0 ∷ 0 ∷ 0 ∷ 0 ∷ 0 ∷ 0 ∷
-    0 ∷ 0 ∷ 0 ∷ 0 ∷ 1 ∷ 0 ∷ 2 ∷ 65535 ∷ 0 ∷ 0 ∷ 1 ∷ 0 ∷ 2 ∷ 1 ∷ 1 ∷ 2 ∷ 0 ∷ 1 ∷ 0 ∷ 0 ∷ 1 ∷ 1 ∷ 0 ∷ 0 ∷ 4 ∷ 0 ∷ 1 ∷ 0 ∷
-    []
+    0 ∷ 0 ∷ 0 ∷ 0 ∷ 1 ∷ 0 ∷ 2 ∷ 65535 ∷ 0 ∷ 0 ∷ 1 ∷ 0 ∷ 2 ∷ 1 ∷ 1 ∷ 2 ∷ 0 ∷ 1 ∷ 0 ∷ 0 ∷ 1 ∷ 1 ∷ 0 ∷ 0 ∷ 6 ∷ 0 ∷
+    4294967296 ∷ 65535 ∷ []
 
 abbrev names-193 : List ℕ
 names-193 = joined (slotOf (115 ∷ []) ∷ slotOf (101 ∷ []) ∷ slotOf (42 ∷ []) ∷ [])
 
 example-193 : alike (played numbers-193 names-193 []) ((1 ∷ []) ∷ []) ≡ true
-unfolding everything joined historyShown queueShown shown playedIf played alike
+unfolding everything joined historyShown queueShown pendingShown shown playedIf played alike
 example-193 = refl
 
--- end with a send id
+-- a huge delay
 abbrev numbers-194 : List ℕ
 numbers-194 = 2 ∷ 1 ∷ 1 ∷ 2 ∷ 3 ∷ 3 ∷ 0 ∷ 65535 ∷ 65535 ∷ 0 ∷ 0 ∷ 0 ∷ 0 ∷ 0 ∷ 0 ∷ 0 ∷ 0 ∷ 1 ∷ 0 ∷ 0 ∷ 0 ∷ 0 ∷ 0 ∷ 0 ∷
-    0 ∷ 0 ∷ 0 ∷ 0 ∷ 1 ∷ 0 ∷ 2 ∷ 65535 ∷ 0 ∷ 0 ∷ 1 ∷ 0 ∷ 2 ∷ 1 ∷ 1 ∷ 2 ∷ 0 ∷ 1 ∷ 0 ∷ 0 ∷ 1 ∷ 1 ∷ 0 ∷ 0 ∷ 5 ∷ 0 ∷ 0 ∷
-    65535 ∷ []
+    0 ∷ 0 ∷ 0 ∷ 0 ∷ 1 ∷ 0 ∷ 2 ∷ 65535 ∷ 0 ∷ 0 ∷ 1 ∷ 0 ∷ 2 ∷ 1 ∷ 1 ∷ 2 ∷ 0 ∷ 1 ∷ 0 ∷ 0 ∷ 1 ∷ 1 ∷ 0 ∷ 0 ∷ 6 ∷ 0 ∷
+    18446744073709551615 ∷ 0 ∷ []
 
 abbrev names-194 : List ℕ
 names-194 = joined (slotOf (115 ∷ []) ∷ slotOf (101 ∷ []) ∷ slotOf (42 ∷ []) ∷ [])
 
 example-194 : alike (played numbers-194 names-194 []) ((1 ∷ []) ∷ []) ≡ true
-unfolding everything joined historyShown queueShown shown playedIf played alike
+unfolding everything joined historyShown queueShown pendingShown shown playedIf played alike
 example-194 = refl
+
+-- send id past the slots
+abbrev numbers-195 : List ℕ
+numbers-195 = 2 ∷ 1 ∷ 1 ∷ 2 ∷ 3 ∷ 3 ∷ 0 ∷ 65535 ∷ 65535 ∷ 0 ∷ 0 ∷ 0 ∷ 0 ∷ 0 ∷ 0 ∷ 0 ∷ 0 ∷ 1 ∷ 0 ∷ 0 ∷ 0 ∷ 0 ∷ 0 ∷ 0 ∷
+    0 ∷ 0 ∷ 0 ∷ 0 ∷ 1 ∷ 0 ∷ 2 ∷ 65535 ∷ 0 ∷ 0 ∷ 1 ∷ 0 ∷ 2 ∷ 1 ∷ 1 ∷ 2 ∷ 0 ∷ 1 ∷ 0 ∷ 0 ∷ 1 ∷ 1 ∷ 0 ∷ 0 ∷ 6 ∷ 0 ∷ 0 ∷ 3 ∷
+    []
+
+abbrev names-195 : List ℕ
+names-195 = joined (slotOf (115 ∷ []) ∷ slotOf (101 ∷ []) ∷ slotOf (42 ∷ []) ∷ [])
+
+example-195 : alike (played numbers-195 names-195 []) ((1 ∷ []) ∷ []) ≡ true
+unfolding everything joined historyShown queueShown pendingShown shown playedIf played alike
+example-195 = refl
+
+-- send id 65,536
+abbrev numbers-196 : List ℕ
+numbers-196 = 2 ∷ 1 ∷ 1 ∷ 2 ∷ 3 ∷ 3 ∷ 0 ∷ 65535 ∷ 65535 ∷ 0 ∷ 0 ∷ 0 ∷ 0 ∷ 0 ∷ 0 ∷ 0 ∷ 0 ∷ 1 ∷ 0 ∷ 0 ∷ 0 ∷ 0 ∷ 0 ∷ 0 ∷
+    0 ∷ 0 ∷ 0 ∷ 0 ∷ 1 ∷ 0 ∷ 2 ∷ 65535 ∷ 0 ∷ 0 ∷ 1 ∷ 0 ∷ 2 ∷ 1 ∷ 1 ∷ 2 ∷ 0 ∷ 1 ∷ 0 ∷ 0 ∷ 1 ∷ 1 ∷ 0 ∷ 0 ∷ 6 ∷ 0 ∷ 0 ∷
+    65536 ∷ []
+
+abbrev names-196 : List ℕ
+names-196 = joined (slotOf (115 ∷ []) ∷ slotOf (101 ∷ []) ∷ slotOf (42 ∷ []) ∷ [])
+
+example-196 : alike (played numbers-196 names-196 []) ((1 ∷ []) ∷ []) ≡ true
+unfolding everything joined historyShown queueShown pendingShown shown playedIf played alike
+example-196 = refl
+
+-- cancel of an id past the slots
+abbrev numbers-197 : List ℕ
+numbers-197 = 2 ∷ 1 ∷ 1 ∷ 2 ∷ 3 ∷ 3 ∷ 0 ∷ 65535 ∷ 65535 ∷ 0 ∷ 0 ∷ 0 ∷ 0 ∷ 0 ∷ 0 ∷ 0 ∷ 0 ∷ 1 ∷ 0 ∷ 0 ∷ 0 ∷ 0 ∷ 0 ∷ 0 ∷
+    0 ∷ 0 ∷ 0 ∷ 0 ∷ 1 ∷ 0 ∷ 2 ∷ 65535 ∷ 0 ∷ 0 ∷ 1 ∷ 0 ∷ 2 ∷ 1 ∷ 1 ∷ 2 ∷ 0 ∷ 1 ∷ 0 ∷ 0 ∷ 1 ∷ 1 ∷ 0 ∷ 0 ∷ 7 ∷ 3 ∷ 0 ∷ 0 ∷
+    []
+
+abbrev names-197 : List ℕ
+names-197 = joined (slotOf (115 ∷ []) ∷ slotOf (101 ∷ []) ∷ slotOf (42 ∷ []) ∷ [])
+
+example-197 : alike (played numbers-197 names-197 []) ((1 ∷ []) ∷ []) ≡ true
+unfolding everything joined historyShown queueShown pendingShown shown playedIf played alike
+example-197 = refl
+
+-- cancel of none
+abbrev numbers-198 : List ℕ
+numbers-198 = 2 ∷ 1 ∷ 1 ∷ 2 ∷ 3 ∷ 3 ∷ 0 ∷ 65535 ∷ 65535 ∷ 0 ∷ 0 ∷ 0 ∷ 0 ∷ 0 ∷ 0 ∷ 0 ∷ 0 ∷ 1 ∷ 0 ∷ 0 ∷ 0 ∷ 0 ∷ 0 ∷ 0 ∷
+    0 ∷ 0 ∷ 0 ∷ 0 ∷ 1 ∷ 0 ∷ 2 ∷ 65535 ∷ 0 ∷ 0 ∷ 1 ∷ 0 ∷ 2 ∷ 1 ∷ 1 ∷ 2 ∷ 0 ∷ 1 ∷ 0 ∷ 0 ∷ 1 ∷ 1 ∷ 0 ∷ 0 ∷ 7 ∷ 65535 ∷ 0 ∷
+    0 ∷ []
+
+abbrev names-198 : List ℕ
+names-198 = joined (slotOf (115 ∷ []) ∷ slotOf (101 ∷ []) ∷ slotOf (42 ∷ []) ∷ [])
+
+example-198 : alike (played numbers-198 names-198 []) ((1 ∷ []) ∷ []) ≡ true
+unfolding everything joined historyShown queueShown pendingShown shown playedIf played alike
+example-198 = refl
+
+-- cancel with a delay
+abbrev numbers-199 : List ℕ
+numbers-199 = 2 ∷ 1 ∷ 1 ∷ 2 ∷ 3 ∷ 3 ∷ 0 ∷ 65535 ∷ 65535 ∷ 0 ∷ 0 ∷ 0 ∷ 0 ∷ 0 ∷ 0 ∷ 0 ∷ 0 ∷ 1 ∷ 0 ∷ 0 ∷ 0 ∷ 0 ∷ 0 ∷ 0 ∷
+    0 ∷ 0 ∷ 0 ∷ 0 ∷ 1 ∷ 0 ∷ 2 ∷ 65535 ∷ 0 ∷ 0 ∷ 1 ∷ 0 ∷ 2 ∷ 1 ∷ 1 ∷ 2 ∷ 0 ∷ 1 ∷ 0 ∷ 0 ∷ 1 ∷ 1 ∷ 0 ∷ 0 ∷ 7 ∷ 0 ∷ 1 ∷ 0 ∷
+    []
+
+abbrev names-199 : List ℕ
+names-199 = joined (slotOf (115 ∷ []) ∷ slotOf (101 ∷ []) ∷ slotOf (42 ∷ []) ∷ [])
+
+example-199 : alike (played numbers-199 names-199 []) ((1 ∷ []) ∷ []) ≡ true
+unfolding everything joined historyShown queueShown pendingShown shown playedIf played alike
+example-199 = refl
+
+-- cancel with a send id
+abbrev numbers-200 : List ℕ
+numbers-200 = 2 ∷ 1 ∷ 1 ∷ 2 ∷ 3 ∷ 3 ∷ 0 ∷ 65535 ∷ 65535 ∷ 0 ∷ 0 ∷ 0 ∷ 0 ∷ 0 ∷ 0 ∷ 0 ∷ 0 ∷ 1 ∷ 0 ∷ 0 ∷ 0 ∷ 0 ∷ 0 ∷ 0 ∷
+    0 ∷ 0 ∷ 0 ∷ 0 ∷ 1 ∷ 0 ∷ 2 ∷ 65535 ∷ 0 ∷ 0 ∷ 1 ∷ 0 ∷ 2 ∷ 1 ∷ 1 ∷ 2 ∷ 0 ∷ 1 ∷ 0 ∷ 0 ∷ 1 ∷ 1 ∷ 0 ∷ 0 ∷ 7 ∷ 0 ∷ 0 ∷ 1 ∷
+    []
+
+abbrev names-200 : List ℕ
+names-200 = joined (slotOf (115 ∷ []) ∷ slotOf (101 ∷ []) ∷ slotOf (42 ∷ []) ∷ [])
+
+example-200 : alike (played numbers-200 names-200 []) ((1 ∷ []) ∷ []) ≡ true
+unfolding everything joined historyShown queueShown pendingShown shown playedIf played alike
+example-200 = refl
+
+-- cancel with no send id
+abbrev numbers-201 : List ℕ
+numbers-201 = 2 ∷ 1 ∷ 1 ∷ 2 ∷ 3 ∷ 3 ∷ 0 ∷ 65535 ∷ 65535 ∷ 0 ∷ 0 ∷ 0 ∷ 0 ∷ 0 ∷ 0 ∷ 0 ∷ 0 ∷ 1 ∷ 0 ∷ 0 ∷ 0 ∷ 0 ∷ 0 ∷ 0 ∷
+    0 ∷ 0 ∷ 0 ∷ 0 ∷ 1 ∷ 0 ∷ 2 ∷ 65535 ∷ 0 ∷ 0 ∷ 1 ∷ 0 ∷ 2 ∷ 1 ∷ 1 ∷ 2 ∷ 0 ∷ 1 ∷ 0 ∷ 0 ∷ 1 ∷ 1 ∷ 0 ∷ 0 ∷ 7 ∷ 0 ∷ 0 ∷
+    65535 ∷ []
+
+abbrev names-201 : List ℕ
+names-201 = joined (slotOf (115 ∷ []) ∷ slotOf (101 ∷ []) ∷ slotOf (42 ∷ []) ∷ [])
+
+example-201 : alike (played numbers-201 names-201 []) ((1 ∷ []) ∷ []) ≡ true
+unfolding everything joined historyShown queueShown pendingShown shown playedIf played alike
+example-201 = refl
+
+-- thirty-three sends in a block
+abbrev numbers-202 : List ℕ
+numbers-202 = 2 ∷ 1 ∷ 1 ∷ 2 ∷ 33 ∷ 3 ∷ 0 ∷ 65535 ∷ 65535 ∷ 0 ∷ 0 ∷ 0 ∷ 0 ∷ 0 ∷ 0 ∷ 0 ∷ 0 ∷ 1 ∷ 0 ∷ 0 ∷ 0 ∷ 0 ∷ 0 ∷ 0 ∷
+    0 ∷ 0 ∷ 0 ∷ 0 ∷ 1 ∷ 0 ∷ 2 ∷ 65535 ∷ 0 ∷ 0 ∷ 1 ∷ 0 ∷ 33 ∷ 1 ∷ 1 ∷ 2 ∷ 6 ∷ 0 ∷ 1 ∷ 65535 ∷ 6 ∷ 0 ∷ 1 ∷ 65535 ∷ 6 ∷
+    0 ∷ 1 ∷ 65535 ∷ 6 ∷ 0 ∷ 1 ∷ 65535 ∷ 6 ∷ 0 ∷ 1 ∷ 65535 ∷ 6 ∷ 0 ∷ 1 ∷ 65535 ∷ 6 ∷ 0 ∷ 1 ∷ 65535 ∷ 6 ∷ 0 ∷ 1 ∷ 65535 ∷
+    6 ∷ 0 ∷ 1 ∷ 65535 ∷ 6 ∷ 0 ∷ 1 ∷ 65535 ∷ 6 ∷ 0 ∷ 1 ∷ 65535 ∷ 6 ∷ 0 ∷ 1 ∷ 65535 ∷ 6 ∷ 0 ∷ 1 ∷ 65535 ∷ 6 ∷ 0 ∷ 1 ∷
+    65535 ∷ 6 ∷ 0 ∷ 1 ∷ 65535 ∷ 6 ∷ 0 ∷ 1 ∷ 65535 ∷ 6 ∷ 0 ∷ 1 ∷ 65535 ∷ 6 ∷ 0 ∷ 1 ∷ 65535 ∷ 6 ∷ 0 ∷ 1 ∷ 65535 ∷ 6 ∷ 0 ∷
+    1 ∷ 65535 ∷ 6 ∷ 0 ∷ 1 ∷ 65535 ∷ 6 ∷ 0 ∷ 1 ∷ 65535 ∷ 6 ∷ 0 ∷ 1 ∷ 65535 ∷ 6 ∷ 0 ∷ 1 ∷ 65535 ∷ 6 ∷ 0 ∷ 1 ∷ 65535 ∷ 6 ∷
+    0 ∷ 1 ∷ 65535 ∷ 6 ∷ 0 ∷ 1 ∷ 65535 ∷ 6 ∷ 0 ∷ 1 ∷ 65535 ∷ 6 ∷ 0 ∷ 1 ∷ 65535 ∷ 6 ∷ 0 ∷ 1 ∷ 65535 ∷ 6 ∷ 0 ∷ 1 ∷ 65535 ∷
+    6 ∷ 0 ∷ 1 ∷ 65535 ∷ 6 ∷ 0 ∷ 1 ∷ 65535 ∷ []
+
+abbrev names-202 : List ℕ
+names-202 = joined (slotOf (115 ∷ []) ∷ slotOf (101 ∷ []) ∷ slotOf (42 ∷ []) ∷ [])
+
+example-202 : alike (played numbers-202 names-202 []) ((1 ∷ []) ∷ []) ≡ true
+unfolding everything joined historyShown queueShown pendingShown shown playedIf played alike
+example-202 = refl
+
+-- send of a star
+abbrev numbers-203 : List ℕ
+numbers-203 = 2 ∷ 1 ∷ 1 ∷ 2 ∷ 1 ∷ 4 ∷ 0 ∷ 65535 ∷ 65535 ∷ 0 ∷ 0 ∷ 0 ∷ 0 ∷ 0 ∷ 0 ∷ 0 ∷ 0 ∷ 1 ∷ 0 ∷ 0 ∷ 0 ∷ 0 ∷ 0 ∷ 0 ∷
+    0 ∷ 0 ∷ 0 ∷ 0 ∷ 1 ∷ 0 ∷ 2 ∷ 65535 ∷ 0 ∷ 0 ∷ 1 ∷ 0 ∷ 1 ∷ 1 ∷ 1 ∷ 2 ∷ 6 ∷ 3 ∷ 5 ∷ 65535 ∷ []
+
+abbrev names-203 : List ℕ
+names-203 = joined (slotOf (115 ∷ []) ∷ slotOf (101 ∷ []) ∷ slotOf (42 ∷ []) ∷ slotOf (42 ∷ []) ∷ [])
+
+example-203 : alike (played numbers-203 names-203 []) ((2 ∷ []) ∷ []) ≡ true
+unfolding everything joined historyShown queueShown pendingShown shown playedIf played alike
+example-203 = refl
+
+-- send of a descriptor
+abbrev numbers-204 : List ℕ
+numbers-204 = 2 ∷ 1 ∷ 1 ∷ 2 ∷ 1 ∷ 4 ∷ 0 ∷ 65535 ∷ 65535 ∷ 0 ∷ 0 ∷ 0 ∷ 0 ∷ 0 ∷ 0 ∷ 0 ∷ 0 ∷ 1 ∷ 0 ∷ 0 ∷ 0 ∷ 0 ∷ 0 ∷ 0 ∷
+    0 ∷ 0 ∷ 0 ∷ 0 ∷ 1 ∷ 0 ∷ 2 ∷ 65535 ∷ 0 ∷ 0 ∷ 1 ∷ 0 ∷ 1 ∷ 1 ∷ 1 ∷ 2 ∷ 6 ∷ 3 ∷ 5 ∷ 65535 ∷ []
+
+abbrev names-204 : List ℕ
+names-204 = joined (slotOf (115 ∷ []) ∷ slotOf (101 ∷ []) ∷ slotOf (42 ∷ []) ∷ slotOf (97 ∷ 46 ∷ 42 ∷ []) ∷ [])
+
+example-204 : alike (played numbers-204 names-204 []) ((2 ∷ []) ∷ []) ≡ true
+unfolding everything joined historyShown queueShown pendingShown shown playedIf played alike
+example-204 = refl
+
+-- send id a star
+abbrev numbers-205 : List ℕ
+numbers-205 = 2 ∷ 1 ∷ 1 ∷ 2 ∷ 1 ∷ 4 ∷ 0 ∷ 65535 ∷ 65535 ∷ 0 ∷ 0 ∷ 0 ∷ 0 ∷ 0 ∷ 0 ∷ 0 ∷ 0 ∷ 1 ∷ 0 ∷ 0 ∷ 0 ∷ 0 ∷ 0 ∷ 0 ∷
+    0 ∷ 0 ∷ 0 ∷ 0 ∷ 1 ∷ 0 ∷ 2 ∷ 65535 ∷ 0 ∷ 0 ∷ 1 ∷ 0 ∷ 1 ∷ 1 ∷ 1 ∷ 2 ∷ 6 ∷ 0 ∷ 5 ∷ 3 ∷ []
+
+abbrev names-205 : List ℕ
+names-205 = joined (slotOf (115 ∷ []) ∷ slotOf (101 ∷ []) ∷ slotOf (42 ∷ []) ∷ slotOf (42 ∷ []) ∷ [])
+
+example-205 : alike (played numbers-205 names-205 []) ((2 ∷ []) ∷ []) ≡ true
+unfolding everything joined historyShown queueShown pendingShown shown playedIf played alike
+example-205 = refl
+
+-- send id a descriptor
+abbrev numbers-206 : List ℕ
+numbers-206 = 2 ∷ 1 ∷ 1 ∷ 2 ∷ 1 ∷ 4 ∷ 0 ∷ 65535 ∷ 65535 ∷ 0 ∷ 0 ∷ 0 ∷ 0 ∷ 0 ∷ 0 ∷ 0 ∷ 0 ∷ 1 ∷ 0 ∷ 0 ∷ 0 ∷ 0 ∷ 0 ∷ 0 ∷
+    0 ∷ 0 ∷ 0 ∷ 0 ∷ 1 ∷ 0 ∷ 2 ∷ 65535 ∷ 0 ∷ 0 ∷ 1 ∷ 0 ∷ 1 ∷ 1 ∷ 1 ∷ 2 ∷ 6 ∷ 0 ∷ 5 ∷ 3 ∷ []
+
+abbrev names-206 : List ℕ
+names-206 = joined (slotOf (115 ∷ []) ∷ slotOf (101 ∷ []) ∷ slotOf (42 ∷ []) ∷ slotOf (116 ∷ 46 ∷ 42 ∷ []) ∷ [])
+
+example-206 : alike (played numbers-206 names-206 []) ((2 ∷ []) ∷ []) ≡ true
+unfolding everything joined historyShown queueShown pendingShown shown playedIf played alike
+example-206 = refl
+
+-- cancel of a star
+abbrev numbers-207 : List ℕ
+numbers-207 = 2 ∷ 1 ∷ 1 ∷ 2 ∷ 1 ∷ 4 ∷ 0 ∷ 65535 ∷ 65535 ∷ 0 ∷ 0 ∷ 0 ∷ 0 ∷ 0 ∷ 0 ∷ 0 ∷ 0 ∷ 1 ∷ 0 ∷ 0 ∷ 0 ∷ 0 ∷ 0 ∷ 0 ∷
+    0 ∷ 0 ∷ 0 ∷ 0 ∷ 1 ∷ 0 ∷ 2 ∷ 65535 ∷ 0 ∷ 0 ∷ 1 ∷ 0 ∷ 1 ∷ 1 ∷ 1 ∷ 2 ∷ 7 ∷ 3 ∷ 0 ∷ 0 ∷ []
+
+abbrev names-207 : List ℕ
+names-207 = joined (slotOf (115 ∷ []) ∷ slotOf (101 ∷ []) ∷ slotOf (42 ∷ []) ∷ slotOf (42 ∷ []) ∷ [])
+
+example-207 : alike (played numbers-207 names-207 []) ((2 ∷ []) ∷ []) ≡ true
+unfolding everything joined historyShown queueShown pendingShown shown playedIf played alike
+example-207 = refl
+
+-- cancel of a descriptor
+abbrev numbers-208 : List ℕ
+numbers-208 = 2 ∷ 1 ∷ 1 ∷ 2 ∷ 1 ∷ 4 ∷ 0 ∷ 65535 ∷ 65535 ∷ 0 ∷ 0 ∷ 0 ∷ 0 ∷ 0 ∷ 0 ∷ 0 ∷ 0 ∷ 1 ∷ 0 ∷ 0 ∷ 0 ∷ 0 ∷ 0 ∷ 0 ∷
+    0 ∷ 0 ∷ 0 ∷ 0 ∷ 1 ∷ 0 ∷ 2 ∷ 65535 ∷ 0 ∷ 0 ∷ 1 ∷ 0 ∷ 1 ∷ 1 ∷ 1 ∷ 2 ∷ 7 ∷ 3 ∷ 0 ∷ 0 ∷ []
+
+abbrev names-208 : List ℕ
+names-208 = joined (slotOf (115 ∷ []) ∷ slotOf (101 ∷ []) ∷ slotOf (42 ∷ []) ∷ slotOf (116 ∷ 46 ∷ 42 ∷ []) ∷ [])
+
+example-208 : alike (played numbers-208 names-208 []) ((2 ∷ []) ∷ []) ≡ true
+unfolding everything joined historyShown queueShown pendingShown shown playedIf played alike
+example-208 = refl
+
+-- unused send of a star
+abbrev numbers-209 : List ℕ
+numbers-209 = 2 ∷ 1 ∷ 1 ∷ 2 ∷ 3 ∷ 3 ∷ 0 ∷ 65535 ∷ 65535 ∷ 0 ∷ 0 ∷ 0 ∷ 0 ∷ 0 ∷ 0 ∷ 0 ∷ 0 ∷ 1 ∷ 0 ∷ 0 ∷ 0 ∷ 0 ∷ 0 ∷ 0 ∷
+    0 ∷ 0 ∷ 0 ∷ 0 ∷ 1 ∷ 0 ∷ 2 ∷ 65535 ∷ 0 ∷ 0 ∷ 1 ∷ 0 ∷ 2 ∷ 1 ∷ 1 ∷ 2 ∷ 0 ∷ 1 ∷ 0 ∷ 0 ∷ 1 ∷ 1 ∷ 0 ∷ 0 ∷ 6 ∷ 2 ∷ 0 ∷
+    65535 ∷ []
+
+abbrev names-209 : List ℕ
+names-209 = joined (slotOf (115 ∷ []) ∷ slotOf (101 ∷ []) ∷ slotOf (42 ∷ []) ∷ [])
+
+example-209 : alike (played numbers-209 names-209 []) ((2 ∷ []) ∷ []) ≡ true
+unfolding everything joined historyShown queueShown pendingShown shown playedIf played alike
+example-209 = refl
+
+-- unused send id a star
+abbrev numbers-210 : List ℕ
+numbers-210 = 2 ∷ 1 ∷ 1 ∷ 2 ∷ 3 ∷ 3 ∷ 0 ∷ 65535 ∷ 65535 ∷ 0 ∷ 0 ∷ 0 ∷ 0 ∷ 0 ∷ 0 ∷ 0 ∷ 0 ∷ 1 ∷ 0 ∷ 0 ∷ 0 ∷ 0 ∷ 0 ∷ 0 ∷
+    0 ∷ 0 ∷ 0 ∷ 0 ∷ 1 ∷ 0 ∷ 2 ∷ 65535 ∷ 0 ∷ 0 ∷ 1 ∷ 0 ∷ 2 ∷ 1 ∷ 1 ∷ 2 ∷ 0 ∷ 1 ∷ 0 ∷ 0 ∷ 1 ∷ 1 ∷ 0 ∷ 0 ∷ 6 ∷ 0 ∷ 0 ∷ 2 ∷
+    []
+
+abbrev names-210 : List ℕ
+names-210 = joined (slotOf (115 ∷ []) ∷ slotOf (101 ∷ []) ∷ slotOf (42 ∷ []) ∷ [])
+
+example-210 : alike (played numbers-210 names-210 []) ((2 ∷ []) ∷ []) ≡ true
+unfolding everything joined historyShown queueShown pendingShown shown playedIf played alike
+example-210 = refl
+
+-- unused cancel of a star
+abbrev numbers-211 : List ℕ
+numbers-211 = 2 ∷ 1 ∷ 1 ∷ 2 ∷ 3 ∷ 3 ∷ 0 ∷ 65535 ∷ 65535 ∷ 0 ∷ 0 ∷ 0 ∷ 0 ∷ 0 ∷ 0 ∷ 0 ∷ 0 ∷ 1 ∷ 0 ∷ 0 ∷ 0 ∷ 0 ∷ 0 ∷ 0 ∷
+    0 ∷ 0 ∷ 0 ∷ 0 ∷ 1 ∷ 0 ∷ 2 ∷ 65535 ∷ 0 ∷ 0 ∷ 1 ∷ 0 ∷ 2 ∷ 1 ∷ 1 ∷ 2 ∷ 0 ∷ 1 ∷ 0 ∷ 0 ∷ 1 ∷ 1 ∷ 0 ∷ 0 ∷ 7 ∷ 2 ∷ 0 ∷ 0 ∷
+    []
+
+abbrev names-211 : List ℕ
+names-211 = joined (slotOf (115 ∷ []) ∷ slotOf (101 ∷ []) ∷ slotOf (42 ∷ []) ∷ [])
+
+example-211 : alike (played numbers-211 names-211 []) ((2 ∷ []) ∷ []) ≡ true
+unfolding everything joined historyShown queueShown pendingShown shown playedIf played alike
+example-211 = refl
+
+-- action 8
+abbrev numbers-212 : List ℕ
+numbers-212 = 2 ∷ 1 ∷ 1 ∷ 2 ∷ 2 ∷ 3 ∷ 0 ∷ 65535 ∷ 65535 ∷ 0 ∷ 0 ∷ 0 ∷ 0 ∷ 0 ∷ 0 ∷ 0 ∷ 0 ∷ 1 ∷ 0 ∷ 0 ∷ 0 ∷ 0 ∷ 0 ∷ 0 ∷
+    0 ∷ 0 ∷ 0 ∷ 0 ∷ 1 ∷ 0 ∷ 2 ∷ 65535 ∷ 0 ∷ 0 ∷ 1 ∷ 0 ∷ 2 ∷ 1 ∷ 1 ∷ 2 ∷ 0 ∷ 1 ∷ 0 ∷ 0 ∷ 8 ∷ 1 ∷ 0 ∷ 0 ∷ []
+
+abbrev names-212 : List ℕ
+names-212 = joined (slotOf (115 ∷ []) ∷ slotOf (101 ∷ []) ∷ slotOf (42 ∷ []) ∷ [])
+
+example-212 : alike (played numbers-212 names-212 []) ((1 ∷ []) ∷ []) ≡ true
+unfolding everything joined historyShown queueShown pendingShown shown playedIf played alike
+example-212 = refl
+
+-- raise with a delay
+abbrev numbers-213 : List ℕ
+numbers-213 = 2 ∷ 1 ∷ 1 ∷ 2 ∷ 3 ∷ 3 ∷ 0 ∷ 65535 ∷ 65535 ∷ 0 ∷ 0 ∷ 0 ∷ 0 ∷ 0 ∷ 0 ∷ 0 ∷ 0 ∷ 1 ∷ 0 ∷ 0 ∷ 0 ∷ 0 ∷ 0 ∷ 0 ∷
+    0 ∷ 0 ∷ 0 ∷ 0 ∷ 1 ∷ 0 ∷ 2 ∷ 65535 ∷ 0 ∷ 0 ∷ 1 ∷ 0 ∷ 2 ∷ 1 ∷ 1 ∷ 2 ∷ 0 ∷ 1 ∷ 0 ∷ 0 ∷ 1 ∷ 1 ∷ 0 ∷ 0 ∷ 0 ∷ 0 ∷ 1 ∷ 0 ∷
+    []
+
+abbrev names-213 : List ℕ
+names-213 = joined (slotOf (115 ∷ []) ∷ slotOf (101 ∷ []) ∷ slotOf (42 ∷ []) ∷ [])
+
+example-213 : alike (played numbers-213 names-213 []) ((1 ∷ []) ∷ []) ≡ true
+unfolding everything joined historyShown queueShown pendingShown shown playedIf played alike
+example-213 = refl
+
+-- raise with a send id
+abbrev numbers-214 : List ℕ
+numbers-214 = 2 ∷ 1 ∷ 1 ∷ 2 ∷ 3 ∷ 3 ∷ 0 ∷ 65535 ∷ 65535 ∷ 0 ∷ 0 ∷ 0 ∷ 0 ∷ 0 ∷ 0 ∷ 0 ∷ 0 ∷ 1 ∷ 0 ∷ 0 ∷ 0 ∷ 0 ∷ 0 ∷ 0 ∷
+    0 ∷ 0 ∷ 0 ∷ 0 ∷ 1 ∷ 0 ∷ 2 ∷ 65535 ∷ 0 ∷ 0 ∷ 1 ∷ 0 ∷ 2 ∷ 1 ∷ 1 ∷ 2 ∷ 0 ∷ 1 ∷ 0 ∷ 0 ∷ 1 ∷ 1 ∷ 0 ∷ 0 ∷ 0 ∷ 0 ∷ 0 ∷ 1 ∷
+    []
+
+abbrev names-214 : List ℕ
+names-214 = joined (slotOf (115 ∷ []) ∷ slotOf (101 ∷ []) ∷ slotOf (42 ∷ []) ∷ [])
+
+example-214 : alike (played numbers-214 names-214 []) ((1 ∷ []) ∷ []) ≡ true
+unfolding everything joined historyShown queueShown pendingShown shown playedIf played alike
+example-214 = refl
+
+-- raise with no send id
+abbrev numbers-215 : List ℕ
+numbers-215 = 2 ∷ 1 ∷ 1 ∷ 2 ∷ 3 ∷ 3 ∷ 0 ∷ 65535 ∷ 65535 ∷ 0 ∷ 0 ∷ 0 ∷ 0 ∷ 0 ∷ 0 ∷ 0 ∷ 0 ∷ 1 ∷ 0 ∷ 0 ∷ 0 ∷ 0 ∷ 0 ∷ 0 ∷
+    0 ∷ 0 ∷ 0 ∷ 0 ∷ 1 ∷ 0 ∷ 2 ∷ 65535 ∷ 0 ∷ 0 ∷ 1 ∷ 0 ∷ 2 ∷ 1 ∷ 1 ∷ 2 ∷ 0 ∷ 1 ∷ 0 ∷ 0 ∷ 1 ∷ 1 ∷ 0 ∷ 0 ∷ 0 ∷ 0 ∷ 0 ∷
+    65535 ∷ []
+
+abbrev names-215 : List ℕ
+names-215 = joined (slotOf (115 ∷ []) ∷ slotOf (101 ∷ []) ∷ slotOf (42 ∷ []) ∷ [])
+
+example-215 : alike (played numbers-215 names-215 []) ((1 ∷ []) ∷ []) ≡ true
+unfolding everything joined historyShown queueShown pendingShown shown playedIf played alike
+example-215 = refl
+
+-- host action with a delay
+abbrev numbers-216 : List ℕ
+numbers-216 = 2 ∷ 1 ∷ 1 ∷ 2 ∷ 3 ∷ 3 ∷ 0 ∷ 65535 ∷ 65535 ∷ 0 ∷ 0 ∷ 0 ∷ 0 ∷ 0 ∷ 0 ∷ 0 ∷ 0 ∷ 1 ∷ 0 ∷ 0 ∷ 0 ∷ 0 ∷ 0 ∷ 0 ∷
+    0 ∷ 0 ∷ 0 ∷ 0 ∷ 1 ∷ 0 ∷ 2 ∷ 65535 ∷ 0 ∷ 0 ∷ 1 ∷ 0 ∷ 2 ∷ 1 ∷ 1 ∷ 2 ∷ 0 ∷ 1 ∷ 0 ∷ 0 ∷ 1 ∷ 1 ∷ 0 ∷ 0 ∷ 1 ∷ 0 ∷ 1 ∷ 0 ∷
+    []
+
+abbrev names-216 : List ℕ
+names-216 = joined (slotOf (115 ∷ []) ∷ slotOf (101 ∷ []) ∷ slotOf (42 ∷ []) ∷ [])
+
+example-216 : alike (played numbers-216 names-216 []) ((1 ∷ []) ∷ []) ≡ true
+unfolding everything joined historyShown queueShown pendingShown shown playedIf played alike
+example-216 = refl
+
+-- host action with a send id
+abbrev numbers-217 : List ℕ
+numbers-217 = 2 ∷ 1 ∷ 1 ∷ 2 ∷ 3 ∷ 3 ∷ 0 ∷ 65535 ∷ 65535 ∷ 0 ∷ 0 ∷ 0 ∷ 0 ∷ 0 ∷ 0 ∷ 0 ∷ 0 ∷ 1 ∷ 0 ∷ 0 ∷ 0 ∷ 0 ∷ 0 ∷ 0 ∷
+    0 ∷ 0 ∷ 0 ∷ 0 ∷ 1 ∷ 0 ∷ 2 ∷ 65535 ∷ 0 ∷ 0 ∷ 1 ∷ 0 ∷ 2 ∷ 1 ∷ 1 ∷ 2 ∷ 0 ∷ 1 ∷ 0 ∷ 0 ∷ 1 ∷ 1 ∷ 0 ∷ 0 ∷ 1 ∷ 0 ∷ 0 ∷ 1 ∷
+    []
+
+abbrev names-217 : List ℕ
+names-217 = joined (slotOf (115 ∷ []) ∷ slotOf (101 ∷ []) ∷ slotOf (42 ∷ []) ∷ [])
+
+example-217 : alike (played numbers-217 names-217 []) ((1 ∷ []) ∷ []) ≡ true
+unfolding everything joined historyShown queueShown pendingShown shown playedIf played alike
+example-217 = refl

@@ -8,9 +8,10 @@ use Rattle.definition.specs.declared.Mode.{Mode}
 use Rattle.definition.specs.declared.Mode.the-variants.{Running, Closing, Ended}
 use Rattle.definition.specs.Tables.{slotOf}
 use Rattle.follower.specs.Follower.{Follower}
-use Rattle.follower.specs.Calls.{starts, posts, runs}
+use Rattle.follower.specs.Clock.{Timer, Clock}
+use Rattle.follower.specs.Calls.{starts, posts, clocks, runs}
 use Rattle.follower.specs.Open.{everything}
-use Rattle.examples.specs.Play.{joined, historyShown, queueShown, shown, playedIf, played, judged, countsKept, compiledSets, opens, fits, alike}
+use Rattle.examples.specs.Play.{joined, historyShown, queueShown, pendingShown, shown, playedIf, played, judged, countsKept, compiledSets, opens, fits, timer, recordFits, alike}
 
 abbrev numbers-001 : List ℕ
 numbers-001 = 11 ∷ 5 ∷ 7 ∷ 5 ∷ 0 ∷ 14 ∷ 0 ∷ 65535 ∷ 65535 ∷ 0 ∷ 0 ∷ 0 ∷ 0 ∷ 0 ∷ 0 ∷ 0 ∷ 0 ∷ 2 ∷ 0 ∷ 0 ∷ 0 ∷ 0 ∷ 0 ∷ 0 ∷

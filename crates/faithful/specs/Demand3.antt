@@ -1,6 +1,6 @@
 -- Demand 3 as one theorem, from what compile left in the lent places.
 use mathlib.Core.Path.{_≡_, refl, sym, ap, _∙_}
-use mathlib.Core.Bool.{true}
+use mathlib.Core.Bool.{Bool, true}
 use mathlib.Core.List.{List, [], _∷_}
 use mathlib.Core.Option.{none}
 use Prim.Native.Nat.{ℕ, _<_}
@@ -13,9 +13,9 @@ use Rattle.definition.specs.Chart.{Chart}
 use Rattle.definition.specs.Rules.{keepsRules, verdict}
 use Rattle.follower.specs.Blocks.{Effect}
 use Rattle.definition.specs.Answers.{answerNo}
-use Rattle.follower.specs.Follower.{Follower, endedFollower, did, round, refusal}
-use Rattle.follower.specs.Calls.{Call, starts, Outcome, startedOutcome, follow, followAll}
-use Rattle.follower.specs.Legal.{WellFormed}
+use Rattle.follower.specs.Follower.{Follower, Timed, did, round, refusal}
+use Rattle.follower.specs.Calls.{Call, starts, Outcome, startedOutcome, follow, followAll, atRest}
+use Rattle.follower.specs.Legal.{WellFormed, WellTimed}
 use Rattle.definition.specs.Compiled.{ownNumbers, isCompiled}
 use Rattle.laws.specs.Simulation.{Every, every-first}
 use Rattle.theory.specs.Shown.{takenIn, DisjointExits}
@@ -24,8 +24,9 @@ use Rattle.chart.specs.Own.{answer-done, compiled-ready}
 use Rattle.compiler.specs.Results.{Compiles, verdict-sizes}
 use Rattle.compiler.specs.Theorems.{names-written, place-written, check-compiled}
 use Rattle.session.specs.declared.Session.{Session}
-use Rattle.session.specs.Sessions.{endedSession, runOf}
-use Rattle.faithful.specs.Program.{Step, callAll}
+use Rattle.session.specs.declared.Clock.{Clock}
+use Rattle.session.specs.Sessions.{runOf}
+use Rattle.faithful.specs.Program.{Both, zeros, Step, callAll}
 use Rattle.faithful.specs.Alike.{AllAlike}
 use Rattle.faithful.specs.Faithful.{Means, AlikeFormed, formed-from-start, formed-from-zeros, faithful, faithful-ended}
 use Rattle.faithful.specs.Completed.{LegalStep, step-legal, CompletedRound, completed}
@@ -37,23 +38,22 @@ EveryStep P xs = Every P xs
 -- what is promised of the numbers and names that were lent, and the chart and slots that compile left
 pub record Demand3 (numbers names chart slots : List ℕ) : Type 0 where
   -- "for every whole list of calls": the program on the compiled chart, the plain follower on the chart's own rows
-  pub alike : (s : Session) (f : Follower) (room : ℕ) (calls : List Call) →
-      AllAlike (rowCount numbers) (callAll chart slots s (starts room ∷ calls)) (followAll (chartOf numbers) (nameAt names) f (starts room ∷ calls))
+  pub alike : (b : Both) (t : Timed) (room : ℕ) (calls : List Call) →
+      AllAlike (rowCount numbers) (callAll chart slots b (starts room ∷ calls)) (followAll (chartOf numbers) (nameAt names) t (starts room ∷ calls))
   -- before any start too
-  pub alikeEnded : (calls : List Call) →
-      AllAlike (rowCount numbers) (callAll chart slots endedSession calls) (followAll (chartOf numbers) (nameAt names) (endedFollower (chartOf numbers)) calls)
-  -- "configurations stay legal": after every call the state is well formed, so its configuration is legal unless the session has ended
-  pub formed : (f : Follower) (room : ℕ) (calls : List Call) → EveryAfter (WellFormed (chartOf numbers)) (followAll (chartOf numbers) (nameAt names) f (starts room ∷ calls))
-  pub formedEnded : (calls : List Call) → EveryAfter (WellFormed (chartOf numbers)) (followAll (chartOf numbers) (nameAt names) (endedFollower (chartOf numbers)) calls)
+  pub alikeEnded : (calls : List Call) → AllAlike (rowCount numbers) (callAll chart slots zeros calls) (followAll (chartOf numbers) (nameAt names) (atRest (chartOf numbers)) calls)
+  -- "configurations stay legal": after every call session and clock record are well formed, so its configuration is legal unless the session has ended
+  pub formed : (t : Timed) (room : ℕ) (calls : List Call) → EveryAfter (WellTimed (chartOf numbers)) (followAll (chartOf numbers) (nameAt names) t (starts room ∷ calls))
+  pub formedEnded : (calls : List Call) → EveryAfter (WellTimed (chartOf numbers)) (followAll (chartOf numbers) (nameAt names) (atRest (chartOf numbers)) calls)
   -- so the configuration that each step hands back is legal unless it has ended
-  pub legal : (s : Session) (room : ℕ) (calls : List Call) → EveryStep (LegalStep (chartOf numbers)) (callAll chart slots s (starts room ∷ calls))
-  pub legalEnded : (calls : List Call) → EveryStep (LegalStep (chartOf numbers)) (callAll chart slots endedSession calls)
-  -- and after every completed round of every run, whatever session it is given, so of every run in a list of calls; the transitions taken in it
+  pub legal : (b : Both) (room : ℕ) (calls : List Call) → EveryStep (LegalStep (chartOf numbers)) (callAll chart slots b (starts room ∷ calls))
+  pub legalEnded : (calls : List Call) → EveryStep (LegalStep (chartOf numbers)) (callAll chart slots zeros calls)
+  -- and after every completed round of every run, whatever session and record it is given, so of every run in a list of calls; the transitions taken in it
   -- have disjoint exit sets
-  pub completed : (s : Session) (rounds room k : ℕ) → k < (runOf s chart slots rounds room) .rounds → CompletedRound (chartOf numbers) chart slots s rounds room k
+  pub completed : (s : Session) (y : Clock) (rounds room k : ℕ) → k < (runOf s y chart slots rounds room) .rounds → CompletedRound (chartOf numbers) chart slots s y rounds room k
   -- the same of one round of the follower: "configurations stay legal"
-  pub rounds : (f : Follower) → WellFormed (chartOf numbers) f → (room : ℕ) (next : Follower) (es : List Effect) →
-      round (chartOf numbers) (nameAt names) f ≡ did next es → refusal room next es ≡ none → WellFormed (chartOf numbers) next
+  pub rounds : (f : Follower) → WellFormed (chartOf numbers) f → (room : ℕ) (next : Follower) (full : Bool) (es : List Effect) →
+      round (chartOf numbers) (nameAt names) f ≡ did next es → refusal room next full es ≡ none → WellFormed (chartOf numbers) next
   -- "transitions taken together have disjoint exit sets"
   pub disjoint : (f next : Follower) (es : List Effect) → round (chartOf numbers) (nameAt names) f ≡ did next es → DisjointExits (chartOf numbers) f (takenIn es)
 
@@ -75,17 +75,17 @@ module _ (numbers names place namePlace chart slots : List ℕ) (a : Answer) (ma
 
   -- a step that is alike to a well-formed outcome is legal
   steps-legal : (x : Step) (o : Outcome) → AlikeFormed numbers names chart slots accepted means x o → LegalStep (chartOf numbers) x
-  steps-legal x o h = step-legal (chartOf numbers) (rowCount numbers) x (o .after) (h .0 .state) (h .1)
+  steps-legal x o h = step-legal (chartOf numbers) (rowCount numbers) x (o .after .follower) (h .0 .state) (h .1 .session)
 
   pub demand-3 : Demand3 numbers names chart slots
   unfolding followAll
   demand-3 = record {
     alike = faithful numbers names chart slots accepted means;
     alikeEnded = faithful-ended numbers names chart slots accepted means;
-    formed = λ f room calls. (unfold follow startedOutcome in start-keeps numbers names accepted room, unfold follow startedOutcome in calls-keep numbers names accepted calls _ (start-keeps numbers names accepted room));
+    formed = λ t room calls. (unfold follow startedOutcome in start-keeps numbers names accepted room, unfold follow startedOutcome in calls-keep numbers names accepted calls _ (start-keeps numbers names accepted room));
     formedEnded = all-calls-keep numbers names accepted;
-    legal = λ s room calls. every-first (LegalStep (chartOf numbers)) steps-legal (callAll chart slots s (starts room ∷ calls)) (followAll (chartOf numbers) (nameAt names) (endedFollower (chartOf numbers)) (starts room ∷ calls)) (formed-from-start numbers names chart slots accepted means s (endedFollower (chartOf numbers)) room calls);
-    legalEnded = λ calls. every-first (LegalStep (chartOf numbers)) steps-legal (callAll chart slots endedSession calls) (followAll (chartOf numbers) (nameAt names) (endedFollower (chartOf numbers)) calls) (formed-from-zeros numbers names chart slots accepted means calls);
+    legal = λ b room calls. every-first (LegalStep (chartOf numbers)) steps-legal (callAll chart slots b (starts room ∷ calls)) (followAll (chartOf numbers) (nameAt names) (atRest (chartOf numbers)) (starts room ∷ calls)) (formed-from-start numbers names chart slots accepted means b (atRest (chartOf numbers)) room calls);
+    legalEnded = λ calls. every-first (LegalStep (chartOf numbers)) steps-legal (callAll chart slots zeros calls) (followAll (chartOf numbers) (nameAt names) (atRest (chartOf numbers)) calls) (formed-from-zeros numbers names chart slots accepted means calls);
     completed = completed numbers names chart slots accepted means;
     rounds = round-keeps numbers names accepted;
     disjoint = round-disjoint numbers names accepted;

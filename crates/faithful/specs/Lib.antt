@@ -4,6 +4,7 @@ pub mod Faithful
 pub mod Cuts
 pub mod Completed
 pub mod Demand3
+pub mod CutRuns
 pub mod AnyOrder
 pub mod ChartA
 pub mod MarkedRuns

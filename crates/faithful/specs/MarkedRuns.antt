@@ -1,5 +1,5 @@
 -- The eight marked runs once more, of the real functions: what the contracts of start, post and run give over the compiled chart A, call after call from a
--- session of zeros, what the contract of names::matches gives, and what compile answers.
+-- session and a clock record of zeros, what the contract of names::matches gives, and what compile answers.
 use mathlib.Core.Path.{_≡_, refl, sym, ap, _∙_}
 use mathlib.Core.List.{List, [], _∷_, _++_}
 use Prim.Native.Nat.{ℕ}
@@ -9,15 +9,15 @@ use Rattle.definition.specs.Names.{Name, matches}
 use Rattle.definition.specs.Tables.{rowCount, chartOf, nameAt}
 use Rattle.definition.specs.Rules.{compiledSize, verdict, keepsRules}
 use Rattle.definition.specs.Answers.{answerNo}
-use Rattle.follower.specs.Follower.{Follower, endedFollower}
-use Rattle.follower.specs.Calls.{Call, starts, posts, runs, Outcome, follow, followAll}
+use Rattle.follower.specs.Follower.{Follower}
+use Rattle.follower.specs.Calls.{Call, starts, posts, runs, Outcome, follow, followAll, atRest}
 use Rattle.definition.specs.Compiled.{compiled}
 use Rattle.definition.specs.ChartA.{numbersA, e1, e2, e4, namesWith, namesA}
 use Rattle.follower.specs.Marked.{playA, lastOf, lastA, traceA, sumA, test, marked, expected}
 use Rattle.theory.specs.MarkedRuns.{marked-runs}
 use Rattle.state.specs.State.{rowsAt}
-use Rattle.session.specs.Sessions.{endedSession, view}
-use Rattle.faithful.specs.Program.{Step, startStep, call, callAll}
+use Rattle.session.specs.Sessions.{view}
+use Rattle.faithful.specs.Program.{zeros, Step, startStep, call, callAll}
 use Rattle.faithful.specs.Alike.{Alike, AllAlike}
 use Rattle.faithful.specs.ChartA.{chart-a}
 
@@ -31,7 +31,7 @@ lastStep a (x ∷ xs) = lastStep x xs
 
 -- the last step of a start and the calls behind it
 unfoldable pub lastIn : List Call → Step
-lastIn calls = lastStep (startStep (compiled numbersA) namesA room) (callAll (compiled numbersA) namesA endedSession (starts room ∷ calls))
+lastIn calls = lastStep (startStep (compiled numbersA) namesA room) (callAll (compiled numbersA) namesA zeros (starts room ∷ calls))
 
 -- the entries that it reports
 abbrev pub traceIn : List Call → List ℕ
@@ -39,7 +39,7 @@ traceIn calls = take ((lastIn calls) .count) ((lastIn calls) .left (replicate ro
 
 -- rounds, status, configuration
 abbrev pub sumIn : List Call → List ℕ
-sumIn calls = (lastIn calls) .rounds ∷ (lastIn calls) .number ∷ rowsAt ((lastIn calls) .session .configuration) 0
+sumIn calls = (lastIn calls) .rounds ∷ (lastIn calls) .number ∷ rowsAt ((lastIn calls) .after .session .configuration) 0
 
 -- what compile answers for chart A with another id for row 10, lent places of the stated sizes
 abbrev pub compiledWith : Name → ℕ
@@ -72,8 +72,8 @@ module _ (calls : List Call) where
   alike =
       let h = chart-a .alikeEnded (starts room ∷ calls) in
       last-alike (rowCount numbersA) _ _ (h .0)
-      (callAll (compiled numbersA) namesA ((call (compiled numbersA) namesA endedSession (starts room)) .session) calls)
-      (followAll (chartOf numbersA) (nameAt namesA) ((follow (chartOf numbersA) (nameAt namesA) (endedFollower (chartOf numbersA)) (starts room)) .after) calls) (h .1)
+      (callAll (compiled numbersA) namesA ((call (compiled numbersA) namesA zeros (starts room)) .after) calls)
+      (followAll (chartOf numbersA) (nameAt namesA) ((follow (chartOf numbersA) (nameAt namesA) (atRest (chartOf numbersA)) (starts room)) .after) calls) (h .1)
 
   trace-in : traceIn calls ≡ traceA (starts room ∷ calls)
   trace-in =
@@ -84,7 +84,7 @@ module _ (calls : List Call) where
   sum-in : sumIn calls ≡ sumA (starts room ∷ calls)
   sum-in =
       let a = alike in
-      let c : rowsAt ((lastIn calls) .session .configuration) 0 ≡ (lastA (starts room ∷ calls)) .after .configuration = unfold view in ap (λ (f : Follower). f .configuration) (a .state) in
+      let c : rowsAt ((lastIn calls) .after .session .configuration) 0 ≡ (lastA (starts room ∷ calls)) .after .follower .configuration = unfold view in ap (λ (f : Follower). f .configuration) (a .state) in
       let n = a .number in
       let r = a .rounds in
       cc

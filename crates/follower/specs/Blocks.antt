@@ -1,10 +1,10 @@
--- What the parts of a round do, one effect after the other, and the effects of a block. The trace, the queued names and the refusals are
--- read off the list of effects.
+-- What the parts of a round do, one effect after the other, and the effects of a block. The trace, the queued names, the pending sends and
+-- the refusals are read off the list of effects.
 use mathlib.Core.Bool.{Bool, true, false, cond}
 use mathlib.Core.List.{List, [], _∷_, _++_}
 use Prim.Native.Nat.{ℕ, zero, suc, _+_, _*_}
 use Rattle.definition.specs.declared.Action.{Action}
-use Rattle.definition.specs.declared.Action.the-variants.{Raise, Host, If, ElseIf, Else, End}
+use Rattle.definition.specs.declared.Action.the-variants.{Raise, Host, If, ElseIf, Else, End, Send, Cancel}
 use Rattle.definition.specs.declared.Reach.{Reach}
 use Rattle.definition.specs.declared.Reach.the-variants.{Live, Waiting, Past}
 use Rattle.definition.specs.Rows.{mem}
@@ -16,6 +16,9 @@ pub data Effect : Type 0 where
   exited taken entered acted raised done : ℕ → Effect
   -- 7, the row that chose the transition: "the trace gains kind 7 with that row" (R-6)
   chosen : ℕ → Effect
+  -- an event sent: its name's number, the delay, the number of the send id or 65,535; and the send id that is cancelled: "a send as kind 8 and a cancel as kind 9" (R-9)
+  sent : ℕ → ℕ → ℕ → Effect
+  cancelled : ℕ → Effect
 
 -- "Trace entries are 32-bit numbers, kind × 65,536 + index" (68)
 unfoldable pub traceNo : Effect → ℕ
@@ -27,6 +30,8 @@ traceNo (raised n) = 5 * 65536 + n
 traceNo (done i) = 6 * 65536 + i
 -- (R-6)
 traceNo (chosen i) = 7 * 65536 + i
+traceNo (sent n delay id) = 8 * 65536 + n
+traceNo (cancelled n) = 9 * 65536 + n
 
 -- the names that an effect puts into the internal queue
 unfoldable pub queued : Chart → Names → Effect → List Name
@@ -38,6 +43,8 @@ queued c names (raised n) = names n ∷ []
 queued c names (done i) = doneName (names ((c .row) i .id)) ∷ []
 -- (R-6)
 queued c names (chosen i) = []
+queued c names (sent n delay id) = []
+queued c names (cancelled n) = []
 
 -- ---- a block, performed where the rows conf are active: "In reads the configuration at that moment" (R-5)
 
@@ -70,6 +77,8 @@ after conf (If i) r = atIf (mem i conf) r
 after conf (ElseIf i) r = atElse (mem i conf) r
 after conf Else r = atElse true r
 after conf End r = atEnd r
+after conf (Send n delay id) r = r
+after conf (Cancel n) r = r
 
 unfoldable pub perform : Action → List Effect
 perform (Raise n) = raised n ∷ []
@@ -79,6 +88,8 @@ perform (If i) = []
 perform (ElseIf i) = []
 perform Else = []
 perform End = []
+perform (Send n delay id) = sent n delay id ∷ []
+perform (Cancel n) = cancelled n ∷ []
 
 -- "only the branch taken" (R-5)
 unfoldable pub performIf : Reach → Action → List Effect

@@ -1,6 +1,7 @@
 pub mod Selection
 pub mod Blocks
 pub mod Microstep
+pub mod Clock
 pub mod Follower
 pub mod Legal
 pub mod Calls

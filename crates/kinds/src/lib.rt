@@ -6,17 +6,18 @@ ghost use Rattle.definition.specs.Tables.{kindOf};
 ghost use Rattle.definition.specs.Rules.{mayStand};
 use definition::Kind;
 
-const ROOT: usize = 0;
+// The number of each kind in the tables.
+pub const ROOT: u64 = 0;
 
-const STATE: usize = 1;
+pub const STATE: u64 = 1;
 
-const PARALLEL: usize = 2;
+pub const PARALLEL: u64 = 2;
 
-const FINAL: usize = 3;
+pub const FINAL: u64 = 3;
 
-const SHALLOW: usize = 4;
+pub const SHALLOW: u64 = 4;
 
-const DEEP: usize = 5;
+pub const DEEP: u64 = 5;
 
 // A row for each parent, a column for each child.
 const MAY_STAND: [[bool; 6]; 6] = [
@@ -28,7 +29,7 @@ const MAY_STAND: [[bool; 6]; 6] = [
     [false, false, false, false, false, false],
 ];
 
-pub fn kind_number(k: Kind) -> usize
+pub fn kind_number(k: Kind) -> u64
     ensures { λ n. ⌜ (n ≡ kindNo k) × (n < 6) ⌝ }
 {
     match k {
@@ -42,7 +43,7 @@ pub fn kind_number(k: Kind) -> usize
 }
 
 // The kind of a number: rule 1 lets no number stand that is none of these.
-pub fn kind_from(n: usize) -> Kind
+pub fn kind_from(n: u64) -> Kind
     ensures { λ k. ⌜ k ≡ kindOf n ⌝ }
 {
     match n {
@@ -95,7 +96,7 @@ pub fn is_history(k: Kind) -> bool
 pub fn may_stand(parent: Kind, child: Kind) -> bool
     ensures { λ b. ⌜ b ≡ mayStand parent child ⌝ }
 {
-    let p = kind_number(parent);
-    let c = kind_number(child);
+    let p = kind_number(parent) as usize;
+    let c = kind_number(child) as usize;
     MAY_STAND[p][c]
 }

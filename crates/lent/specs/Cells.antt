@@ -10,7 +10,8 @@ use lib.ListN.{length, getD, drop}
 use lib.Seq.{getD-take, getD-drop}
 use borrow.Author.Tests.{ltb-true, ltb-false}
 use Rattle.session.specs.declared.Session.{Session}
-use Rattle.lent.specs.Places.{sessionIn}
+use Rattle.session.specs.declared.Clock.{Clock}
+use Rattle.lent.specs.Places.{sessionIn, recordIn}
 
 same-cells : (xs ys : List ℕ) → length xs ≡ length ys → ((k : ℕ) → k < length xs → getD xs k 0 ≡ getD ys k 0) → xs ≡ ys
 same-cells [] [] e h = refl
@@ -71,3 +72,7 @@ module _ (numbers internal external numbers₁ internal₁ external₁ : List �
   pub external-told : external ≡ external₁
   unfolding sessionIn
   external-told = ap (λ (s : Session). s .external) e
+
+-- and the place of a clock record its bytes
+pub clock-told : (clock clock₁ : List ℕ) → recordIn clock ≡ recordIn clock₁ → clock ≡ clock₁
+clock-told clock clock₁ e = ap (λ (k : Clock). k .bytes) e

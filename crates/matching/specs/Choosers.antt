@@ -22,7 +22,8 @@ use Rattle.chart.specs.Within.{Within}
 use Rattle.rowset.specs.declared.RowSet.{RowSet}
 use Rattle.rowset.specs.Member.{rowsOf}
 use Rattle.rowset.specs.Search.{restFrom, rest-all}
-use Rattle.matching.specs.Chosen.{AreChosen, listOf, list-length, atomicRows, atomic-states, candidates-done}
+use Rattle.matching.specs.Climbed.{Climbs, Covers, climb-fresh, climb-choice, climb-nothing}
+use Rattle.matching.specs.Chosen.{AreChosen, listOf, list-length, list-push, atomicRows, atomic-states, candidates-done}
 use Rattle.matching.specs.Ready.{AddedOnce}
 
 -- ---- the places behind the first 256 items
@@ -45,6 +46,42 @@ noted items o len n i = cond (ltb len n) (noteOf items o i) items
 -- a choice is a number that has a place
 pub record Placed (items : List ℕ) (o : Option ℕ) : Type 0 where
   pub at : (t : ℕ) → o ≡ some t → 256 + t < length items
+
+-- ---- what note_choice is given, and what it makes
+
+pub record NoteReady (items : List ℕ) (len : ℕ) (o : Option ℕ) : Type 0 where
+  pub placed : Placed items o
+  pub room : len < length items
+
+-- the choice at the end of the list, and row i at its place
+unfoldable pub joined : List ℕ → ℕ → Option ℕ → ℕ → List ℕ
+joined items len none i = items
+joined items len (some t) i = set (set items len t) (256 + t) i
+
+unfoldable pub grown : ℕ → Option ℕ → ℕ
+grown len none = len
+grown len (some t) = len + 1
+
+pub record Noted (items : List ℕ) (len : ℕ) (o : Option ℕ) (i : ℕ) (after : List ℕ) (n : ℕ) : Type 0 where
+  pub is : after ≡ joined items len o i
+  pub count : n ≡ grown len o
+
+-- the place is there once the choice has joined
+pub note-place : (items : List ℕ) (len : ℕ) (o : Option ℕ) (t : ℕ) → NoteReady items len o → o ≡ some t → 256 + t < length (set items len t)
+note-place items len o t h e =
+    let m : 256 + t < length items = h .placed .at t e in
+    let s : length (set items len t) ≡ length items = length-set items len t in
+    omega arith
+
+pub note-nothing : (items : List ℕ) (len : ℕ) (o : Option ℕ) (i : ℕ) → o ≡ none → Noted items len o i items len
+unfolding joined grown
+note-nothing items len o i e = rw e (record { is = refl; count = refl })
+
+pub note-one : (items : List ℕ) (len : ℕ) (o : Option ℕ) (i t : ℕ) → o ≡ some t → Noted items len o i (set (set items len t) (256 + t) i) (len + 1)
+unfolding joined grown
+note-one items len o i t e = rw e (record { is = refl; count = refl })
+
+-- ---- what is noted, by how the list has grown
 
 module _ (items : List ℕ) (o : Option ℕ) (len n i : ℕ) where
   pub noted-same : (len < n → ⊥) → items ≡ noted items o len n i
@@ -154,6 +191,49 @@ module _ (c : Chart) (names : Names) (conf : List ℕ) (event : Option Name) whe
       rw (noted-as joined final o len n r q (omega arith), q)
       (choosing-turn active items (listOf items len) k r rest v joined len n l (a .behind) o (listOf joined n) e p (list-length items len (omega arith)) (list-length joined n (omega arith)) (a .is))
 
+  -- row r's climb: what it chose joins, and the row is noted
+  module _ (active : RowSet) (items : List ℕ) (len k r : ℕ) (rest : restFrom (rowsOf active) k ≡ r ∷ restFrom (rowsOf active) (r + 1)) (v : Choosing active items (listOf items len) k) (s : length items ≡ 768) (l : len < 256) (p : Placed items (choice c names conf event r)) (before rows : List ℕ) (w : Covers c names conf event before (listOf items len)) where
+    -- the items after, how many of them are in the list, and the rows climbed
+    pub record Joins (after : List ℕ) (n : ℕ) : Type 0 where
+      pub is : listOf after n ≡ addOnce (listOf items len) (choice c names conf event r)
+      pub room : length after ≡ 768
+      pub most : n ≤ len + 1
+      pub choosing : Choosing active after (listOf after n) (r + 1)
+
+    joins-nothing : Climbs c names conf event before r none rows → Joins items len
+    joins-nothing h =
+        let e : listOf items len ≡ addOnce (listOf items len) (choice c names conf event r) = climb-nothing c names conf event before (listOf items len) r none rows w h refl in
+        let a : AddedOnce items len (choice c names conf event r) items len = record { is = e; room = refl; most = omega arith; behind = λ j g. refl } in
+        record {
+          is = e;
+          room = s;
+          most = omega arith;
+          choosing = choosing-noted active items items items len len k r (choice c names conf event r) rest v a s l refl p (noted-same items (choice c names conf event r) len len r (λ g. omega arith));
+        }
+
+    joins-one : (t : ℕ) → Climbs c names conf event before r (some t) rows → Joins (set (set items len t) (256 + t) r) (len + 1)
+    unfolding addOnce
+    joins-one t h =
+        let e : choice c names conf event r ≡ some t = climb-choice c names conf event before (listOf items len) r (some t) rows w h t refl in
+        let m : mem t (listOf items len) ≡ false = climb-fresh c names conf event before (listOf items len) r (some t) rows w h t refl in
+        let q : length (set items len t) ≡ length items = length-set items len t in
+        let f : listOf (set items len t) (len + 1) ≡ addOnce (listOf items len) (some t) = list-push items len t (omega arith) ∙ rw m refl in
+        let a : AddedOnce items len (some t) (set items len t) (len + 1) =
+        record { is = f; room = q; most = omega arith; behind = λ j g. getD-set-other items len j t 0 (λ z. omega arith) } in
+        let b : Placed (set items len t) (some t) = record { at = λ u z. let x = p .at u (e ∙ z) in omega arith } in
+        let d : set (set items len t) (256 + t) r ≡ noted (set items len t) (some t) len (len + 1) r = noted-new (set items len t) (some t) len (len + 1) r t (omega arith) refl in
+        record {
+          is = noted-as (set items len t) (set (set items len t) (256 + t) r) (some t) len (len + 1) r d (omega arith) ∙ f ∙ ap (addOnce (listOf items len)) (sym e);
+          room = length-set (set items len t) (256 + t) r ∙ q ∙ s;
+          most = omega arith;
+          choosing = choosing-noted active items (set items len t) (set (set items len t) (256 + t) r) len (len + 1) k r (some t) rest v a s l e b d;
+        }
+
+    pub joins : (o : Option ℕ) (after : List ℕ) (n : ℕ) → Climbs c names conf event before r o rows → Noted items len o r after n → Joins after n
+    unfolding joined grown
+    joins none after n h z = rw (z .is, z .count) (joins-nothing h)
+    joins (some t) after n h z = rw (z .is, z .count) (joins-one t h)
+
 -- ---- what the contract says
 
 -- the candidates, and who chose each
@@ -174,3 +254,10 @@ module _ (c : Chart) (g : Sound c) (names : Names) (conf : List ℕ) (event : Op
   -- a choice is a transition of the chart, and there are at most 512
   pub choice-placed : (items : List ℕ) (i : ℕ) (o : Option ℕ) → length items ≡ 768 → c .transitions ≤ 512 → o ≡ choice c names conf event i → Placed items o
   choice-placed items i o l m e = record { at = λ t q. let h = choice-facts c names conf event (g .tree) i t (sym e ∙ q) .0 in omega arith }
+
+  pub note-ready : (items : List ℕ) (len i : ℕ) (o : Option ℕ) (before ts rows : List ℕ) → length items ≡ 768 → len < 256 → c .transitions ≤ 512 → Covers c names conf event before ts →
+      Climbs c names conf event before i o rows → NoteReady items len o
+  note-ready items len i o before ts rows l s m v k = record {
+    placed = record { at = λ t q. choice-placed items i (choice c names conf event i) l m refl .at t (climb-choice c names conf event before ts i o rows v k t q) };
+    room = omega arith;
+  }

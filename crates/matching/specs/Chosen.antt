@@ -2,7 +2,7 @@
 use mathlib.Core.Path.{_≡_, refl, sym, ap, _∙_}
 use mathlib.Core.Bool.{Bool, true, _&&_}
 use mathlib.Core.List.{List, [], _∷_}
-use mathlib.Core.Option.{Option, none, some}
+use mathlib.Core.Option.{Option}
 use Prim.Native.Nat.{ℕ, zero, suc, _+_, _≤_, _<_}
 use native.Mathlib.Numerals.{add-one}
 use native.Mathlib.Omega.{arith}
@@ -13,7 +13,7 @@ use Rattle.definition.specs.Rows.{fold, those, mem, isIn, append, intersection}
 use Rattle.definition.specs.Names.{Name}
 use Rattle.definition.specs.Chart.{Chart, Names}
 use Rattle.definition.specs.Tree.{isAtomic}
-use Rattle.follower.specs.Selection.{addOnce, choose, atomicStates, candidates}
+use Rattle.follower.specs.Selection.{choose, atomicStates, candidates}
 use Rattle.laws.specs.Bools.{no, and-left}
 use Rattle.laws.specs.Sets.{mem-those, mem-head, mem-intersection}
 use Rattle.laws.specs.Lists.{keep-cong, mem-cases, mem-tail}
@@ -61,12 +61,6 @@ pub chosen-low : (k : ℕ) (items : List ℕ) (n i : ℕ) → ChosenIn k items n
 chosen-low k items n i h l =
     let s = chosen-length k items n h in
     rw (list-at items n i l) (within-low k (listOf items n) i (h .inside) (omega arith))
-
--- ---- "A transition chosen twice counts once, at its first place." (51)
-
-pub once-none : (ts : List ℕ) → ts ≡ addOnce ts none
-unfolding addOnce
-once-none ts = refl
 
 -- ---- atomic states
 

@@ -5,6 +5,6 @@ pub mod Chosen
 pub mod Eventless
 pub mod Ready
 pub mod Descriptors
-pub mod Seen
+pub mod Climbed
 pub mod Choosers
 pub mod Histories

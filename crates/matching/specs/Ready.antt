@@ -1,7 +1,7 @@
 -- What the functions of this crate are given: a compiled chart with its names, and what is made of it once.
-use mathlib.Core.Path.{_≡_, refl}
+use mathlib.Core.Path.{_≡_}
 use mathlib.Core.List.{List}
-use mathlib.Core.Option.{Option, none}
+use mathlib.Core.Option.{Option}
 use Prim.Native.Nat.{ℕ, _+_, _≤_, _<_}
 use native.Mathlib.Omega.{arith}
 use lib.ListN.{length, getD}
@@ -12,7 +12,7 @@ use Rattle.rowset.specs.declared.RowSet.{RowSet}
 use Rattle.rowset.specs.Member.{rowsOf}
 use Rattle.chart.specs.Ready.{CompiledWith}
 use Rattle.matching.specs.Sources.{Indexed}
-use Rattle.matching.specs.Chosen.{listOf, once-none, atomicRows}
+use Rattle.matching.specs.Chosen.{listOf, atomicRows}
 
 pub record TransitionWith (chart names : List ℕ) (t : ℕ) : Type 0 where
   pub compiled : CompiledWith chart names
@@ -39,6 +39,3 @@ pub record AddedOnce (before : List ℕ) (len : ℕ) (choice : Option ℕ) (afte
   pub room : length after ≡ length before
   pub most : n ≤ len + 1
   pub behind : (k : ℕ) → len < k → getD after k 0 ≡ getD before k 0
-
-pub added-nothing : (items : List ℕ) (len : ℕ) (choice : Option ℕ) → choice ≡ none → AddedOnce items len choice items len
-added-nothing items len choice e = record { is = rw e (once-none (listOf items len)); room = refl; most = omega arith; behind = λ k l. refl }

@@ -158,3 +158,12 @@ indexed-transitions c starts i h l =
     let s = h .at i (omega arith) in
     let e = h .at (i + 1) (omega arith) in
     (transitions-are c i (getD starts i 0) (getD starts (i + 1) 0) s e, starts-order c i (getD starts i 0) (getD starts (i + 1) 0) s e, e .most)
+
+-- their source is that row
+pub indexed-source : (c : Chart) (starts : List ℕ) (i t : ℕ) → Indexed c starts → i < c .rows → getD starts i 0 ≤ t → t < getD starts (i + 1) 0 → source c t ≡ i
+indexed-source c starts i t h l lo hi =
+    let e = h .at (i + 1) (omega arith) in
+    let m : getD starts (i + 1) 0 ≤ c .transitions = e .most in
+    let u : source c t < i + 1 = e .below t hi in
+    let v : i ≤ source c t = h .at i (omega arith) .from t lo (omega arith) in
+    omega arith

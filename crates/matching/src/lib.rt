@@ -3,7 +3,7 @@ ghost use mathlib.Core.Path.{_≡_};
 ghost use lib.ListN.{length};
 ghost use Rattle.definition.specs.Rows.{any};
 ghost use Rattle.definition.specs.Tables.{rowCount, eventsAt, nameAt, chartOf};
-ghost use Rattle.follower.specs.Selection.{matchesAt, isTriggered, isTrue, isMatch, choice};
+ghost use Rattle.follower.specs.Selection.{matchesAt, isTriggered, isTrue, isMatch};
 ghost use Rattle.tables.specs.Ranges.{SlotIn, NameInList};
 ghost use Rattle.tables.specs.Parts.{conditionOf};
 ghost use Rattle.rowset.specs.Member.{rowsOf};
@@ -15,10 +15,10 @@ ghost use Rattle.matching.specs.Climb.{choiceOf};
 ghost use Rattle.chart.specs.Within.{Within};
 ghost use Rattle.matching.specs.Choosers.{AreChosenBy};
 ghost use Rattle.matching.specs.Ready.{TransitionWith, ClimbReady, Prepared};
-ghost use Rattle.matching.specs.Seen.{OnceReady, OnceDone};
+ghost use Rattle.matching.specs.Climbed.{Climbs};
 pub use choosers::CHOOSERS;
 pub use choosers::ITEMS;
-use choosers::note_chooser;
+use choosers::note_choice;
 use numbers::NameNumber;
 use numbers::Row;
 use numbers::Transition;
@@ -153,21 +153,34 @@ pub enum Choice {
     Of(Transition),
 }
 
-// The first match of row i's transitions and of its ancestors', nearest first.
-pub fn choice_of(
+// What a climb chooses, and the rows at which it and the climbs before it have been.
+pub struct Climbed {
+    pub choice: Choice,
+    pub rows: RowSet,
+}
+
+// The first match of row i's transitions and of its ancestors', nearest first. At a row where an earlier climb has been, the climb ends with
+// nothing: from there on it would choose what that one has chosen.
+fn climb(
     chart: &[u64],
     names: &[u8],
     starts: &[u16],
     conf: RowSet,
     event: &[u8],
+    climbed: RowSet,
     i: Row,
-) -> Choice
+) -> Climbed
     requires { ⌜ ClimbReady (now chart) (now names) (now starts) (i .0) ⌝ }
-    ensures { λ r. ⌜ choiceOf r ≡ choice (chartOf (now (chart .entry))) (nameAt (now (names .entry))) (rowsOf conf) (eventOf (now (event .entry))) (i .0) ⌝ }
+    ensures { λ r. ⌜ Climbs (chartOf (now (chart .entry))) (nameAt (now (names .entry))) (rowsOf conf) (eventOf (now (event .entry))) (rowsOf climbed) (i .0) (choiceOf (r .choice)) (rowsOf (r .rows)) ⌝ }
 {
     let mut chosen = Choice::Nothing;
+    let mut rows = climbed;
     let mut a = i.0;
     'climb: loop {
+        if rows.has(Row(a)) {
+            break;
+        }
+        rows = rows.with(Row(a));
         let at = a as usize;
         let mut t = starts[at];
         let end = starts[at + 1];
@@ -184,46 +197,13 @@ pub fn choice_of(
         }
         a = p as u8;
     }
-    chosen
+    Climbed {
+        choice: chosen,
+        rows: rows,
+    }
 }
 
 // ---- the candidates
-
-// The first len items, and the sources of the transitions among them. Every climb finds the same first match of a row, so that a transition is among them exactly if its source is.
-struct Kept {
-    len: usize,
-    seen: RowSet,
-}
-
-// The kept items with the choice of row i, unless it is there.
-fn add_once(
-    chart: &[u64],
-    names: &[u8],
-    conf: RowSet,
-    event: &[u8],
-    items: &mut [u16],
-    kept: Kept,
-    i: Row,
-    choice: Choice,
-) -> Kept
-    requires { ⌜ OnceReady (now chart) (now names) conf (now event) (now items) kept (i .0) choice ⌝ }
-    ensures { λ r. ⌜ OnceDone (now (chart .entry)) (now (names .entry)) conf (now (event .entry)) (now (items .entry)) kept choice (now (items .exit)) r ⌝ }
-{
-    let Choice::Of(t) = choice else {
-        return kept;
-    };
-    let source = tables::source_of(chart, t);
-    let seen = kept.seen;
-    if seen.has(source) {
-        return kept;
-    }
-    let len = kept.len;
-    items[len] = t.0;
-    Kept {
-        len: len + 1,
-        seen: seen.with(source),
-    }
-}
 
 // What each active atomic state chooses, in document order, each transition once, into the first of the lent items: how many they are. Behind
 // them, for each of these, the first row that chose it.
@@ -240,19 +220,17 @@ pub fn candidates(
     ensures { λ n. ⌜ AreChosenBy (chartOf (now (chart .entry))) (nameAt (now (names .entry))) (rowsOf conf) (eventOf (now (event .entry))) (now (items .exit)) n ⌝ }
 {
     let active = conf.intersection(atoms);
-    let mut kept = Kept {
-        len: 0,
-        seen: RowSet::empty(),
-    };
+    let mut climbed = RowSet::empty();
+    let mut len: usize = 0;
     let mut k: u16 = 0;
     loop {
         let Found::At(i) = active.next_from(k) else {
-            return kept.len;
+            return len;
         };
-        let choice = choice_of(chart, names, starts, conf, event, i);
-        let next = add_once(chart, names, conf, event, items, kept, i, choice);
-        note_chooser(items, choice, kept.len, next.len, i);
-        kept = next;
+        let found = climb(chart, names, starts, conf, event, climbed, i);
+        let choice = found.choice;
+        len = note_choice(items, len, choice, i);
+        climbed = found.rows;
         k = i.0 as u16 + 1;
     }
 }

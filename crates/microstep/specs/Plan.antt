@@ -5,7 +5,7 @@ use mathlib.Core.List.{List, [], _∷_, _++_}
 use Prim.Native.Nat.{ℕ, _^_, _<_, _≤_}
 use native.Mathlib.Omega.{arith}
 use lib.Dec.{ltb}
-use lib.ListN.{replicate}
+use lib.ListN.{length, replicate}
 use borrow.Author.Tests.{lt-ltb}
 use Rattle.definition.specs.Rows.{nothingAt, keep, mem, isEmpty, flat, union, minus, intersection}
 use Rattle.definition.specs.Chart.{Chart, isHistory}
@@ -27,9 +27,10 @@ use Rattle.chart.specs.Ready.{Ready}
 use Rattle.chart.specs.Within.{Within, Taken, within-none}
 use Rattle.paths.specs.History.{storedAt}
 use Rattle.effects.specs.declared.Tally.{Tally}
-use Rattle.effects.specs.Trace.{Places, Wrote, Room, wrote-both, room-first, room-next}
+use Rattle.effects.specs.Trace.{Places, Wrote, Room}
+use Rattle.effects.specs.Writing.{wrote-both, room-first, room-next}
 use Rattle.effects.specs.Entering.{entryIs, HistoryRows}
-use Rattle.effects.specs.Bounds.{round-room, entering-room}
+use Rattle.effects.specs.Bounds.{round-few, start-few as entries-few, round-room, entering-room}
 use Rattle.microstep.specs.declared.Plan.{Plan}
 use Rattle.microstep.specs.Stored.{after-stored}
 use Rattle.matching.specs.Histories.{isHistoryRow, historyRows}
@@ -61,6 +62,7 @@ pub record StartPlanned (c : Chart) (p : Plan) : Type 0 where
 pub record Small (t : Tally) : Type 0 where
   pub entries : t .entries ≤ 2 ^ 61
   pub names : t .names ≤ 2 ^ 61
+  pub timers : t .timers ≤ 2 ^ 61
 
 -- ---- the history after the exits, as a function of the row
 
@@ -169,7 +171,7 @@ plan-next c conf hist ts p h = rw (h .stay) (ap (λ (e : Entry). union (staying 
 module _ (chart : List ℕ) (p : Plan) (by : ℕ → ℕ) (chosen : List ℕ) (old : Places) (t : Tally) (h : PlanReady chart p) (w : Taken (transitionCount chart) chosen) (s : Small t) where
   whole : Room t (exiting (chartOf chart) (rowsOf (p .conf)) (rowsOf (p .out)) ++ flat (transitionEffects (chartOf chart) (rowsOf (p .stay)) by) chosen ++ entering (chartOf chart) (rowsOf (p .stay)) (entryIs (p .set) (p .«by_default»)) (rowsOf (p .fallen)))
   whole =
-      round-room chart (h .ready .tables) t (rowsOf (p .conf)) (p .out) by chosen (rowsOf (p .stay)) (p .set) (p .«by_default») (p .fallen) (s .entries) (s .names) (h .out) (w .most) (w .inside) (h .set) (h .fallen)
+      round-room chart (h .ready .tables) t (rowsOf (p .conf)) (p .out) by chosen (rowsOf (p .stay)) (p .set) (p .«by_default») (p .fallen) (s .entries) (s .names) (s .timers) (h .out) (w .most) (w .inside) (h .set) (h .fallen)
 
   before-entries : Room t (exiting (chartOf chart) (rowsOf (p .conf)) (rowsOf (p .out)) ++ flat (transitionEffects (chartOf chart) (rowsOf (p .stay)) by) chosen)
   before-entries = room-first t (exiting (chartOf chart) (rowsOf (p .conf)) (rowsOf (p .out)) ++ flat (transitionEffects (chartOf chart) (rowsOf (p .stay)) by) chosen) _ whole
@@ -230,9 +232,20 @@ pub start-effects : (c : Chart) (p : Plan) → StartPlanned c p → startEffects
 unfolding startEffects firstEffects
 start-effects c p h = rw (h .stay, h .entry, h .fallen)
 
+-- a round and a start have fewer effects than 32 bits count
+pub plan-few : (chart : List ℕ) (p : Plan) (by : ℕ → ℕ) (chosen : List ℕ) → PlanReady chart p → Taken (transitionCount chart) chosen → length (planEffects (chartOf chart) p by chosen) ≤ 4294967295
+unfolding planEffects
+plan-few chart p by chosen h w =
+    let l = round-few chart (h .ready .tables) (rowsOf (p .conf)) (p .out) by chosen (rowsOf (p .stay)) (p .set) (p .«by_default») (p .fallen) (h .out) (w .most) (w .inside) (h .set) (h .fallen) in
+    omega arith
+
+pub start-few : (chart : List ℕ) (p : Plan) → PlanReady chart p → length (startEffects (chartOf chart) p) ≤ 4294967295
+unfolding startEffects
+start-few chart p h = let l = entries-few chart (h .ready .tables) (rowsOf (p .stay)) (p .set) (p .«by_default») (p .fallen) (h .set) (h .fallen) in omega arith
+
 pub start-room : (chart : List ℕ) (p : Plan) (t : Tally) → PlanReady chart p → Small t → Room t (startEffects (chartOf chart) p)
 unfolding startEffects
-start-room chart p t h s = entering-room chart (h .ready .tables) t (rowsOf (p .stay)) (p .set) (p .«by_default») (p .fallen) (s .entries) (s .names) (h .set) (h .fallen)
+start-room chart p t h s = entering-room chart (h .ready .tables) t (rowsOf (p .stay)) (p .set) (p .«by_default») (p .fallen) (s .entries) (s .names) (s .timers) (h .set) (h .fallen)
 
 pub no-histories : (chart xs : List ℕ) → Ready chart → xs ≡ [] → HistoryRows chart xs
 unfolding mem

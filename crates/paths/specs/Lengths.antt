@@ -6,7 +6,7 @@ use Prim.Native.Nat.{ℕ, _+_, _≤_}
 use native.Mathlib.Omega.{arith}
 use lib.ListN.{length, length-append}
 use Rattle.definition.specs.declared.Action.{Action}
-use Rattle.definition.specs.declared.Action.the-variants.{Raise, Host, If, ElseIf, Else, End}
+use Rattle.definition.specs.declared.Action.the-variants.{Raise, Host, If, ElseIf, Else, End, Send, Cancel}
 use Rattle.definition.specs.declared.Reach.{Reach}
 use Rattle.definition.specs.declared.Reach.the-variants.{Live, Waiting, Past}
 use Rattle.definition.specs.Chart.{Chart, kind, parent, isRoot, isFinal}
@@ -32,6 +32,8 @@ perform-few Live (If i) = omega arith
 perform-few Live (ElseIf i) = omega arith
 perform-few Live Else = omega arith
 perform-few Live End = omega arith
+perform-few Live (Send n delay id) = omega arith
+perform-few Live (Cancel n) = omega arith
 perform-few (Waiting n) a = omega arith
 perform-few (Past n) a = omega arith
 

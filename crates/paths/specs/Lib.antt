@@ -1,3 +1,4 @@
 pub mod Paths
 pub mod History
 pub mod Lengths
+pub mod Timing

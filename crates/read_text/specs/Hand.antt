@@ -9,7 +9,7 @@ use lib.ListN.{length, take, drop, length-append}
 use lib.Seq.{take-at}
 use borrow.Author.Tests.{lt-leb, le-leb}
 use Rattle.definition.specs.declared.Answer.{Answer}
-use Rattle.definition.specs.declared.Answer.the-variants.{Done, Size, Names, Tree, Lists, Transitions, NotAName, Full, BadChart, BadSession, NoRoom, SessionEnded}
+use Rattle.definition.specs.declared.Answer.the-variants.{Done, Size, Names, Tree, Lists, Transitions, NotAName, Full, BadChart, BadSession, NoRoom, SessionEnded, ClockBack}
 use Rattle.definition.specs.Rules.{keepsRules}
 use Rattle.definition.specs.Answers.{answerNo}
 use Rattle.reading.specs.Tags.{tagsOf}
@@ -127,6 +127,7 @@ module _ (text slots : List ℕ) (m : ℕ) (work : List ℕ) (size : ℕ) (names
           done BadSession q = absurd (omega arith)
           done NoRoom q = absurd (omega arith)
           done SessionEnded q = absurd (omega arith)
+          done ClockBack q = absurd (omega arith)
 
           pub hand-tables : n ≡ 0 → (place' namePlace' : List ℕ) → place' ≡ take size work ++ drop size place → namePlace' ≡ take (m * 64) names' ++ drop (m * 64) namePlace →
               outcomeOf (record { answer = 0; offset = 0; cells = size; bytes = m * 64 }) place' namePlace' ≡ callOf text place namePlace

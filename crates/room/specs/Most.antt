@@ -6,17 +6,13 @@ use Prim.Native.Nat.{ℕ, zero, suc, _+_, _*_, _≤_, _<_}
 use native.Mathlib.Omega.{arith}
 use lib.ListN.{length}
 use Rattle.definition.specs.Rows.{from}
-use Rattle.definition.specs.Tables.{mostRows, mostTransitions, mostActions, rowCount, transitionCount, blockAt, entryAt, exitAt, listBlockAt, transitionBlockAt, actionAt, chartOf}
+use Rattle.definition.specs.Tables.{mostActions, rowCount, transitionCount, blockAt, entryAt, exitAt, listBlockAt, transitionBlockAt, actionAt, chartOf}
 use Rattle.definition.specs.Compiled.{ownNumbers, isCompiled}
 use Rattle.laws.specs.Maps.{map-length}
 use Rattle.tables.specs.Ranges.{InTables, BlockFits, row-fits, transition-fits}
 use Rattle.chart.specs.Own.{own-chart, compiled-ready}
 use Rattle.room.specs.Sums.{total, fold-total}
-use Rattle.room.specs.Room.{rowRoom, transitionRoom, addRow, addTransition, rowsRoom, transitionsRoom, roomFor, roomOf}
-
--- as many rows and transitions as there may be, each with full blocks: 43,008
-abbrev pub mostRoom : ℕ
-mostRoom = mostRows * (4 + 3 * mostActions) + mostTransitions * (2 + mostActions)
+use Rattle.room.specs.Room.{rowRoom, transitionRoom, addRow, addTransition, rowsRoom, transitionsRoom, roomFor, roomOf, mostRowRoom, mostTransitionRoom, mostRoom}
 
 -- n numbers from i on, each with at most so much
 total-most : (f : ℕ → ℕ) (most n i : ℕ) → ((k : ℕ) → k < i + n → f k ≤ most) → total f (from n i) ≤ n * most
@@ -32,7 +28,7 @@ module _ (numbers : List ℕ) (h : InTables numbers) where
   unfolding blockAt
   block-most start count f = let e = map-length (actionAt numbers) count start in let s = f .short in omega arith
 
-  row-most : (i : ℕ) → i < rowCount numbers → rowRoom (chartOf numbers) i ≤ 4 + 3 * mostActions
+  row-most : (i : ℕ) → i < rowCount numbers → rowRoom (chartOf numbers) i ≤ mostRowRoom
   unfolding rowRoom entryAt exitAt listBlockAt
   row-most i l =
       let f = row-fits numbers i (record { tables = h; below = l }) in
@@ -41,7 +37,7 @@ module _ (numbers : List ℕ) (h : InTables numbers) where
       let d = block-most _ _ (f .block) in
       omega arith
 
-  transition-most : (t : ℕ) → t < transitionCount numbers → transitionRoom (chartOf numbers) t ≤ 2 + mostActions
+  transition-most : (t : ℕ) → t < transitionCount numbers → transitionRoom (chartOf numbers) t ≤ mostTransitionRoom
   unfolding transitionRoom transitionBlockAt
   transition-most t l = let a = block-most _ _ (transition-fits numbers t (record { tables = h; below = l }) .block) in omega arith
 
@@ -50,8 +46,8 @@ module _ (numbers : List ℕ) (h : InTables numbers) where
   tables-most =
       let a = fold-total (addRow (chartOf numbers)) (rowRoom (chartOf numbers)) (λ s i. refl) 0 (from (rowCount numbers) 0) in
       let b = fold-total (addTransition (chartOf numbers)) (transitionRoom (chartOf numbers)) (λ s t. refl) 0 (from (transitionCount numbers) 0) in
-      let d = total-most (rowRoom (chartOf numbers)) (4 + 3 * mostActions) (rowCount numbers) 0 (λ i l. row-most i (omega arith)) in
-      let e = total-most (transitionRoom (chartOf numbers)) (2 + mostActions) (transitionCount numbers) 0 (λ t l. transition-most t (omega arith)) in
+      let d = total-most (rowRoom (chartOf numbers)) mostRowRoom (rowCount numbers) 0 (λ i l. row-most i (omega arith)) in
+      let e = total-most (transitionRoom (chartOf numbers)) mostTransitionRoom (transitionCount numbers) 0 (λ t l. transition-most t (omega arith)) in
       let r = h .sized .counts .rows in
       let t = h .sized .counts .transitions in
       omega arith

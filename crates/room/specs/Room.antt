@@ -2,20 +2,28 @@
 -- is taken at most once, and the block of each list is performed at most once.
 use mathlib.Core.Bool.{cond}
 use mathlib.Core.List.{List}
-use Prim.Native.Nat.{ℕ, _+_}
+use Prim.Native.Nat.{ℕ, _+_, _*_}
 use lib.ListN.{length}
 use Rattle.definition.specs.Rows.{fold, from}
 use Rattle.definition.specs.Chart.{Chart}
-use Rattle.definition.specs.Tables.{chartOf}
+use Rattle.definition.specs.Tables.{mostRows, mostTransitions, mostActions, chartOf}
 use Rattle.definition.specs.Compiled.{ownNumbers, isCompiled}
 
--- of a row: it is exited, it is entered, two done events come with a final, and the actions of its three blocks
-unfoldable pub rowRoom : Chart → ℕ → ℕ
-rowRoom c i = 4 + length ((c .row) i .exit) + length ((c .row) i .entry) + length ((c .row) i .block)
+-- of a row beside its blocks: it is exited, it is entered, two done events come with a final
+abbrev pub ofRow : ℕ
+ofRow = 4
 
--- of a transition: it is taken, a row chose it, and the actions of its block
+-- of a transition beside its block: it is taken, and a row chose it
+abbrev pub ofTransition : ℕ
+ofTransition = 2
+
+-- of a row: also the actions of its three blocks
+unfoldable pub rowRoom : Chart → ℕ → ℕ
+rowRoom c i = ofRow + length ((c .row) i .exit) + length ((c .row) i .entry) + length ((c .row) i .block)
+
+-- of a transition: also the actions of its block
 unfoldable pub transitionRoom : Chart → ℕ → ℕ
-transitionRoom c t = 2 + length ((c .transition) t .block)
+transitionRoom c t = ofTransition + length ((c .transition) t .block)
 
 unfoldable pub addRow : Chart → ℕ → ℕ → ℕ
 addRow c sum i = sum + rowRoom c i
@@ -35,3 +43,21 @@ roomFor c = rowsRoom c + transitionsRoom c
 -- of a lent compiled chart; 0 where what is lent is none
 unfoldable pub roomOf : List ℕ → List ℕ → ℕ
 roomOf chart names = cond (isCompiled chart names) (roomFor (chartOf (ownNumbers chart))) 0
+
+-- ---- the most of each: full blocks, and as many rows and transitions as rule 1 allows
+
+abbrev pub mostRowRoom : ℕ
+mostRowRoom = ofRow + 3 * mostActions
+
+abbrev pub mostTransitionRoom : ℕ
+mostTransitionRoom = ofTransition + mostActions
+
+abbrev pub mostRowsRoom : ℕ
+mostRowsRoom = mostRows * mostRowRoom
+
+abbrev pub mostTransitionsRoom : ℕ
+mostTransitionsRoom = mostTransitions * mostTransitionRoom
+
+-- of a chart: 43,008
+abbrev pub mostRoom : ℕ
+mostRoom = mostRowsRoom + mostTransitionsRoom

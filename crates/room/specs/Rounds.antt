@@ -14,14 +14,14 @@ use Rattle.definition.specs.Rows.{any, isEmpty, flat, backwards}
 use Rattle.definition.specs.Names.{Name}
 use Rattle.definition.specs.Chart.{Chart, Names}
 use Rattle.follower.specs.Selection.{chooser}
-use Rattle.follower.specs.Blocks.{Effect, exited, taken, entered, acted, raised, done, chosen, queued}
+use Rattle.follower.specs.Blocks.{Effect, exited, taken, entered, acted, raised, done, chosen, sent, cancelled, queued}
 use Rattle.follower.specs.Microstep.{storedIn, exitEffects, exiting, effects, configurationAfter}
-use Rattle.follower.specs.Follower.{Follower, mostQueued, modeOf, Round, idle, over, did, taking, selectedBy, byExternal, byInternal, byEventless, closingRound, roundIn, round, stopped, counted, run}
+use Rattle.follower.specs.Follower.{Follower, mostQueued, modeOf, Round, idle, over, did, taking, selectedBy, byExternal, byInternal, byEventless, closingRound, roundIn, round, Timed, timed, stopped, counted, run}
 use Rattle.follower.specs.Legal.{WellFormed}
 use Rattle.laws.specs.Bools.{no}
 use Rattle.laws.specs.Lists.{list-full}
 use Rattle.laws.specs.Folds.{backwards-length}
-use Rattle.theory.specs.Runs.{round-cases, run-zero, run-cases, run-room, run-more}
+use Rattle.theory.specs.Runs.{round-cases, nextOf, run-zero, run-cases, run-room, run-more}
 use Rattle.theory.specs.Shown.{ifTaken, takenIn, taken-effects}
 
 -- the names that wait in both queues
@@ -44,6 +44,8 @@ one-use c names (acted n) = omega arith
 one-use c names (raised n) = omega arith
 one-use c names (done i) = omega arith
 one-use c names (chosen i) = omega arith
+one-use c names (sent n delay id) = omega arith
+one-use c names (cancelled n) = omega arith
 
 uses : (c : Chart) (names : Names) (es : List Effect) → length (flat (queued c names) es) + length (takenIn es) ≤ length es
 unfolding flat takenIn
@@ -138,23 +140,23 @@ module _ (c : Chart) (names : Names) (s : Follower) where
 
 module _ (c : Chart) (names : Names) where
   -- the rounds are no more than the names that waited and the entries
-  pub run-spent : (k : ℕ) (s : Follower) (room : ℕ) → Closes s → (run c names k s room) .rounds ≤ waiting s + length ((run c names k s room) .effects)
-  unfolding stopped counted
+  pub run-spent : (k : ℕ) (s : Timed) (room : ℕ) → Closes (s .follower) → (run c names k s room) .rounds ≤ waiting (s .follower) + length ((run c names k s room) .effects)
+  unfolding stopped counted nextOf timed
   run-spent zero s room h = rw (run-zero c names s room) (omega arith)
   run-spent (suc k) s room h =
-      run-cases c names (λ r. r .rounds ≤ waiting s + length (r .effects)) k s room (λ e. omega arith) (λ e. omega arith) (λ next es a e q. omega arith)
+      run-cases c names (λ r. r .rounds ≤ waiting (s .follower) + length (r .effects)) k s room (λ e. omega arith) (λ e. omega arith) (λ next es a e q. omega arith)
       (λ next es e q.
-      let i = run-spent k next (room - length es) (subst (ClosesAfter c names s) e (round-closes c names s)) in
-      let l = subst (Spent c names s) e (round-spent c names s h) in
-      let p = length-append es ((run c names k next (room - length es)) .effects) in
+      let i = run-spent k (nextOf c names s next es) (room - length es) (subst (ClosesAfter c names (s .follower)) e (round-closes c names (s .follower))) in
+      let l = subst (Spent c names (s .follower)) e (round-spent c names (s .follower) h) in
+      let p = length-append es ((run c names k (nextOf c names s next es) (room - length es)) .effects) in
       omega arith)
 
   -- so they are no more than the names that waited and the room
-  pub run-bounded : (k : ℕ) (s : Follower) (room : ℕ) → Closes s → (run c names k s room) .rounds ≤ waiting s + room
+  pub run-bounded : (k : ℕ) (s : Timed) (room : ℕ) → Closes (s .follower) → (run c names k s room) .rounds ≤ waiting (s .follower) + room
   run-bounded k s room h = let a = run-spent k s room h in let b = run-room c names k s room in omega arith
 
   -- and a run that is asked for more does not answer more: it ends idle, ended or refused
-  pub run-stops : (k : ℕ) (s : Follower) (room : ℕ) → Closes s → waiting s + room < k → (run c names k s room) .status ≡ More → ⊥
+  pub run-stops : (k : ℕ) (s : Timed) (room : ℕ) → Closes (s .follower) → waiting (s .follower) + room < k → (run c names k s room) .status ≡ More → ⊥
   run-stops k s room h l m = let a = run-bounded k s room h in let e = run-more c names k s room m in omega arith
 
 -- ---- a well-formed session

@@ -2,33 +2,37 @@
 ghost use mathlib.Core.Path.{_≡_};
 ghost use Rattle.definition.specs.Tables.{chartOf};
 ghost use Rattle.tables.specs.Ranges.{InTables, RowIn, TransitionIn};
-ghost use Rattle.room.specs.Room.{rowRoom, transitionRoom, rowsRoom, transitionsRoom, roomOf};
+ghost use Rattle.room.specs.Room.{rowRoom, transitionRoom, rowsRoom, transitionsRoom, roomOf, mostRowRoom, mostTransitionRoom, mostRowsRoom, mostTransitionsRoom};
 ghost use Rattle.room.specs.Adding.{Few};
 use numbers::Row;
 use numbers::Transition;
 
-// A row's exit and entry, two done events, and the actions of its three blocks.
+// Of a row beside its blocks: its exit, its entry, two done events.
+const OF_ROW: usize = 4;
+
+// Of a transition beside its block: itself, and the row that chose it.
+const OF_TRANSITION: usize = 2;
+
 fn row_room(chart: &[u64], r: Row) -> usize
     requires { ⌜ RowIn (now chart) (r .0) ⌝ }
-    ensures { λ n. ⌜ Few (rowRoom (chartOf (now (chart .entry))) (r .0)) 100 n ⌝ }
+    ensures { λ n. ⌜ Few (rowRoom (chartOf (now (chart .entry))) (r .0)) mostRowRoom n ⌝ }
 {
     let exit = tables::actions_in(tables::exit_block_of(chart, r));
     let entry = tables::actions_in(tables::entry_block_of(chart, r));
     let list = tables::actions_in(tables::list_block_of(chart, r));
-    4 + exit + entry + list
+    OF_ROW + exit + entry + list
 }
 
-// A transition, the row that chose it, and the actions of its block.
 fn transition_room(chart: &[u64], t: Transition) -> usize
     requires { ⌜ TransitionIn (now chart) (t .0) ⌝ }
-    ensures { λ n. ⌜ Few (transitionRoom (chartOf (now (chart .entry))) (t .0)) 34 n ⌝ }
+    ensures { λ n. ⌜ Few (transitionRoom (chartOf (now (chart .entry))) (t .0)) mostTransitionRoom n ⌝ }
 {
-    2 + tables::actions_in(tables::transition_block_of(chart, t))
+    OF_TRANSITION + tables::actions_in(tables::transition_block_of(chart, t))
 }
 
 fn rows_room(chart: &[u64]) -> usize
     requires { ⌜ InTables (now chart) ⌝ }
-    ensures { λ n. ⌜ Few (rowsRoom (chartOf (now (chart .entry)))) 25600 n ⌝ }
+    ensures { λ n. ⌜ Few (rowsRoom (chartOf (now (chart .entry)))) mostRowsRoom n ⌝ }
 {
     let rows = tables::row_count(chart) as u16;
     let mut sum: usize = 0;
@@ -42,7 +46,7 @@ fn rows_room(chart: &[u64]) -> usize
 
 fn transitions_room(chart: &[u64]) -> usize
     requires { ⌜ InTables (now chart) ⌝ }
-    ensures { λ n. ⌜ Few (transitionsRoom (chartOf (now (chart .entry)))) 17408 n ⌝ }
+    ensures { λ n. ⌜ Few (transitionsRoom (chartOf (now (chart .entry)))) mostTransitionsRoom n ⌝ }
 {
     let n = tables::transition_count(chart) as u16;
     let mut sum: usize = 0;

@@ -71,6 +71,11 @@ accepted-put numbers names buffer h l m =
     let text = print (content numbers names) in
     accepted-call numbers names buffer h ∙ outcome-put text buffer (and-true (leb (length text) longest) (leb (length text) (length buffer)) (le-leb (length text) longest l) (le-leb (length text) (length buffer) m))
 
+-- "From an accepted chart write SCXML text" (4.2): every accepted chart can be written. Where its text has at most the reader's 32,768 bytes the call answers 0 for
+-- every buffer that is long enough; what it then leaves there says written-text
+pub accepted-writes : (numbers names buffer : List ℕ) → keepsRules numbers names ≡ Done → length (print (content numbers names)) ≤ longest → length (print (content numbers names)) ≤ length buffer → callOf numbers names buffer .answer ≡ 0
+accepted-writes numbers names buffer h l m = ap (λ (o : Outcome). o .answer) (accepted-put numbers names buffer h l m)
+
 -- ---- the text in the buffer
 
 -- "From an accepted chart write SCXML text" (4.2): where the answer is 0 the chart is accepted, its text has at most the reader's 32,768 bytes and stands in the

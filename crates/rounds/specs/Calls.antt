@@ -1,24 +1,33 @@
--- What a start and a run over the places of a session hand back.
+-- A session with its clock record in their places, and what a start and a run over them hand back.
 use mathlib.Core.Path.{_≡_}
 use mathlib.Core.List.{List}
 use Prim.Native.Nat.{ℕ}
 use lib.ListN.{length}
 use Rattle.follower.specs.Follower as follower
-use Rattle.state.specs.State.{Spells, traceWith}
+use Rattle.clock.specs.Records.{clockBytes, clockIn}
+use Rattle.state.specs.State.{Spells, traceWith, stateAt}
 use Rattle.rounds.specs.declared.Begun.{Begun}
 use Rattle.rounds.specs.declared.Progress.{Progress}
 
+-- the state that the places spell, for this chart
+abbrev pub timedAt : List ℕ → List ℕ → List ℕ → List ℕ → List ℕ → follower.Timed
+timedAt chart numbers internal external clock = record { follower = stateAt chart numbers internal external; clock = clockIn clock }
+
+-- the places spell the state s
+abbrev pub SpellsTimed : follower.Timed → List ℕ → List ℕ → List ℕ → List ℕ → Type 0
+SpellsTimed s numbers internal external clock = Spells (s .follower) numbers internal external × (clock ≡ clockBytes (s .clock))
+
 -- what is handed back after the definition's run r, with the trace that was lent as old
-pub record RunDone (r : follower.Ran) (p : Progress) (numbers internal external old trace : List ℕ) : Type 0 where
+pub record RunDone (r : follower.Ran) (p : Progress) (numbers internal external clock old trace : List ℕ) : Type 0 where
   pub status : p .status ≡ r .status
   pub rounds : p .rounds ≡ r .rounds
   pub count : p .count ≡ length (r .effects)
-  pub state : Spells (r .follower) numbers internal external
+  pub state : SpellsTimed (r .state) numbers internal external clock
   pub written : trace ≡ traceWith old (r .effects)
 
--- the same after the definition's start, from a session of zeros: the external queue is not lent, since it stays
-pub record StartDone (r : follower.Started) (b : Begun) (numbers internal external old trace : List ℕ) : Type 0 where
+-- the same after the definition's start, from a session and a clock record of zeros: the external queue is not lent, since it stays
+pub record StartDone (r : follower.Started) (b : Begun) (numbers internal external clock old trace : List ℕ) : Type 0 where
   pub answer : b .answer ≡ r .answer
   pub count : b .count ≡ length (r .effects)
-  pub state : Spells (r .follower) numbers internal external
+  pub state : SpellsTimed (r .state) numbers internal external clock
   pub written : trace ≡ traceWith old (r .effects)

@@ -1,5 +1,6 @@
 -- The round of a closing session, and a round of any.
 use mathlib.Core.Path.{_≡_, refl, sym, ap, subst, _∙_}
+use mathlib.Core.Bool.{false}
 use mathlib.Core.List.{List, []}
 use mathlib.Core.Option.{none}
 use Prim.Native.Nat.{ℕ, _+_, _≤_}
@@ -9,14 +10,16 @@ use lib.ListN.{length, replicate}
 use Rattle.definition.specs.declared.Mode.{Mode}
 use Rattle.definition.specs.declared.Mode.the-variants.{Running, Closing, Ended}
 use Rattle.definition.specs.Rows.{mem}
+use Rattle.definition.specs.Chart.{Names}
 use Rattle.definition.specs.Tables.{rowCount, nameAt, chartOf}
 use Rattle.definition.specs.Answers.{modeNo}
 use Rattle.definition.specs.Compiled.{words}
 use Rattle.follower.specs.Blocks.{Effect}
 use Rattle.follower.specs.Microstep.{exiting}
-use Rattle.follower.specs.Follower.{Follower, Round, closingRound, roundIn, round, refusalIf, refusal}
+use Rattle.follower.specs.Clock.{Table, emptied}
+use Rattle.follower.specs.Follower.{Follower, Round, closingRound, roundIn, round, refusalIf, refusal, Timed, tableIn, timed}
 use Rattle.laws.specs.Lists.{set-below}
-use Rattle.theory.specs.Runs.{not-refused}
+use Rattle.theory.specs.Runs.{not-refused, nextOf, refusedBy}
 use Rattle.rowset.specs.declared.RowSet.{RowSet}
 use Rattle.rowset.specs.Member.{rowsOf}
 use Rattle.chart.specs.Ready.{Ready}
@@ -24,12 +27,14 @@ use Rattle.matching.specs.Chosen.{Within}
 use Rattle.effects.specs.declared.Tally.{Tally}
 use Rattle.queue.specs.Queues.{queueBytes, queue-none}
 use Rattle.state.specs.declared.State.{State}
-use Rattle.state.specs.State.{historyWords, numbersOf, configurationIn, historyIn, modeIn, stateAt, HoldsAt}
+use Rattle.clock.specs.Records.{clockBytes, clockIn, ClockHolds, emptiedBytes}
+use Rattle.state.specs.State.{historyWords, numbersOf, configurationIn, historyIn, modeIn, Spells, stateAt, HoldsAt}
 use Rattle.state.specs.Found.{configuration-set}
 use Rattle.state.specs.Places.{internal-size, external-size, reads-history, reads-mode, reads-configuration}
 use Rattle.rounds.specs.declared.Outcome.{Outcome}
 use Rattle.rounds.specs.declared.Outcome.the-variants.{Over, Did}
 use Rattle.rounds.specs.declared.Turn.{Turn}
+use Rattle.rounds.specs.Calls.{timedAt, SpellsTimed}
 use Rattle.rounds.specs.Turns.{judged, judged-none, untouched, Turned, turned-over, turned-refused, turned-did}
 use Rattle.rounds.specs.Traces.{Filled, wrote-entries, wrote-trace}
 use Rattle.rounds.specs.Judging.{Counted}
@@ -40,6 +45,11 @@ pub record IsEnded (s : State) : Type 0 where
   pub internal : s .internal ≡ 0
   pub external : s .external ≡ 0
   pub mode : s .mode ≡ Ended
+
+-- the round of a closing session came to turn t, whatever the names are: its sends and cancels are shown alone
+pub record Closed (chart numbers internal external clock : List ℕ) (t : Turn) (numbersNow internalNow externalNow clockNow old new : List ℕ) : Type 0 where
+  pub turned : (names : Names) →
+      Turned (chartOf chart) names (closingRound (chartOf chart) (stateAt chart numbers internal external)) (timedAt chart numbers internal external clock) t numbersNow internalNow externalNow clockNow old new
 
 abbrev closedBy : Follower → Follower
 closedBy f = record { configuration = []; history = f .history; internal = []; external = []; mode = Ended }
@@ -78,31 +88,62 @@ module _ (chart numbers internal external : List ℕ) (r : Ready chart) (h : Hol
     abbrev es : List Effect
     es = exiting (chartOf chart) (f .configuration) (f .configuration)
 
-    module _ (old : List ℕ) (t : Tally) (k : Counted t (exiting (chartOf chart) (rowsOf conf) (rowsOf conf))) (o : Outcome)
-        (j : o ≡ judged (refusalIf (ltb 32 (0 + 0)) (ltb (length old) (t .entries)))) where
-      closing-judged : o ≡ judged (refusal (length old) (closedBy f) es)
-      unfolding refusal
-      closing-judged = j ∙ rw (k .entries, rows-are)
+    module _ (closing : modeIn numbers ≡ Closing) (clock : List ℕ) (k : ClockHolds Closing clock) where
+      abbrev s : Timed
+      s = timedAt chart numbers internal external clock
 
-      pub closed-refused : (u : Turn) → u ≡ untouched o → (o ≡ Did → ⊥) → Turned (closingRound (chartOf chart) f) f u numbers internal external old old
-      closed-refused u y z = turned-refused (closingRound (chartOf chart) f) f u numbers internal external old (h .spells) o y (closedBy f) es (unfold closingRound in refl) closing-judged z
+      mode-is : f .mode ≡ Closing
+      mode-is = sym (reads-mode f numbers internal external (h .spells)) ∙ closing
 
-      pub closed-did : o ≡ Did → (e : State) → IsEnded e → (cells inner outer new : List ℕ) (w : Tally) → Filled old new w (exiting (chartOf chart) (rowsOf conf) (rowsOf conf)) →
-          inner ≡ replicate (length internal) 0 → outer ≡ replicate (length external) 0 →
-          cells ≡ numbersOf (words (rowsOf (e .configuration))) (historyIn numbers) (e .internal) (e .external) (modeNo (e .mode)) →
-          Turned (closingRound (chartOf chart) f) f (record { outcome = Did; count = w .entries }) cells inner outer old new
-      closed-did q e i cells inner outer new w v x y n =
-          let goes : refusal (length old) (closedBy f) es ≡ none = judged-none _ (sym closing-judged ∙ q) in
-          let roomy : length es ≤ length old = not-refused (length old) (closedBy f) es goes .roomy in
-          let u : Filled old new w es = rw rows-are at v in
-          turned-did (closingRound (chartOf chart) f) f (record { outcome = Did; count = w .entries }) cells inner outer old new (closedBy f) es
-          (unfold closingRound in refl) goes refl
-          (record {
-            numbersAre = ended-numbers cells (historyIn numbers) e (f .history) n i (reads-history f numbers internal external (h .spells));
-            internalIs = no-names internal inner x (internal-size f numbers internal external (h .spells));
-            externalIs = no-names external outer y (external-size f numbers internal external (h .spells));
-          })
-          (wrote-entries old new w es roomy u) (wrote-trace old new w es roomy u)
+      -- nothing is sent: the table is never full, and is emptied
+      table-is : (names : Names) → tableIn (f .mode) names (clockIn clock) es ≡ emptied
+      unfolding tableIn
+      table-is names = ap (λ (m : Mode). tableIn m names (clockIn clock) es) mode-is
+
+      module _ (old : List ℕ) (t : Tally) (n : Counted t (exiting (chartOf chart) (rowsOf conf) (rowsOf conf))) (o : Outcome)
+          (j : o ≡ judged (refusalIf (ltb 32 (0 + 0)) (ltb (length old) (t .entries)))) where
+        refused-is : (names : Names) → refusal (length old) (closedBy f) false es ≡ refusedBy (chartOf chart) names (length old) s (closedBy f) es
+        unfolding refusedBy
+        refused-is names = ap (λ (x : Table). refusal (length old) (closedBy f) (x .full) es) (sym (table-is names))
+
+        closing-judged : (names : Names) → o ≡ judged (refusedBy (chartOf chart) names (length old) s (closedBy f) es)
+        unfolding refusal
+        closing-judged names = j ∙ rw (n .entries, rows-are) (ap judged (refused-is names))
+
+        pub closed-refused : (u : Turn) → u ≡ untouched o → (o ≡ Did → ⊥) → Closed chart numbers internal external clock u numbers internal external clock old old
+        closed-refused u y z = record {
+          turned = λ names.
+              turned-refused (chartOf chart) names (closingRound (chartOf chart) f) s u numbers internal external clock old (h .spells, k .spells) o y (closedBy f) es (unfold closingRound in refl) (closing-judged names) z;
+        }
+
+        spells-next : (names : Names) (cells inner outer clockNow : List ℕ) → Spells (closedBy f) cells inner outer → clockNow ≡ emptiedBytes clock →
+            SpellsTimed (nextOf (chartOf chart) names s (closedBy f) es) cells inner outer clockNow
+        unfolding nextOf timed emptiedBytes
+        spells-next names cells inner outer clockNow a b =
+            (a, b ∙ ap (λ (x : Table). clockBytes (record { ticks = (clockIn clock) .ticks; pending = x .pending })) (sym (table-is names)))
+
+        pub closed-did : o ≡ Did → (e : State) → IsEnded e → (cells inner outer clockNow new : List ℕ) (w : Tally) → Filled old new w (exiting (chartOf chart) (rowsOf conf) (rowsOf conf)) →
+            inner ≡ replicate (length internal) 0 → outer ≡ replicate (length external) 0 → clockNow ≡ emptiedBytes clock →
+            cells ≡ numbersOf (words (rowsOf (e .configuration))) (historyIn numbers) (e .internal) (e .external) (modeNo (e .mode)) →
+            Closed chart numbers internal external clock (record { outcome = Did; count = w .entries }) cells inner outer clockNow old new
+        closed-did q e i cells inner outer clockNow new w v x y z n = record { turned = λ names. go names }
+          where
+            u : Filled old new w es
+            u = rw rows-are at v
+
+            go : (names : Names) → Turned (chartOf chart) names (closingRound (chartOf chart) f) s (record { outcome = Did; count = w .entries }) cells inner outer clockNow old new
+            go names =
+                let goes : refusedBy (chartOf chart) names (length old) s (closedBy f) es ≡ none = judged-none _ (sym (closing-judged names) ∙ q) in
+                let roomy : length es ≤ length old = not-refused (length old) (closedBy f) false es (refused-is names ∙ goes) .roomy in
+                turned-did (chartOf chart) names (closingRound (chartOf chart) f) s (record { outcome = Did; count = w .entries }) cells inner outer clockNow old new (closedBy f) es
+                (unfold closingRound in refl) goes refl
+                (spells-next names cells inner outer clockNow
+                (record {
+                  numbersAre = ended-numbers cells (historyIn numbers) e (f .history) n i (reads-history f numbers internal external (h .spells));
+                  internalIs = no-names internal inner x (internal-size f numbers internal external (h .spells));
+                  externalIs = no-names external outer y (external-size f numbers internal external (h .spells));
+                }) z)
+                (wrote-entries old new w es roomy u) (wrote-trace old new w es roomy u)
 
 -- ---- a round, by the mode
 
@@ -114,15 +155,26 @@ module _ (chart names numbers internal external : List ℕ) (h : HoldsAt chart n
   unfolding round
   round-mode m e = ap (λ (x : Mode). roundIn x (chartOf chart) (nameAt names) this) (sym e ∙ reads-mode this numbers internal external (h .spells))
 
-  module _ (t : Turn) (cells inner outer old new : List ℕ) (mode : Mode) (at : mode ≡ modeIn numbers) where
-    pub round-running : mode ≡ Running → Turned (roundIn Running (chartOf chart) (nameAt names) this) this t cells inner outer old new →
-        Turned (round (chartOf chart) (nameAt names) this) this t cells inner outer old new
-    round-running e = subst (λ (r : Round). Turned r this t cells inner outer old new) (round-mode Running (sym at ∙ e))
+  module _ (clock : List ℕ) (mode : Mode) (at : mode ≡ modeIn numbers) where
+    abbrev here : Timed
+    here = timedAt chart numbers internal external clock
 
-    pub round-closing : mode ≡ Closing → Turned (closingRound (chartOf chart) this) this t cells inner outer old new → Turned (round (chartOf chart) (nameAt names) this) this t cells inner outer old new
+    -- the record is one beside a session of that mode
+    pub record-holds : (m : Mode) → mode ≡ m → ClockHolds (modeIn numbers) clock → ClockHolds m clock
+    record-holds m e = subst (λ (x : Mode). ClockHolds x clock) (sym at ∙ e)
+
+    module _ (t : Turn) (cells inner outer clockNow old new : List ℕ) where
+      pub round-running : mode ≡ Running → Turned (chartOf chart) (nameAt names) (roundIn Running (chartOf chart) (nameAt names) this) here t cells inner outer clockNow old new →
+          Turned (chartOf chart) (nameAt names) (round (chartOf chart) (nameAt names) this) here t cells inner outer clockNow old new
+      round-running e = subst (λ (r : Round). Turned (chartOf chart) (nameAt names) r here t cells inner outer clockNow old new) (round-mode Running (sym at ∙ e))
+
+      pub round-closing : mode ≡ Closing → Closed chart numbers internal external clock t cells inner outer clockNow old new →
+          Turned (chartOf chart) (nameAt names) (round (chartOf chart) (nameAt names) this) here t cells inner outer clockNow old new
+      unfolding roundIn
+      round-closing e c = subst (λ (r : Round). Turned (chartOf chart) (nameAt names) r here t cells inner outer clockNow old new) (round-mode Closing (sym at ∙ e)) (c .turned (nameAt names))
+
+    pub round-over : (u : Turn) (old : List ℕ) → ClockHolds (modeIn numbers) clock → u ≡ untouched Over → mode ≡ Ended →
+        Turned (chartOf chart) (nameAt names) (round (chartOf chart) (nameAt names) this) here u numbers internal external clock old old
     unfolding roundIn
-    round-closing e = subst (λ (r : Round). Turned r this t cells inner outer old new) (round-mode Closing (sym at ∙ e))
-
-  pub round-over : (u : Turn) (old : List ℕ) (mode : Mode) → mode ≡ modeIn numbers → u ≡ untouched Over → mode ≡ Ended → Turned (round (chartOf chart) (nameAt names) this) this u numbers internal external old old
-  unfolding roundIn
-  round-over u old mode at y e = turned-over (round (chartOf chart) (nameAt names) this) this u numbers internal external old (h .spells) y (sym (round-mode Ended (sym at ∙ e)))
+    round-over u old k y e =
+        turned-over (chartOf chart) (nameAt names) (round (chartOf chart) (nameAt names) this) here u numbers internal external clock old (h .spells, k .spells) y (sym (round-mode Ended (sym at ∙ e)))

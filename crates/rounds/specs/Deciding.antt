@@ -1,19 +1,20 @@
 -- What a round of a running session decides before anything is written: the choice, the plan, and whether it is refused.
 use mathlib.Core.Path.{_≡_, refl, sym, ap, subst, _∙_}
+use mathlib.Core.Bool.{Bool}
 use mathlib.Core.List.{List}
 use mathlib.Core.Option.{none}
-use Prim.Native.Nat.{ℕ, _+_, _≤_}
+use Prim.Native.Nat.{ℕ, _≤_}
 use native.Mathlib.Omega.{arith}
-use lib.Dec.{ltb}
 use lib.ListN.{length, take, length-append}
+use Rattle.definition.specs.declared.Mode.{Mode}
 use Rattle.definition.specs.declared.Mode.the-variants.{Running}
 use Rattle.definition.specs.Rows.{flat}
 use Rattle.definition.specs.Chart.{Chart}
 use Rattle.definition.specs.Tables.{nameAt, chartOf}
 use Rattle.follower.specs.Blocks.{Effect, queued}
 use Rattle.follower.specs.Selection.{History}
-use Rattle.follower.specs.Follower.{Follower, did, roundIn, refusalIf, refusal}
-use Rattle.theory.specs.Runs.{Fits, not-refused}
+use Rattle.follower.specs.Follower.{Follower, did, roundIn, refusal, Timed, tableIn, timed}
+use Rattle.theory.specs.Runs.{Fits, not-refused, nextOf, refusedBy}
 use Rattle.rowset.specs.Member.{rowsOf}
 use Rattle.matching.specs.Chosen.{listOf, Taken}
 use Rattle.selection.specs.declared.Selected.{Selected}
@@ -21,26 +22,30 @@ use Rattle.selection.specs.History.{storedAt}
 use Rattle.selection.specs.Ready.{Selects}
 use Rattle.effects.specs.declared.Tally.{Tally}
 use Rattle.effects.specs.Trace.{queues-all}
-use Rattle.microstep.specs.declared.Plan.{Plan}
 use Rattle.microstep.specs.Stored.{RoundReady}
-use Rattle.microstep.specs.Plan.{Planned, PlanReady, planEffects}
+use Rattle.microstep.specs.Plan.{Planned, PlanReady}
 use Rattle.lookup.specs.Lookup.{atomicIn, IndexOf, Lookup}
-use Rattle.state.specs.State.{configurationIn, historyIn, internalIn, stateAt, HoldsAt}
-use Rattle.state.specs.Places.{numbers-size}
+use Rattle.clock.specs.Records.{clockBytes, clockIn, ClockHolds}
+use Rattle.state.specs.State.{configurationIn, historyIn, internalIn, modeIn, Spells, stateAt, HoldsAt}
+use Rattle.state.specs.Places.{numbers-size, reads-mode}
 use Rattle.events.specs.declared.Source.{Source}
 use Rattle.events.specs.declared.Source.the-variants.{Nothing}
 use Rattle.events.specs.declared.Choice.{Choice}
 use Rattle.events.specs.Rounds.{internalAfter, internalBytes, roundBy, Chooses}
 use Rattle.events.specs.Left.{internalLeft, QueueIs}
 use Rattle.events.specs.Choosing.{conf-read}
-use Rattle.rounds.specs.declared.Outcome.{Outcome}
+use Rattle.events.specs.Timers.{TimersStand}
 use Rattle.rounds.specs.declared.Outcome.the-variants.{Idle, Did}
 use Rattle.rounds.specs.declared.Turn.{Turn}
 use Rattle.rounds.specs.declared.Step.{Step}
+use Rattle.rounds.specs.declared.Shown.{Shown}
+use Rattle.rounds.specs.Calls.{timedAt, SpellsTimed}
 use Rattle.rounds.specs.Turns.{judged, judged-none, untouched, Turned, turned-idle, turned-refused, turned-did}
-use Rattle.rounds.specs.Traces.{Filled, Joined, joined-all, joined-in, joined-size, wrote-entries, wrote-trace}
-use Rattle.rounds.specs.Judging.{Counted, refusal-judged}
-use Rattle.rounds.specs.Taking.{roundEffects, nextBy, round-did, stepTakes, byIn, lent-taken, StepReady, Decided, Commits, round-ready, left, shown}
+use Rattle.rounds.specs.Traces.{joined-all, joined-in, joined-size, wrote-entries, wrote-trace}
+use Rattle.rounds.specs.Judging.{refusal-judged}
+use Rattle.rounds.specs.Windows.{tableLeft}
+use Rattle.rounds.specs.Timing.{stepEffects, Shows}
+use Rattle.rounds.specs.Taking.{roundEffects, nextBy, round-did, stepTakes, byIn, lent-taken, StepReady, Decided, Commits, round-ready, left, shown, sent}
 
 -- ---- the choice
 
@@ -56,10 +61,11 @@ module _ (chart names index numbers internal external : List ℕ) (g : Lookup ch
   ts = listOf items (choice .selected .len)
 
   -- nothing is left to choose
-  pub taken-idle : (t : Turn) (old : List ℕ) → t ≡ untouched Idle → choice .source ≡ Nothing → Turned (roundIn Running (chartOf chart) (nameAt names) f) f t numbers internal external old old
+  pub taken-idle : (clock : List ℕ) → ClockHolds Running clock → (t : Turn) (old : List ℕ) → t ≡ untouched Idle → choice .source ≡ Nothing →
+      Turned (chartOf chart) (nameAt names) (roundIn Running (chartOf chart) (nameAt names) f) (timedAt chart numbers internal external clock) t numbers internal external clock old old
   unfolding roundBy
-  taken-idle t old q e =
-      turned-idle (roundIn Running (chartOf chart) (nameAt names) f) f t numbers internal external old (h .spells) q
+  taken-idle clock k t old q e =
+      turned-idle (chartOf chart) (nameAt names) (roundIn Running (chartOf chart) (nameAt names) f) (timedAt chart numbers internal external clock) t numbers internal external clock old (h .spells, k .spells) q
       (ch .is ∙ ap (λ (source : Source). roundBy source (chartOf chart) (nameAt names) f (byIn items) ts) e)
 
   pub plan-asks : IndexOf (chartOf chart) index × (length numbers ≡ 1031) × RoundReady chart (historyIn numbers) (atomicIn index) (configurationIn numbers) ×
@@ -114,55 +120,80 @@ module _ (chart names index numbers internal external : List ℕ) (step : Step) 
   is-round : roundIn Running (chartOf chart) (nameAt names) from ≡ did next es
   is-round = g .is ∙ round-did (step .source) (chartOf chart) (nameAt names) from who takes (g .some)
 
-  module _ (t : Tally) (q : Counted t (planEffects (chartOf chart) (step .plan) who takes)) (old : List ℕ) (o : Outcome)
-      (j : o ≡ judged (refusalIf (ltb 32 (kept + t .names)) (ltb (length old) (t .entries)))) where
-    is-judged : o ≡ judged (refusal (length old) next es)
+  -- what its sends and cancels speak of stands in the tables
+  pub step-sent : TimersStand names (stepEffects chart items step)
+  step-sent = subst (TimersStand names) (sym (shown chart names index numbers internal external step items g)) (sent chart names index numbers internal external step items g)
+
+  module _ (clock : List ℕ) (k : ClockHolds Running clock) (running : modeIn numbers ≡ Running) (clockNow old new notes : List ℕ) (sh : Shown)
+      (v : Shows names (stepEffects chart items step) kept clock clockNow old new notes sh) where
+    abbrev here : Timed
+    here = timedAt chart numbers internal external clock
+
+    abbrev t : Tally
+    t = sh .tally
+
+    abbrev full : Bool
+    full = (tableLeft names clock es) .full
+
+    shows : Shows names es kept clock clockNow old new notes sh
+    shows = subst (λ (xs : List Effect). Shows names xs kept clock clockNow old new notes sh) (shown chart names index numbers internal external step items g) v
+
+    mode-is : from .mode ≡ Running
+    mode-is = sym (reads-mode from numbers internal external (g .holds .spells)) ∙ running
+
+    refused-is : refusal (length old) next full es ≡ refusedBy (chartOf chart) (nameAt names) (length old) here next es
+    unfolding refusedBy
+    refused-is = ap (λ (m : Mode). refusal (length old) next ((tableIn m (nameAt names) (clockIn clock) es) .full) es) (sym mode-is)
+
+    is-judged : sh .outcome ≡ judged (refusedBy (chartOf chart) (nameAt names) (length old) here next es)
     unfolding nextBy
     is-judged =
-        j ∙
-        ap judged (refusal-judged (chartOf chart) (nameAt names) (length old) kept t (internalAfter (step .source) from) next es
-        (subst (Counted t) (shown chart names index numbers internal external step items g) q) (waiting .count) refl)
+        shows .judges .judges ∙
+        ap judged (refusal-judged (chartOf chart) (nameAt names) (length old) kept t full (internalAfter (step .source) from) next es (shows .counted) (waiting .count) refl ∙ refused-is)
 
-    pub taken-refused : (u : Turn) → u ≡ untouched o → (o ≡ Did → ⊥) → Turned (roundIn Running (chartOf chart) (nameAt names) from) from u numbers internal external old old
+    pub taken-refused : (u : Turn) → u ≡ untouched (sh .outcome) → (sh .outcome ≡ Did → ⊥) →
+        Turned (chartOf chart) (nameAt names) (roundIn Running (chartOf chart) (nameAt names) from) here u numbers internal external clockNow old new
     taken-refused u y z =
-        turned-refused (roundIn Running (chartOf chart) (nameAt names) from) from u numbers internal external old (g .holds .spells) o y next es is-round is-judged z
+        rw (shows .stays z, shows .judges .stays z)
+        (turned-refused (chartOf chart) (nameAt names) (roundIn Running (chartOf chart) (nameAt names) from) here u numbers internal external clock old (g .holds .spells, k .spells) (sh .outcome) y next es is-round is-judged z)
 
-    module _ (e : o ≡ Did) where
-      goes : refusal (length old) next es ≡ none
-      goes = judged-none (refusal (length old) next es) (sym is-judged ∙ e)
+    module _ (e : sh .outcome ≡ Did) where
+      goes : refusedBy (chartOf chart) (nameAt names) (length old) here next es ≡ none
+      goes = judged-none (refusedBy (chartOf chart) (nameAt names) (length old) here next es) (sym is-judged ∙ e)
 
-      fits : Fits (length old) next es
-      fits = not-refused (length old) next es goes
+      fits : Fits (length old) next full es
+      fits = not-refused (length old) next full es (refused-is ∙ goes)
 
-      module _ (joins : List ℕ) (v : Joined joins t (planEffects (chartOf chart) (step .plan) who takes)) where
-        joined-es : Joined joins t es
-        joined-es = subst (Joined joins t) (shown chart names index numbers internal external step items g) v
+      -- no more join than are kept
+      pub few-join : t .names ≤ 32
+      unfolding nextBy
+      few-join =
+          let a = fits .short in
+          let b = shows .noted .names in
+          let d = length-append (internalAfter (step .source) from) (flat (queued (chartOf chart) (nameAt names)) es) in
+          let e = queues-all (chartOf chart) (nameAt names) es in
+          omega arith
 
-        -- no more join than are kept
-        pub few-join : t .names ≤ 32
-        unfolding nextBy
-        few-join =
-            let a = fits .short in
-            let b = joined-es .names in
-            let d = length-append (internalAfter (step .source) from) (flat (queued (chartOf chart) (nameAt names)) es) in
-            let e = queues-all (chartOf chart) (nameAt names) es in
-            omega arith
+      pub joins-fit : t .names ≤ length notes
+      joins-fit = joined-in notes t es (shows .noted) few-join
 
-        pub joins-fit : t .names ≤ length joins
-        joins-fit = joined-in joins t es joined-es few-join
+      pub joins-size : t .names ≡ length (take (t .names) notes)
+      joins-size = joined-size notes t es (shows .noted) few-join
 
-        pub joins-size : t .names ≡ length (take (t .names) joins)
-        joins-size = joined-size joins t es joined-es few-join
+      pub is-decided : Decided chart names index numbers internal external step (take (t .names) notes)
+      is-decided = record { items = items; made = g; joined = joined-all notes t es (shows .noted) few-join; short = fits .short }
 
-        pub is-decided : Decided chart names index numbers internal external step (take (t .names) joins)
-        is-decided = record { items = items; made = g; joined = joined-all joins t es joined-es few-join; short = fits .short }
+      spells-next : (cells inner outer : List ℕ) → Spells next cells inner outer → SpellsTimed (nextOf (chartOf chart) (nameAt names) here next es) cells inner outer clockNow
+      unfolding nextOf timed
+      spells-next cells inner outer a = (
+        a,
+        shows .judges .left e ∙ ap (λ (m : Mode). clockBytes (record { ticks = (clockIn clock) .ticks; pending = (tableIn m (nameAt names) (clockIn clock) es) .pending })) (sym mode-is),
+      )
 
-        -- shown and kept, it is done
-        pub taken-did : (new : List ℕ) → Filled old new t (planEffects (chartOf chart) (step .plan) who takes) → (numbersNow internalNow externalNow : List ℕ) →
-            Commits chart names index numbers internal external step (take (t .names) joins) numbersNow internalNow externalNow →
-            Turned (roundIn Running (chartOf chart) (nameAt names) from) from (record { outcome = Did; count = t .entries }) numbersNow internalNow externalNow old new
-        unfolding is-decided
-        taken-did new w numbersNow internalNow externalNow k =
-            let v : Filled old new t es = subst (Filled old new t) (shown chart names index numbers internal external step items g) w in
-            turned-did (roundIn Running (chartOf chart) (nameAt names) from) from (record { outcome = Did; count = t .entries }) numbersNow internalNow externalNow old new next es is-round goes refl
-            (k .next is-decided) (wrote-entries old new t es (fits .roomy) v) (wrote-trace old new t es (fits .roomy) v)
+      -- shown and kept, it is done
+      pub taken-did : (numbersNow internalNow externalNow : List ℕ) → Commits chart names index numbers internal external step (take (t .names) notes) numbersNow internalNow externalNow →
+          Turned (chartOf chart) (nameAt names) (roundIn Running (chartOf chart) (nameAt names) from) here (record { outcome = Did; count = t .entries }) numbersNow internalNow externalNow clockNow old new
+      unfolding is-decided
+      taken-did numbersNow internalNow externalNow c =
+          turned-did (chartOf chart) (nameAt names) (roundIn Running (chartOf chart) (nameAt names) from) here (record { outcome = Did; count = t .entries }) numbersNow internalNow externalNow clockNow old new
+          next es is-round goes refl (spells-next numbersNow internalNow externalNow (c .next is-decided)) (wrote-entries old new t es (fits .roomy) (shows .filled e)) (wrote-trace old new t es (fits .roomy) (shows .filled e))

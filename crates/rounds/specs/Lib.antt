@@ -2,7 +2,9 @@ pub mod Calls
 pub mod Turns
 pub mod Traces
 pub mod Judging
+pub mod Windows
 pub mod Taking
+pub mod Timing
 pub mod Committing
 pub mod Deciding
 pub mod Closing

@@ -5,40 +5,47 @@ use mathlib.Core.Option.{Option, none, some}
 use Prim.Native.Nat.{ℕ, _+_, _≤_}
 use native.Mathlib.Nat.{zero-add}
 use native.Mathlib.Omega.{arith}
-use lib.Dec.{ltb}
 use lib.ListN.{length, take, replicate, length-replicate}
 use Rattle.definition.specs.declared.Answer.{Answer}
 use Rattle.definition.specs.declared.Answer.the-variants.{Done}
 use Rattle.definition.specs.declared.Mode.{Mode}
-use Rattle.definition.specs.declared.Mode.the-variants.{Ended}
-use Rattle.definition.specs.Rows.{from, flat}
+use Rattle.definition.specs.declared.Mode.the-variants.{Running, Ended}
+use Rattle.definition.specs.Rows.{from, flat, onto, backwards}
 use Rattle.definition.specs.Names.{Name}
 use Rattle.definition.specs.Chart.{Chart}
-use Rattle.definition.specs.Tables.{nameAt, chartOf}
+use Rattle.definition.specs.Tables.{rowCount, transitionCount, nameAt, chartOf}
 use Rattle.follower.specs.Blocks.{Effect, queued}
-use Rattle.follower.specs.Microstep.{Entry}
+use Rattle.follower.specs.Microstep.{exiting, Entry}
 use Rattle.definition.specs.Answers.{modeNo}
 use Rattle.definition.specs.Compiled.{words}
-use Rattle.follower.specs.Follower.{Follower, noHistory, endedFollower, modeOf, refusalIf, refusal, firstEntry, firstEffects, firstFollower, startOr, start}
+use Rattle.follower.specs.Clock.{Clock, newClock, Table}
+use Rattle.follower.specs.Follower.{Follower, noHistory, endedFollower, modeOf, refusal, tableIn, timed, firstEntry, firstEffects, firstFollower, firstTable, startOr, start}
 use Rattle.theory.specs.Runs.{Fits, not-refused}
 use Rattle.rowset.specs.Member.{rowsOf}
 use Rattle.chart.specs.Ready.{CompiledWith}
 use Rattle.effects.specs.declared.Tally.{Tally}
-use Rattle.effects.specs.Trace.{joinsOf, queues-all, Places, Wrote}
+use Rattle.effects.specs.Trace.{joinsOf, queues-all, times-few, Places, Wrote}
 use Rattle.microstep.specs.declared.Plan.{Plan}
-use Rattle.microstep.specs.Plan.{PlanReady, StartPlanned, startEffects, start-effects}
+use Rattle.microstep.specs.Plan.{PlanReady, StartPlanned, planEffects, startEffects, start-effects, start-few}
+use Rattle.matching.specs.Chosen.{ChosenIn, within-none, list-begin}
+use Rattle.clock.specs.Records.{clockBytes, clockIn}
+use Rattle.clock.specs.Spelled.{zeros-are-new, zeros-hold, zeros-spell}
 use Rattle.legality.specs.Rows.{RowsReady}
 use Rattle.queue.specs.Queues.{queueBytes, queueOf, queue-none}
 use Rattle.state.specs.State.{historyWords, numbersOf, historyIn, traceWith}
 use Rattle.state.specs.Words.{words-none, history-none}
 use Rattle.events.specs.Rounds.{queuedNames, JoinsIn}
 use Rattle.events.specs.Entries.{JoinsStand, start-joins}
+use Rattle.events.specs.Timers.{TimersStand, start-timers}
 use Rattle.rounds.specs.declared.Outcome.{Outcome}
-use Rattle.rounds.specs.declared.Outcome.the-variants.{Refused}
+use Rattle.rounds.specs.declared.Outcome.the-variants.{Refused, Did}
+use Rattle.rounds.specs.declared.Step.{Step}
 use Rattle.rounds.specs.Calls.{StartDone}
 use Rattle.rounds.specs.Turns.{judged, judged-some}
-use Rattle.rounds.specs.Traces.{nothing, Filled, Joined, filled-again, joined-all, joined-in, joined-size, wrote-entries, wrote-trace}
+use Rattle.rounds.specs.Traces.{nothing, Filled, Noted, filled-again, joined-all, joined-in, joined-size, wrote-entries, wrote-trace}
 use Rattle.rounds.specs.Judging.{Counted, refusal-judged}
+use Rattle.rounds.specs.Windows.{tableLeft}
+use Rattle.rounds.specs.Timing.{stepEffects, TimersReady, JudgesTimed}
 
 -- a session of zeros stores nothing
 pub zeros-none : (c : Chart) → replicate 1024 0 ≡ historyWords (noHistory c)
@@ -56,107 +63,175 @@ zeros-ended : (c : Chart) → replicate 1031 0 ≡ numbersOf (words []) (history
 unfolding numbersOf modeNo
 zeros-ended c = let w = sym words-none in let h = zeros-none c in λ j. w j ++ (h j ++ (0 ∷ 0 ∷ 0 ∷ []))
 
-module _ (chart names : List ℕ) (k : CompiledWith chart names) (numbers internal old : List ℕ) (y : numbers ≡ replicate 1031 0) (z : internal ≡ replicate 2048 0) (e : Plan)
-    (q : StartPlanned (chartOf chart) e × PlanReady chart e) (t : Tally) (n : Counted t (startEffects (chartOf chart) e)) (o : Outcome)
-    (j : o ≡ judged (refusalIf (ltb 32 (0 + t .names)) (ltb (length old) (t .entries)))) where
+-- ---- the start as a step
+
+pub record FirstStep (plan : Plan) (s : Step) : Type 0 where
+  pub len : s .len ≡ 0
+  pub out : rowsOf (s .plan .out) ≡ []
+  pub stay : s .plan .stay ≡ plan .stay
+  pub set : s .plan .set ≡ plan .set
+  pub byDefault : s .plan .«by_default» ≡ plan .«by_default»
+  pub fallen : s .plan .fallen ≡ plan .fallen
+
+module _ (chart : List ℕ) (plan : Plan) (s : Step) (h : FirstStep plan s) where
+  pub first-ready-step : PlanReady chart plan → PlanReady chart (s .plan)
+  first-ready-step p = record { ready = p .ready; out = rw (h .out) (within-none (rowCount chart)); set = rw (h .set) (p .set); fallen = rw (h .fallen) (p .fallen) }
+
+  module _ (items : List ℕ) (e : items ≡ replicate 768 0) where
+    pub first-chosen : ChosenIn (transitionCount chart) items (s .len)
+    first-chosen = record { room = ap length e ∙ length-replicate {A = ℕ} 768 0; most = let n = h .len in omega arith; inside = rw (h .len, list-begin items) (within-none (transitionCount chart)) }
+
+    first-same : stepEffects chart items s ≡ startEffects (chartOf chart) plan
+    unfolding planEffects startEffects exiting flat backwards onto
+    first-same = rw (h .len, list-begin items, h .out, h .stay, h .set, h .byDefault, h .fallen)
+
+    pub first-timers : (names : List ℕ) (t : Tally) (notes clock : List ℕ) → TimersReady names (startEffects (chartOf chart) plan) t notes clock → TimersReady names (stepEffects chart items s) t notes clock
+    first-timers names t notes clock r = subst (λ (xs : List Effect). TimersReady names xs t notes clock) (sym first-same) r
+
+    pub first-judged : (names : List ℕ) (t : Tally) (clock clockNow : List ℕ) (room : ℕ) (o : Outcome) → JudgesTimed names (stepEffects chart items s) 0 t clock clockNow room o →
+        JudgesTimed names (startEffects (chartOf chart) plan) 0 t clock clockNow room o
+    first-judged names t clock clockNow room o j = subst (λ (xs : List Effect). JudgesTimed names xs 0 t clock clockNow room o) first-same j
+
+module _ (chart names : List ℕ) (k : CompiledWith chart names) (numbers internal clock old : List ℕ) (y : numbers ≡ replicate 1031 0) (z : internal ≡ replicate 2048 0) (x : clock ≡ replicate 4368 0) (e : Plan)
+    (q : StartPlanned (chartOf chart) e × PlanReady chart e) where
   abbrev es : List Effect
   es = firstEffects (chartOf chart)
 
   abbrev first : Follower
   first = firstFollower (chartOf chart) (nameAt names)
 
+  abbrev table : Table
+  table = firstTable (chartOf chart) (nameAt names)
+
   shown : startEffects (chartOf chart) e ≡ es
   shown = start-effects (chartOf chart) e (q .0)
 
-  is-judged : o ≡ judged (refusal (length old) first es)
-  unfolding firstFollower
-  is-judged = j ∙ ap judged (refusal-judged (chartOf chart) (nameAt names) (length old) 0 t [] first es (subst (Counted t) shown n) refl refl)
+  pub start-timers-ready : (t : Tally) (notes : List ℕ) → Noted notes t (startEffects (chartOf chart) e) → TimersReady names (startEffects (chartOf chart) e) t notes clock
+  start-timers-ready t notes v = record {
+    stand = subst (TimersStand names) (sym shown) (start-timers chart names k);
+    noted = v;
+    few = let a = start-few chart e (q .1) in let b = times-few (startEffects (chartOf chart) e) in omega arith;
+    holds = rw x (zeros-hold Running);
+  }
 
-  -- refused: an ended session, and nothing changed
-  pub start-refused : (a : Answer) → o ≡ Refused a → StartDone (start (chartOf chart) (nameAt names) (length old)) (record { answer = a; count = 0 }) numbers internal (replicate 2048 0) old old
-  unfolding start startOr endedFollower traceWith
-  start-refused a r =
-      let x : refusal (length old) first es ≡ some a = judged-some (refusal (length old) first es) a (sym is-judged ∙ r) in
-      rw x (record {
-        answer = refl;
-        count = refl;
-        state = record { numbersAre = y ∙ zeros-ended (chartOf chart); internalIs = z ∙ sym queue-none; externalIs = sym queue-none };
-        written = refl;
-      })
+  clock-new : clockIn clock ≡ newClock
+  clock-new = ap clockIn x ∙ zeros-spell
 
-  pub zeros-size : length numbers ≡ 1031
-  zeros-size = rw y
+  table-is : tableLeft names clock es ≡ table
+  unfolding tableIn firstTable
+  table-is = ap (λ (r : Clock). tableIn Running (nameAt names) r es) clock-new
 
-  pub first-ready : RowsReady chart (rowsOf (e .set))
-  first-ready = record { ready = k .ready; inside = q .1 .set .at }
+  module _ (t : Tally) (n : Counted t (startEffects (chartOf chart) e)) (clockNow : List ℕ) (o : Outcome)
+      (j : JudgesTimed names (startEffects (chartOf chart) e) 0 t clock clockNow (length old) o) where
+    judges : JudgesTimed names es 0 t clock clockNow (length old) o
+    judges = subst (λ (xs : List Effect). JudgesTimed names xs 0 t clock clockNow (length old) o) shown j
 
-  module _ (some-other : (a : Answer) → o ≡ Refused a → ⊥) where
-    goes : refusal (length old) first es ≡ none
-    goes = go (refusal (length old) first es) refl
-      where
-        go : (x : Option Answer) → refusal (length old) first es ≡ x → refusal (length old) first es ≡ none
-        go none h = h
-        go (some a) h = absurd (some-other a (is-judged ∙ ap judged h ∙ unfold judged in refl))
+    is-judged : o ≡ judged (refusal (length old) first (table .full) es)
+    unfolding firstFollower
+    is-judged =
+        judges .judges ∙
+        ap judged (refusal-judged (chartOf chart) (nameAt names) (length old) 0 t ((tableLeft names clock es) .full) [] first es (subst (Counted t) shown n) refl refl ∙
+        ap (λ (r : Table). refusal (length old) first (r .full) es) table-is)
 
-    fits : Fits (length old) first es
-    fits = not-refused (length old) first es goes
+    -- refused: an ended session with a new clock record, and nothing changed
+    pub start-refused : (a : Answer) → o ≡ Refused a → StartDone (start (chartOf chart) (nameAt names) (length old)) (record { answer = a; count = 0 }) numbers internal (replicate 2048 0) clockNow old old
+    unfolding start startOr endedFollower traceWith
+    start-refused a r =
+        let w : refusal (length old) first (table .full) es ≡ some a = judged-some (refusal (length old) first (table .full) es) a (sym is-judged ∙ r) in
+        let same : clockNow ≡ clock = judges .stays (λ d. let c : Refused a ≡ Did = sym r ∙ d in let z : _≡_ {A = ℕ} 0 1 = cc in omega arith) in
+        rw w (record {
+          answer = refl;
+          count = refl;
+          state = (record { numbersAre = y ∙ zeros-ended (chartOf chart); internalIs = z ∙ sym queue-none; externalIs = sym queue-none }, same ∙ x ∙ sym zeros-are-new);
+          written = refl;
+        })
 
-    entered : JoinsStand chart names es
-    entered = start-joins chart names k
+    pub zeros-size : length numbers ≡ 1031
+    zeros-size = rw y
 
-    module _ (before after : Places) (r : Tally) (same : before .trace ≡ old) (w : Wrote before after nothing r (startEffects (chartOf chart) e)) (joins : List ℕ)
-        (v : Joined joins t (startEffects (chartOf chart) e)) where
-      wrote : Filled old (after .trace) t es
-      wrote = subst (Filled old (after .trace) t) shown (rw (← same) (filled-again before after t r (startEffects (chartOf chart) e) w (n .entries ∙ sym (zero-add _))))
+    pub first-ready : RowsReady chart (rowsOf (e .set))
+    first-ready = record { ready = k .ready; inside = q .1 .set .at }
 
-      joined-es : Joined joins t es
-      joined-es = subst (Joined joins t) shown v
+    module _ (some-other : (a : Answer) → o ≡ Refused a → ⊥) where
+      goes : refusal (length old) first (table .full) es ≡ none
+      goes = go (refusal (length old) first (table .full) es) refl
+        where
+          go : (x : Option Answer) → refusal (length old) first (table .full) es ≡ x → refusal (length old) first (table .full) es ≡ none
+          go none h = h
+          go (some a) h = absurd (some-other a (is-judged ∙ ap judged h ∙ unfold judged in refl))
 
-      pub few-join : t .names ≤ 32
-      unfolding firstFollower
-      few-join =
-          let a = fits .short in
-          let b = joined-es .names in
-          let d = queues-all (chartOf chart) (nameAt names) es in
-          omega arith
+      is-done : o ≡ Did
+      unfolding judged
+      is-done = is-judged ∙ ap judged goes
 
-      front : take (t .names) joins ≡ joinsOf es
-      front = joined-all joins t es joined-es few-join
+      fits : Fits (length old) first (table .full) es
+      fits = not-refused (length old) first (table .full) es goes
 
-      pub first-fit : t .names ≤ length joins
-      first-fit = joined-in joins t es joined-es few-join
+      entered : JoinsStand chart names es
+      entered = start-joins chart names k
 
-      pub first-size : t .names ≡ length (take (t .names) joins)
-      first-size = joined-size joins t es joined-es few-join
+      clock-after : clockNow ≡ clockBytes (record { ticks = 0; pending = table .pending })
+      clock-after =
+          let a = clock-new in
+          let b = table-is in
+          judges .left is-done ∙ (λ i. clockBytes (record { ticks = (a i) .ticks; pending = (b i) .pending }))
 
-      names-now : queuedNames (chartOf chart) (nameAt names) (take (t .names) joins) ≡ flat (queued (chartOf chart) (nameAt names)) es
-      names-now = ap (queuedNames (chartOf chart) (nameAt names)) front ∙ entered .queues
+      module _ (before after : Places) (r : Tally) (same : before .trace ≡ old) (w : Wrote before after nothing r (startEffects (chartOf chart) e)) (notes : List ℕ)
+          (v : Noted notes t (startEffects (chartOf chart) e)) where
+        wrote : Filled old (after .trace) t es
+        wrote = subst (Filled old (after .trace) t) shown (rw (← same) (filled-again before after t r (startEffects (chartOf chart) e) w (n .entries ∙ sym (zero-add _))))
 
-      none-yet : queueOf internal 0 ≡ []
-      unfolding queueOf from
-      none-yet = refl
+        noted-es : Noted notes t es
+        noted-es = subst (Noted notes t) shown v
 
-      pub first-join : CompiledWith chart names × JoinsIn chart (take (t .names) joins) × (internal ≡ queueBytes (queueOf internal 0)) × (0 + length (queuedNames (chartOf chart) (nameAt names) (take (t .names) joins)) ≤ 32)
-      unfolding firstFollower
-      first-join = (k, rw front (entered .inside), z ∙ sym (ap queueBytes none-yet ∙ queue-none), let l = fits .short in let m = ap {B = ℕ} length names-now in omega arith)
+        pub few-join : t .names ≤ 32
+        unfolding firstFollower
+        few-join =
+            let a = fits .short in
+            let b = noted-es .names in
+            let d = queues-all (chartOf chart) (nameAt names) es in
+            omega arith
 
-      pub start-done : (inner : List ℕ) (waiting : ℕ) (mode : Mode) (cells : List ℕ) →
-          (inner ≡ queueBytes (queueOf internal 0 ++ queuedNames (chartOf chart) (nameAt names) (take (t .names) joins))) × (waiting ≡ 0 + length (queuedNames (chartOf chart) (nameAt names) (take (t .names) joins))) →
-          mode ≡ modeOf (chartOf chart) (rowsOf (e .set)) → cells ≡ numbersOf (words (rowsOf (e .set))) (historyIn numbers) waiting 0 (modeNo mode) →
-          StartDone (start (chartOf chart) (nameAt names) (length old)) (record { answer = Done; count = t .entries }) cells inner (replicate 2048 0) old (after .trace)
-      unfolding start startOr firstFollower
-      start-done inner waiting mode cells joined m w =
-          let conf : rowsOf (e .set) ≡ (firstEntry (chartOf chart)) .set = ap (λ (i : Entry). i .set) (q .0 .entry) in
-          let hist : historyIn numbers ≡ historyWords (noHistory (chartOf chart)) = ap (λ (ws : List ℕ). historyIn ws) y ∙ zeros-none (chartOf chart) in
-          let count : waiting ≡ length (flat (queued (chartOf chart) (nameAt names)) es) = joined .1 ∙ zero-add _ ∙ ap {B = ℕ} length names-now in
-          let mode-is = m ∙ ap (modeOf (chartOf chart)) conf in
-          rw goes (record {
-            answer = refl;
-            count = wrote-entries old (after .trace) t es (fits .roomy) wrote;
-            state = record {
-              numbersAre = w ∙ (λ j. numbersOf (words (conf j)) (hist j) (count j) 0 (modeNo (mode-is j)));
-              internalIs = joined .0 ∙ ap queueBytes (ap₂ {C = List Name} (λ a b. a ++ b) none-yet names-now);
-              externalIs = sym queue-none;
-            };
-            written = wrote-trace old (after .trace) t es (fits .roomy) wrote;
-          })
+        front : take (t .names) notes ≡ joinsOf es
+        front = joined-all notes t es noted-es few-join
+
+        pub first-fit : t .names ≤ length notes
+        first-fit = joined-in notes t es noted-es few-join
+
+        pub first-size : t .names ≡ length (take (t .names) notes)
+        first-size = joined-size notes t es noted-es few-join
+
+        names-now : queuedNames (chartOf chart) (nameAt names) (take (t .names) notes) ≡ flat (queued (chartOf chart) (nameAt names)) es
+        names-now = ap (queuedNames (chartOf chart) (nameAt names)) front ∙ entered .queues
+
+        none-yet : queueOf internal 0 ≡ []
+        unfolding queueOf from
+        none-yet = refl
+
+        pub first-join : CompiledWith chart names × JoinsIn chart (take (t .names) notes) × (internal ≡ queueBytes (queueOf internal 0)) × (0 + length (queuedNames (chartOf chart) (nameAt names) (take (t .names) notes)) ≤ 32)
+        unfolding firstFollower
+        first-join = (k, rw front (entered .inside), z ∙ sym (ap queueBytes none-yet ∙ queue-none), let l = fits .short in let m = ap {B = ℕ} length names-now in omega arith)
+
+        pub start-done : (inner : List ℕ) (waiting : ℕ) (mode : Mode) (cells : List ℕ) →
+            (inner ≡ queueBytes (queueOf internal 0 ++ queuedNames (chartOf chart) (nameAt names) (take (t .names) notes))) × (waiting ≡ 0 + length (queuedNames (chartOf chart) (nameAt names) (take (t .names) notes))) →
+            mode ≡ modeOf (chartOf chart) (rowsOf (e .set)) → cells ≡ numbersOf (words (rowsOf (e .set))) (historyIn numbers) waiting 0 (modeNo mode) →
+            StartDone (start (chartOf chart) (nameAt names) (length old)) (record { answer = Done; count = t .entries }) cells inner (replicate 2048 0) clockNow old (after .trace)
+        unfolding start startOr firstFollower timed
+        start-done inner waiting mode cells joined m w =
+            let conf : rowsOf (e .set) ≡ (firstEntry (chartOf chart)) .set = ap (λ (i : Entry). i .set) (q .0 .entry) in
+            let hist : historyIn numbers ≡ historyWords (noHistory (chartOf chart)) = ap (λ (ws : List ℕ). historyIn ws) y ∙ zeros-none (chartOf chart) in
+            let count : waiting ≡ length (flat (queued (chartOf chart) (nameAt names)) es) = joined .1 ∙ zero-add _ ∙ ap {B = ℕ} length names-now in
+            let mode-is = m ∙ ap (modeOf (chartOf chart)) conf in
+            rw goes (record {
+              answer = refl;
+              count = wrote-entries old (after .trace) t es (fits .roomy) wrote;
+              state = (
+                record {
+                  numbersAre = w ∙ (λ j. numbersOf (words (conf j)) (hist j) (count j) 0 (modeNo (mode-is j)));
+                  internalIs = joined .0 ∙ ap queueBytes (ap₂ {C = List Name} (λ a b. a ++ b) none-yet names-now);
+                  externalIs = sym queue-none;
+                },
+                clock-after,
+              );
+              written = wrote-trace old (after .trace) t es (fits .roomy) wrote;
+            })

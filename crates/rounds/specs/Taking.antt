@@ -47,6 +47,7 @@ use Rattle.events.specs.Rounds.{Waits, internalAfter, externalAfter, roundBy}
 use Rattle.events.specs.Choosers.{takingBy}
 use Rattle.events.specs.Left.{EventLeft, event-left}
 use Rattle.events.specs.Entries.{JoinsStand, round-joins}
+use Rattle.events.specs.Timers.{TimersStand, round-timers}
 use Rattle.events.specs.Choosing.{conf-read, conf-within, history-read}
 use Rattle.rounds.specs.declared.Step.{Step}
 use Rattle.rounds.specs.Judging.{LeavesInternal, LeavesExternal}
@@ -228,10 +229,14 @@ module _ (chart names index numbers internal external : List ℕ) (step : Step) 
   pub plan-within : Within (rowCount chart) (rowsOf (plan .conf))
   plan-within = rw (g .planned .from) within
 
+  conf-inside : Within (rowCount chart) (f .configuration)
+  conf-inside = subst (Within (rowCount chart)) (conf-read chart names (g .compiled) f numbers internal external (g .holds)) within
+
   pub entered : JoinsStand chart names es
-  entered =
-      round-joins chart names (g .compiled) (f .configuration) (storedIn (f .history)) by ts
-      (subst (Within (rowCount chart)) (conf-read chart names (g .compiled) f numbers internal external (g .holds)) within) (g .lent .inside)
+  entered = round-joins chart names (g .compiled) (f .configuration) (storedIn (f .history)) by ts conf-inside (g .lent .inside)
+
+  pub sent : TimersStand names es
+  sent = round-timers chart names (g .compiled) (f .configuration) (storedIn (f .history)) by ts conf-inside (g .lent .inside)
 
   pub internal-leaves : LeavesInternal source (internalIn numbers)
   internal-leaves = leaves-internal chart names (g .compiled) f numbers internal external (g .holds) source (g .inner)

@@ -1,19 +1,21 @@
 -- The trace after effects were written: into it from its beginning, or into the part behind the entries that are there.
 use mathlib.Core.Path.{_≡_, sym, ap, _∙_}
 use mathlib.Core.List.{List, _++_, map, map-append, append-assoc, append-nil}
-use Prim.Native.Nat.{ℕ, _+_, _-_, _≤_}
+use Prim.Native.Nat.{ℕ, _+_, _-_, _*_, _≤_}
 use native.Mathlib.Nat.{zero-add}
 use native.Mathlib.Omega.{arith}
-use lib.ListN.{length, take, drop, length-append, length-map, length-drop}
+use lib.ListN.{length, getD, take, drop, length-append, length-map, length-drop}
 use lib.Seq.{take-at, take-all, drop-at, drop-drop, drop-length, length-take-le}
 use Rattle.follower.specs.Blocks.{Effect, traceNo}
 use Rattle.effects.specs.declared.Tally.{Tally}
-use Rattle.effects.specs.Trace.{allQueues, joinsOf, joins-length, overwrite, overwrite-length, overwrite-inside, Places, Wrote}
+use Rattle.paths.specs.Timing.{timersOf, allTimes}
+use Rattle.effects.specs.Trace.{allQueues, joinsOf, joins-length, overwrite, overwrite-length, overwrite-inside, Places, Wrote, wrote-joins}
+use Rattle.effects.specs.Notes.{joins-noted, window-noted}
 use Rattle.state.specs.State.{traceWith}
 
 -- nothing counted yet
 abbrev pub nothing : Tally
-nothing = record { entries = 0; names = 0 }
+nothing = record { entries = 0; names = 0; timers = 0 }
 
 -- ---- written from the beginning on
 
@@ -54,28 +56,30 @@ pub record Drafted (draft : List ℕ) (t : Tally) (es : List Effect) : Type 0 wh
   pub before : List ℕ
   pub wrote : Filled before draft t es
 
--- what joins: of more than 32 the first
-pub record Joined (joins : List ℕ) (t : Tally) (es : List Effect) : Type 0 where
-  pub before : List ℕ
-  pub size : length before ≡ 32
-  pub are : joins ≡ overwrite before 0 (joinsOf es)
-  pub names : t .names ≡ 0 + allQueues es
+-- ---- the place of notes
 
-module _ (joins : List ℕ) (t : Tally) (es : List Effect) (h : Joined joins t es) (few : t .names ≤ 32) where
-  joined-fit : 0 + length (joinsOf es) ≤ length (h .before)
-  joined-fit = let a = h .size in let b = h .names in let d = joins-length es in omega arith
+-- nothing is passed over
+pub record Unskipped (notes : List ℕ) : Type 0 where
+  pub size : length notes ≡ 49
+  pub none : getD notes 32 0 ≡ 0
 
-  -- where they are no more, they are all there
-  pub joined-all : take (t .names) joins ≡ joinsOf es
-  joined-all =
-      let a = joins-length es in
-      let b = h .names in
-      ap (take (t .names)) (h .are ∙ overwrite-inside (h .before) 0 (joinsOf es) joined-fit) ∙ take-at (joinsOf es) (drop (0 + length (joinsOf es)) (h .before)) (t .names) (omega arith)
+-- what joins, unless it is more than 32 names, and the first sends and cancels
+pub record Noted (notes : List ℕ) (t : Tally) (es : List Effect) : Type 0 where
+  pub size : length notes ≡ 49
+  pub names : t .names ≡ allQueues es
+  pub timers : t .timers ≡ allTimes es
+  pub joins : allQueues es ≤ 32 → take (allQueues es) notes ≡ joinsOf es
+  pub window : (w : ℕ) → w ≤ allTimes es → w ≤ 8 → take (w * 2) (drop 33 notes) ≡ take (w * 2) (timersOf es)
 
-  pub joined-in : t .names ≤ length joins
-  joined-in = let a = ap {B = ℕ} length (h .are) ∙ overwrite-length (h .before) 0 (joinsOf es) in let b = h .size in omega arith
+module _ (notes : List ℕ) (t : Tally) (es : List Effect) (h : Noted notes t es) (few : t .names ≤ 32) where
+  -- where they are no more, all that join are there
+  pub joined-all : take (t .names) notes ≡ joinsOf es
+  joined-all = let n = h .names in ap (λ (k : ℕ). take k notes) n ∙ h .joins (omega arith)
 
-  pub joined-size : t .names ≡ length (take (t .names) joins)
+  pub joined-in : t .names ≤ length notes
+  joined-in = let n = h .size in omega arith
+
+  pub joined-size : t .names ≡ length (take (t .names) notes)
   joined-size = let a = ap {B = ℕ} length joined-all in let b = joins-length es in let d = h .names in omega arith
 
 -- all that a pass has written
@@ -86,8 +90,22 @@ module _ (old new : Places) (t : Tally) (es : List Effect) (w : Wrote old new no
   pub wrote-drafted : Drafted (new .trace) t es
   wrote-drafted = record { before = old .trace; wrote = wrote-filled }
 
-  pub wrote-joined : length (old .joins) ≡ 32 → Joined (new .joins) t es
-  wrote-joined e = record { before = old .joins; size = e; are = w .joins; names = w .names }
+  -- and noted
+  pub wrote-noted : Unskipped (old .joins) → Noted (new .joins) t es
+  wrote-noted u =
+      let n = w .names in
+      let m = w .timers in
+      record {
+        size = wrote-joins old new nothing t es w ∙ u .size;
+        names = omega arith;
+        timers = omega arith;
+        joins = joins-noted old new t es w (let l = u .size in omega arith);
+        window = λ k l q.
+            let n = u .none in
+            let m = u .size in
+            let z : getD (old .joins) 32 0 * 2 ≡ 0 = omega arith in
+            window-noted old new t es w (omega arith) k (omega arith) (omega arith) ∙ ap (λ (d : ℕ). take (k * 2) (drop d (timersOf es))) z;
+      }
 
 -- written a second time, counted the first
 pub filled-again : (old new : Places) (t r : Tally) (es : List Effect) → Wrote old new nothing r es → t .entries ≡ 0 + length es → Filled (old .trace) (new .trace) t es

@@ -8,40 +8,43 @@ use lib.ListN.{length}
 use Rattle.definition.specs.declared.Answer.{Answer}
 use Rattle.definition.specs.declared.Status.{Status}
 use Rattle.definition.specs.declared.Status.the-variants as status
+use Rattle.definition.specs.Chart.{Chart, Names}
 use Rattle.follower.specs.Blocks.{Effect}
-use Rattle.follower.specs.Follower.{Follower, Round, idle, over, did, refusal}
-use Rattle.state.specs.State.{Spells, traceWith}
+use Rattle.follower.specs.Follower.{Follower, Round, idle, over, did, Timed}
+use Rattle.theory.specs.Runs.{nextOf, refusedBy}
+use Rattle.state.specs.State.{traceWith}
 use Rattle.rounds.specs.declared.Outcome.{Outcome}
 use Rattle.rounds.specs.declared.Outcome.the-variants.{Idle, Over, Refused, Did}
 use Rattle.rounds.specs.declared.Turn.{Turn}
+use Rattle.rounds.specs.Calls.{SpellsTimed}
 
 -- by the refusal of the round, if there is one: what it came to, the state after it, and its effects
 unfoldable pub judged : Option Answer → Outcome
 judged none = Did
 judged (some a) = Refused a
 
-unfoldable pub nextUnless : Option Answer → Follower → Follower → Follower
-nextUnless none f next = next
-nextUnless (some a) f next = f
+unfoldable pub nextUnless : Option Answer → Timed → Timed → Timed
+nextUnless none s next = next
+nextUnless (some a) s next = s
 
 unfoldable pub shownUnless : Option Answer → List Effect → List Effect
 shownUnless none es = es
 shownUnless (some a) es = []
 
-unfoldable pub outcomeOf : ℕ → Round → Outcome
-outcomeOf room idle = Idle
-outcomeOf room over = Over
-outcomeOf room (did next es) = judged (refusal room next es)
+unfoldable pub outcomeOf : Chart → Names → ℕ → Timed → Round → Outcome
+outcomeOf c names room s idle = Idle
+outcomeOf c names room s over = Over
+outcomeOf c names room s (did next es) = judged (refusedBy c names room s next es)
 
-unfoldable pub followerAfter : ℕ → Follower → Round → Follower
-followerAfter room f idle = f
-followerAfter room f over = f
-followerAfter room f (did next es) = nextUnless (refusal room next es) f next
+unfoldable pub stateAfter : Chart → Names → ℕ → Timed → Round → Timed
+stateAfter c names room s idle = s
+stateAfter c names room s over = s
+stateAfter c names room s (did next es) = nextUnless (refusedBy c names room s next es) s (nextOf c names s next es)
 
-unfoldable pub effectsOf : ℕ → Round → List Effect
-effectsOf room idle = []
-effectsOf room over = []
-effectsOf room (did next es) = shownUnless (refusal room next es) es
+unfoldable pub effectsOf : Chart → Names → ℕ → Timed → Round → List Effect
+effectsOf c names room s idle = []
+effectsOf c names room s over = []
+effectsOf c names room s (did next es) = shownUnless (refusedBy c names room s next es) es
 
 -- how a run that stops there stops
 unfoldable pub statusOf : Outcome → Status
@@ -54,12 +57,12 @@ statusOf Did = status.More
 abbrev pub untouched : Outcome → Turn
 untouched o = record { outcome = o; count = 0 }
 
--- round r from state f came to turn t: old and new are the trace before and after
-pub record Turned (r : Round) (f : Follower) (t : Turn) (numbers internal external old new : List ℕ) : Type 0 where
-  pub outcome : t .outcome ≡ outcomeOf (length old) r
-  pub state : Spells (followerAfter (length old) f r) numbers internal external
-  pub count : t .count ≡ length (effectsOf (length old) r)
-  pub written : new ≡ traceWith old (effectsOf (length old) r)
+-- round r from state s came to turn t: old and new are the trace before and after
+pub record Turned (c : Chart) (names : Names) (r : Round) (s : Timed) (t : Turn) (numbers internal external clock old new : List ℕ) : Type 0 where
+  pub outcome : t .outcome ≡ outcomeOf c names (length old) s r
+  pub state : SpellsTimed (stateAfter c names (length old) s r) numbers internal external clock
+  pub count : t .count ≡ length (effectsOf c names (length old) s r)
+  pub written : new ≡ traceWith old (effectsOf c names (length old) s r)
 
 -- ---- a refusal, or none
 
@@ -75,26 +78,27 @@ judged-some (some b) a e = cc
 
 -- ---- each way that a turn is made
 
-module _ (r : Round) (f : Follower) (t : Turn) (numbers internal external old : List ℕ) (w : Spells f numbers internal external) where
-  pub turned-idle : t ≡ untouched Idle → r ≡ idle → Turned r f t numbers internal external old old
-  unfolding outcomeOf followerAfter effectsOf traceWith
-  turned-idle q e = rw (q, e) (record { outcome = refl; state = w; count = refl; written = refl })
+module _ (c : Chart) (names : Names) (r : Round) (s : Timed) where
+  module _ (t : Turn) (numbers internal external clock old : List ℕ) (w : SpellsTimed s numbers internal external clock) where
+    pub turned-idle : t ≡ untouched Idle → r ≡ idle → Turned c names r s t numbers internal external clock old old
+    unfolding outcomeOf stateAfter effectsOf traceWith
+    turned-idle q e = rw (q, e) (record { outcome = refl; state = w; count = refl; written = refl })
 
-  pub turned-over : t ≡ untouched Over → r ≡ over → Turned r f t numbers internal external old old
-  unfolding outcomeOf followerAfter effectsOf traceWith
-  turned-over q e = rw (q, e) (record { outcome = refl; state = w; count = refl; written = refl })
+    pub turned-over : t ≡ untouched Over → r ≡ over → Turned c names r s t numbers internal external clock old old
+    unfolding outcomeOf stateAfter effectsOf traceWith
+    turned-over q e = rw (q, e) (record { outcome = refl; state = w; count = refl; written = refl })
 
-  pub turned-refused : (o : Outcome) → t ≡ untouched o → (next : Follower) (es : List Effect) → r ≡ did next es → o ≡ judged (refusal (length old) next es) → (o ≡ Did → ⊥) →
-      Turned r f t numbers internal external old old
-  unfolding outcomeOf followerAfter effectsOf traceWith judged nextUnless shownUnless
-  turned-refused o y next es e q n = rw (y, e) (go (refusal (length old) next es) refl)
-    where
-      go : (a : Option Answer) → refusal (length old) next es ≡ a → Turned (did next es) f (untouched o) numbers internal external old old
-      go none h = absurd (n (q ∙ ap judged h))
-      go (some a) h = record { outcome = q; state = rw h w; count = rw h; written = rw h }
+    pub turned-refused : (o : Outcome) → t ≡ untouched o → (next : Follower) (es : List Effect) → r ≡ did next es → o ≡ judged (refusedBy c names (length old) s next es) → (o ≡ Did → ⊥) →
+        Turned c names r s t numbers internal external clock old old
+    unfolding outcomeOf stateAfter effectsOf traceWith judged nextUnless shownUnless
+    turned-refused o y next es e q n = rw (y, e) (go (refusedBy c names (length old) s next es) refl)
+      where
+        go : (a : Option Answer) → refusedBy c names (length old) s next es ≡ a → Turned c names (did next es) s (untouched o) numbers internal external clock old old
+        go none h = absurd (n (q ∙ ap judged h))
+        go (some a) h = record { outcome = q; state = rw h w; count = rw h; written = rw h }
 
--- done: the places spell the next state
-pub turned-did : (r : Round) (f : Follower) (t : Turn) (numbers internal external old new : List ℕ) (next : Follower) (es : List Effect) → r ≡ did next es → refusal (length old) next es ≡ none →
-    t .outcome ≡ Did → Spells next numbers internal external → t .count ≡ length es → new ≡ traceWith old es → Turned r f t numbers internal external old new
-unfolding outcomeOf followerAfter effectsOf judged nextUnless shownUnless
-turned-did r f t numbers internal external old new next es e q o w n h = rw e (record { outcome = rw q o; state = rw q w; count = rw q n; written = rw q h })
+  -- done: the places spell the next state
+  pub turned-did : (t : Turn) (numbers internal external clock old new : List ℕ) (next : Follower) (es : List Effect) → r ≡ did next es → refusedBy c names (length old) s next es ≡ none →
+      t .outcome ≡ Did → SpellsTimed (nextOf c names s next es) numbers internal external clock → t .count ≡ length es → new ≡ traceWith old es → Turned c names r s t numbers internal external clock old new
+  unfolding outcomeOf stateAfter effectsOf judged nextUnless shownUnless
+  turned-did t numbers internal external clock old new next es e q o w n h = rw e (record { outcome = rw q o; state = rw q w; count = rw q n; written = rw q h })

@@ -1,10 +1,10 @@
 // The round of a closing session.
-ghost use Rattle.definition.specs.Tables.{chartOf};
-ghost use Rattle.follower.specs.Follower.{closingRound};
+ghost use mathlib.Core.Path.{_≡_};
+ghost use Rattle.definition.specs.declared.Mode.the-variants.{Closing};
 ghost use Rattle.chart.specs.Ready.{Ready};
-ghost use Rattle.state.specs.State.{stateAt, HoldsAt};
-ghost use Rattle.rounds.specs.Turns.{Turned};
-ghost use Rattle.rounds.specs.Closing.{IsEnded};
+ghost use Rattle.clock.specs.Records.{ClockHolds};
+ghost use Rattle.state.specs.State.{modeIn, HoldsAt};
+ghost use Rattle.rounds.specs.Closing.{IsEnded, Closed};
 use crate::NOTHING;
 use crate::Outcome;
 use crate::Turn;
@@ -27,21 +27,24 @@ pub fn ended() -> State
     }
 }
 
-// "exits all that is active in exit order and stores no history; queues are emptied, raises are shown but not queued, mode is ended."
+// "exits all that is active in exit order and stores no history; queues are emptied, raises are shown but not queued, mode is ended"; "a closing round's sends are
+// only shown", and the table is emptied (R-9).
 pub fn close(
     chart: &[u64],
     numbers: &mut [u64],
     internal: &mut [u8],
     external: &mut [u8],
+    clock: &mut [u8],
     trace: &mut [u32],
 ) -> Turn
-    requires { ⌜ Ready (now chart) × HoldsAt (now chart) (now numbers) (now internal) (now external) ⌝ }
-    ensures { λ r. ⌜ Turned (closingRound (chartOf (now (chart .entry))) (stateAt (now (chart .entry)) (now (numbers .entry)) (now (internal .entry)) (now (external .entry)))) (stateAt (now (chart .entry)) (now (numbers .entry)) (now (internal .entry)) (now (external .entry))) r (now (numbers .exit)) (now (internal .exit)) (now (external .exit)) (now (trace .entry)) (now (trace .exit)) ⌝ }
+    requires { ⌜ Ready (now chart) × HoldsAt (now chart) (now numbers) (now internal) (now external) × (modeIn (now numbers) ≡ Closing) × ClockHolds Closing (now clock) ⌝ }
+    ensures { λ r. ⌜ Closed (now (chart .entry)) (now (numbers .entry)) (now (internal .entry)) (now (external .entry)) (now (clock .entry)) r (now (numbers .exit)) (now (internal .exit)) (now (external .exit)) (now (clock .exit)) (now (trace .entry)) (now (trace .exit)) ⌝ }
 {
     let conf = chart::set_at(numbers, 0);
     let shown = Tally {
         entries: count_closing(chart, conf).entries,
         names: 0,
+        timers: 0,
     };
     let outcome = judge(0, shown, trace.len());
     let Outcome::Did = outcome else {
@@ -51,6 +54,7 @@ pub fn close(
     let tally = microstep::closing_effects(chart, conf, trace, &mut none, NOTHING);
     queue::clear(internal);
     queue::clear(external);
+    clock::drop_pending(clock);
     state::put_state(numbers, ended());
     Turn {
         outcome: Outcome::Did,

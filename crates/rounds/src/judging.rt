@@ -2,7 +2,6 @@
 ghost use mathlib.Core.Path.{_≡_};
 ghost use Prim.Native.Nat.{_+_, _≤_};
 ghost use lib.Dec.{ltb};
-ghost use lib.ListN.{length};
 ghost use Rattle.definition.specs.Tables.{rowCount, chartOf};
 ghost use Rattle.follower.specs.Microstep.{exiting};
 ghost use Rattle.follower.specs.Follower.{refusalIf};
@@ -12,7 +11,7 @@ ghost use Rattle.matching.specs.Chosen.{Within};
 ghost use Rattle.microstep.specs.Plan.{PlanReady, startEffects};
 ghost use Rattle.rounds.specs.Turns.{judged, untouched};
 ghost use Rattle.rounds.specs.Judging.{Counted};
-ghost use Rattle.rounds.specs.Traces.{Joined};
+ghost use Rattle.rounds.specs.Traces.{Unskipped, Noted};
 use crate::NOTHING;
 use crate::Outcome;
 use crate::Turn;
@@ -57,11 +56,11 @@ pub fn count_closing(chart: &[u64], conf: RowSet) -> Tally
     microstep::closing_effects(chart, conf, &mut none, &mut nobody, NOTHING)
 }
 
-// What joins at a start is kept.
-pub fn count_first(chart: &[u64], plan: Plan, joins: &mut [u32]) -> Tally
-    requires { ⌜ PlanReady (now chart) plan × (length (now joins) ≡ 32) ⌝ }
-    ensures { λ t. ⌜ Counted t (startEffects (chartOf (now (chart .entry))) plan) × Joined (now (joins .exit)) t (startEffects (chartOf (now (chart .entry))) plan) ⌝ }
+// What joins at a start is noted, and what is sent and cancelled.
+pub fn count_first(chart: &[u64], plan: Plan, notes: &mut [u32]) -> Tally
+    requires { ⌜ PlanReady (now chart) plan × Unskipped (now notes) ⌝ }
+    ensures { λ t. ⌜ Counted t (startEffects (chartOf (now (chart .entry))) plan) × Noted (now (notes .exit)) t (startEffects (chartOf (now (chart .entry))) plan) ⌝ }
 {
     let mut none = [0u32; 0];
-    microstep::first_effects(chart, plan, &mut none, joins, NOTHING)
+    microstep::first_effects(chart, plan, &mut none, notes, NOTHING)
 }

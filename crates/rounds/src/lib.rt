@@ -1,5 +1,5 @@
-// Rounds over the lent places of a session. A round is worked out whole, into a draft; 7 and 10 are judged; then history, queues and trace
-// are written. A refused round changes none of them, since none of them was written.
+// Rounds over the lent places of a session and its clock record. A round is worked out whole, into a draft; 7 and 10 are judged; then the record, history, queues
+// and trace are written. A refused round changes none of them, since none of them was written.
 use definition::Answer;
 use definition::Status;
 use effects::Tally;
@@ -13,6 +13,7 @@ mod judging;
 mod running;
 mod starting;
 mod taking;
+mod timing;
 
 // What a start has done: count entries of the trace are its own.
 pub struct Begun {
@@ -54,11 +55,13 @@ pub struct Shown {
     pub tally: Tally,
 }
 
-// What joins the internal queue is kept beside the draft: more than this are refused.
-const JOINS: usize = 32;
+// What is noted beside the draft: 32 names that join the internal queue, of which more are refused; how many sends and cancels are passed over; and the first
+// eight of these, two numbers each.
+const NOTES: usize = 49;
 
 // Nothing is counted yet: effects are written from the beginning of what is lent.
 const NOTHING: Tally = Tally {
     entries: 0,
     names: 0,
+    timers: 0,
 };

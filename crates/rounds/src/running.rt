@@ -7,11 +7,12 @@ ghost use Rattle.follower.specs.Selection.{selected};
 ghost use Rattle.follower.specs.Follower.{round, run};
 ghost use Rattle.rowset.specs.Member.{rowsOf};
 ghost use Rattle.chart.specs.Ready.{CompiledWith};
+ghost use Rattle.clock.specs.Records.{ClockHolds};
 ghost use Rattle.selection.specs.History.{storedAt};
 ghost use Rattle.state.specs.State.{configurationIn, historyIn, internalIn, externalIn, modeIn, stateAt, HoldsAt};
 ghost use Rattle.lookup.specs.Lookup.{Lookup};
 ghost use Rattle.events.specs.Rounds.{EventReady};
-ghost use Rattle.rounds.specs.Calls.{RunDone};
+ghost use Rattle.rounds.specs.Calls.{timedAt, RunDone};
 ghost use Rattle.rounds.specs.Turns.{statusOf, Turned};
 ghost use Rattle.rounds.specs.Resting.{restBy};
 use crate::Outcome;
@@ -32,9 +33,10 @@ fn round(
     external: &mut [u8],
     items: &mut [u16],
     trace: &mut [u32],
+    clock: &mut [u8],
 ) -> Turn
-    requires { ⌜ Lookup (now chart) (now names) (now index) × HoldsAt (now chart) (now numbers) (now internal) (now external) × (length (now items) ≡ 768) ⌝ }
-    ensures { λ r. ⌜ Turned (round (chartOf (now (chart .entry))) (nameAt (now (names .entry))) (stateAt (now (chart .entry)) (now (numbers .entry)) (now (internal .entry)) (now (external .entry)))) (stateAt (now (chart .entry)) (now (numbers .entry)) (now (internal .entry)) (now (external .entry))) r (now (numbers .exit)) (now (internal .exit)) (now (external .exit)) (now (trace .entry)) (now (trace .exit)) ⌝ }
+    requires { ⌜ Lookup (now chart) (now names) (now index) × HoldsAt (now chart) (now numbers) (now internal) (now external) × (length (now items) ≡ 768) × ClockHolds (modeIn (now numbers)) (now clock) ⌝ }
+    ensures { λ r. ⌜ Turned (chartOf (now (chart .entry))) (nameAt (now (names .entry))) (round (chartOf (now (chart .entry))) (nameAt (now (names .entry))) (stateAt (now (chart .entry)) (now (numbers .entry)) (now (internal .entry)) (now (external .entry)))) (timedAt (now (chart .entry)) (now (numbers .entry)) (now (internal .entry)) (now (external .entry)) (now (clock .entry))) r (now (numbers .exit)) (now (internal .exit)) (now (external .exit)) (now (clock .exit)) (now (trace .entry)) (now (trace .exit)) ⌝ }
 {
     let mode = state::mode_from(numbers[state::MODE]);
     match mode {
@@ -47,8 +49,9 @@ fn round(
             external,
             items,
             trace,
+            clock,
         ),
-        Mode::Closing => close(chart, numbers, internal, external, trace),
+        Mode::Closing => close(chart, numbers, internal, external, clock, trace),
         Mode::Ended => unchanged(Outcome::Over),
     }
 }
@@ -111,11 +114,12 @@ pub fn run(
     numbers: &mut [u64],
     internal: &mut [u8],
     external: &mut [u8],
+    clock: &mut [u8],
     rounds: u32,
     trace: &mut [u32],
 ) -> Progress
-    requires { ⌜ CompiledWith (now chart) (now names) × HoldsAt (now chart) (now numbers) (now internal) (now external) ⌝ }
-    ensures { λ r. ⌜ RunDone (run (chartOf (now (chart .entry))) (nameAt (now (names .entry))) rounds (stateAt (now (chart .entry)) (now (numbers .entry)) (now (internal .entry)) (now (external .entry))) (length (now (trace .entry)))) r (now (numbers .exit)) (now (internal .exit)) (now (external .exit)) (now (trace .entry)) (now (trace .exit)) ⌝ }
+    requires { ⌜ CompiledWith (now chart) (now names) × HoldsAt (now chart) (now numbers) (now internal) (now external) × ClockHolds (modeIn (now numbers)) (now clock) ⌝ }
+    ensures { λ r. ⌜ RunDone (run (chartOf (now (chart .entry))) (nameAt (now (names .entry))) rounds (timedAt (now (chart .entry)) (now (numbers .entry)) (now (internal .entry)) (now (external .entry)) (now (clock .entry))) (length (now (trace .entry)))) r (now (numbers .exit)) (now (internal .exit)) (now (external .exit)) (now (clock .exit)) (now (trace .entry)) (now (trace .exit)) ⌝ }
 {
     let mut index = [0u16; lookup::INDEX];
     lookup::put_index(chart, &mut index);
@@ -133,6 +137,7 @@ pub fn run(
             external,
             &mut items,
             rest,
+            clock,
         );
         count += turn.count;
         let outcome = turn.outcome;

@@ -11,16 +11,20 @@ ghost use Rattle.selection.specs.History.{storedAt};
 ghost use Rattle.selection.specs.Ready.{Selects};
 ghost use Rattle.effects.specs.Trace.{places, Wrote};
 ghost use Rattle.microstep.specs.Stored.{RoundReady};
-ghost use Rattle.microstep.specs.Plan.{Planned, PlanReady, planEffects};
+ghost use Rattle.microstep.specs.Plan.{Planned, PlanReady};
 ghost use Rattle.legality.specs.Rows.{RowsReady};
-ghost use Rattle.state.specs.State.{configurationIn, historyIn, stateAt, HoldsAt};
+ghost use Rattle.clock.specs.Records.{ClockHolds};
+ghost use Rattle.state.specs.State.{configurationIn, historyIn, modeIn, stateAt, HoldsAt};
 ghost use Rattle.lookup.specs.Lookup.{atomicIn, IndexOf, Lookup};
 ghost use Rattle.events.specs.Left.{internalLeft, externalLeft};
+ghost use Rattle.events.specs.Timers.{TimersStand};
+ghost use Rattle.rounds.specs.Calls.{timedAt};
 ghost use Rattle.rounds.specs.Turns.{Turned};
-ghost use Rattle.rounds.specs.Judging.{LeavesInternal, LeavesExternal, Shows};
-ghost use Rattle.rounds.specs.Taking.{stepTakes, byIn, Decided, Commits};
-ghost use Rattle.rounds.specs.Traces.{nothing};
-use crate::JOINS;
+ghost use Rattle.rounds.specs.Judging.{LeavesInternal, LeavesExternal};
+ghost use Rattle.rounds.specs.Timing.{stepEffects, Shows};
+ghost use Rattle.rounds.specs.Taking.{Decided, Commits};
+ghost use Rattle.rounds.specs.Traces.{nothing, Unskipped};
+use crate::NOTES;
 use crate::NOTHING;
 use crate::Outcome;
 use crate::Shown;
@@ -28,6 +32,7 @@ use crate::Step;
 use crate::Turn;
 use crate::judging::judge;
 use crate::judging::unchanged;
+use crate::timing::judge_timed;
 use definition::Mode;
 use effects::Tally;
 use events::Choice;
@@ -73,42 +78,48 @@ pub fn mode_of(chart: &[u64], conf: RowSet) -> Mode
 // ---- what is shown: the trace
 
 // What the step does is written. Its transitions are the first of the items; the places behind those say which row chose each.
-fn step_effects(
+pub fn step_effects(
     chart: &[u64],
     step: Step,
     items: &[u16],
     trace: &mut [u32],
-    joins: &mut [u32],
+    notes: &mut [u32],
 ) -> Tally
     requires { ⌜ PlanReady (now chart) (step .plan) × ChosenIn (transitionCount (now chart)) (now items) (step .len) ⌝ }
-    ensures { λ t. ⌜ Wrote (places (now (trace .entry)) (now (joins .entry))) (places (now (trace .exit)) (now (joins .exit))) nothing t (planEffects (chartOf (now (chart .entry))) (step .plan) (byIn (now (items .entry))) (stepTakes (now (items .entry)) step)) ⌝ }
+    ensures { λ t. ⌜ Wrote (places (now (trace .entry)) (now (notes .entry))) (places (now (trace .exit)) (now (notes .exit))) nothing t (stepEffects (now (chart .entry)) (now (items .entry)) step) ⌝ }
 {
     let plan = step.plan;
     let n = step.len;
     let chosen = &items[..n];
     let by = &items[matching::CHOOSERS..matching::ITEMS];
-    microstep::plan_effects(chart, plan, chosen, by, trace, joins, NOTHING)
+    microstep::plan_effects(chart, plan, chosen, by, trace, notes, NOTHING)
 }
 
 // It is drafted first; the effects of one with more entries than this are worked out twice.
 const DRAFT: usize = 168;
 
-// The step is drafted, judged with so many names that wait, and written into the trace unless it is refused. Where the draft was too short all is worked out
-// again: the step is handed on there alone, so that no other round copies it.
+// The step is drafted, judged with so many names that wait and with the clock record where it sends or cancels, and written into the trace unless it is refused.
+// Where the draft was too short all is worked out again. The step is handed on in these cases alone, so that no other round copies it.
 fn show(
     chart: &[u64],
+    names: &[u8],
     step: Step,
     items: &[u16],
     kept: u64,
-    joins: &mut [u32],
+    notes: &mut [u32],
+    clock: &mut [u8],
     trace: &mut [u32],
 ) -> Shown
-    requires { ⌜ PlanReady (now chart) (step .plan) × ChosenIn (transitionCount (now chart)) (now items) (step .len) × (kept ≤ 32) × (length (now joins) ≡ 32) ⌝ }
-    ensures { λ s. ⌜ Shows (planEffects (chartOf (now (chart .entry))) (step .plan) (byIn (now (items .entry))) (stepTakes (now (items .entry)) step)) kept (now (trace .entry)) (now (trace .exit)) (now (joins .exit)) s ⌝ }
+    requires { ⌜ PlanReady (now chart) (step .plan) × ChosenIn (transitionCount (now chart)) (now items) (step .len) × (kept ≤ 32) × Unskipped (now notes) × TimersStand (now names) (stepEffects (now chart) (now items) step) × ClockHolds Running (now clock) ⌝ }
+    ensures { λ s. ⌜ Shows (now (names .entry)) (stepEffects (now (chart .entry)) (now (items .entry)) step) kept (now (clock .entry)) (now (clock .exit)) (now (trace .entry)) (now (trace .exit)) (now (notes .exit)) s ⌝ }
 {
     let mut draft = [0u32; DRAFT];
-    let tally = step_effects(chart, step, items, &mut draft, joins);
-    let outcome = judge(kept, tally, trace.len());
+    let tally = step_effects(chart, step, items, &mut draft, notes);
+    let room = trace.len();
+    let mut outcome = judge(kept, tally, room);
+    if 0 < tally.timers {
+        outcome = judge_timed(chart, names, step, items, kept, tally, notes, clock, room);
+    }
     let Outcome::Did = outcome else {
         return Shown {
             outcome: outcome,
@@ -204,9 +215,10 @@ pub fn take(
     external: &mut [u8],
     items: &mut [u16],
     trace: &mut [u32],
+    clock: &mut [u8],
 ) -> Turn
-    requires { ⌜ Lookup (now chart) (now names) (now index) × HoldsAt (now chart) (now numbers) (now internal) (now external) × (length (now items) ≡ 768) ⌝ }
-    ensures { λ r. ⌜ Turned (roundIn Running (chartOf (now (chart .entry))) (nameAt (now (names .entry))) (stateAt (now (chart .entry)) (now (numbers .entry)) (now (internal .entry)) (now (external .entry)))) (stateAt (now (chart .entry)) (now (numbers .entry)) (now (internal .entry)) (now (external .entry))) r (now (numbers .exit)) (now (internal .exit)) (now (external .exit)) (now (trace .entry)) (now (trace .exit)) ⌝ }
+    requires { ⌜ Lookup (now chart) (now names) (now index) × HoldsAt (now chart) (now numbers) (now internal) (now external) × (length (now items) ≡ 768) × (modeIn (now numbers) ≡ Running) × ClockHolds Running (now clock) ⌝ }
+    ensures { λ r. ⌜ Turned (chartOf (now (chart .entry))) (nameAt (now (names .entry))) (roundIn Running (chartOf (now (chart .entry))) (nameAt (now (names .entry))) (stateAt (now (chart .entry)) (now (numbers .entry)) (now (internal .entry)) (now (external .entry)))) (timedAt (now (chart .entry)) (now (numbers .entry)) (now (internal .entry)) (now (external .entry)) (now (clock .entry))) r (now (numbers .exit)) (now (internal .exit)) (now (external .exit)) (now (clock .exit)) (now (trace .entry)) (now (trace .exit)) ⌝ }
 {
     let choice = events::choose(chart, names, index, numbers, internal, external, items);
     let source = choice.source;
@@ -216,8 +228,8 @@ pub fn take(
     let step = plan_step(chart, index, numbers, choice, items);
     let from = step.source;
     let kept = internal_left(from, numbers[state::INTERNAL]);
-    let mut joins = [0u32; JOINS];
-    let shown = show(chart, step, items, kept, &mut joins, trace);
+    let mut notes = [0u32; NOTES];
+    let shown = show(chart, names, step, items, kept, &mut notes, clock, trace);
     let outcome = shown.outcome;
     let Outcome::Did = outcome else {
         return unchanged(outcome);
@@ -232,7 +244,7 @@ pub fn take(
         internal,
         external,
         step,
-        &joins[..n],
+        &notes[..n],
     );
     Turn {
         outcome: Outcome::Did,

@@ -11,7 +11,7 @@ use lib.ListN.{length, getD, drop, drop-of-length-le}
 use lib.Seq.{drop-cons}
 use borrow.Author.Tests.{leb-true, le-leb, lt-leb, ltb-true}
 use Rattle.definition.specs.declared.Action.{Action}
-use Rattle.definition.specs.declared.Action.the-variants.{Raise, Host, If, ElseIf, Else, End}
+use Rattle.definition.specs.declared.Action.the-variants.{Raise, Host, If, ElseIf, Else, End, Send, Cancel}
 use Rattle.definition.specs.Rows.{all, from, isEmpty}
 use Rattle.definition.specs.Chart.{Chart}
 use Rattle.definition.specs.Tables.{rowCount, transitionCount, actionCount, rowCell, transitionCell, actionCell, actionAt, actionOf, blockAt, entryAt, exitAt, listBlockAt, transitionBlockAt, chartOf}
@@ -43,6 +43,14 @@ module _ (c : Chart) (a : Action) where
   pub test-host : (n : ℕ) → a ≡ Host n → true ≡ testFits c a
   unfolding testFits
   test-host n e = sym (rw e)
+
+  pub test-send : (n delay id : ℕ) → a ≡ Send n delay id → true ≡ testFits c a
+  unfolding testFits
+  test-send n delay id e = sym (rw e)
+
+  pub test-cancel : (n : ℕ) → a ≡ Cancel n → true ≡ testFits c a
+  unfolding testFits
+  test-cancel n e = sym (rw e)
 
   pub test-if : (i k : ℕ) (b : Bool) → a ≡ If i → k ≡ i → b ≡ conditionFits c (some k) → b ≡ testFits c a
   unfolding testFits

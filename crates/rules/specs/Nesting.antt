@@ -8,7 +8,7 @@ use lib.Dec.{eqb, leb, ltb}
 use lib.ListN.{length}
 use borrow.Author.Tests.{eq-eqb, ne-eqb, lt-ltb, le-ltb, le-leb, ltb-true, eqb-true}
 use Rattle.definition.specs.declared.Action.{Action}
-use Rattle.definition.specs.declared.Action.the-variants.{Raise, Host, If, ElseIf, Else, End}
+use Rattle.definition.specs.declared.Action.the-variants.{Raise, Host, If, ElseIf, Else, End, Send, Cancel}
 use Rattle.definition.specs.Rows.{isEmpty}
 use Rattle.definition.specs.Tables.{mostNested}
 use Rattle.definition.specs.Rules.{awaitsElse, withElse, closed, nests}
@@ -21,6 +21,8 @@ stepNo n (If i) = cond (ltb n 16) (n * 2) 0
 stepNo n (ElseIf i) = cond (leb 2 n && eqb (n % 2) 0) n 0
 stepNo n Else = cond (leb 2 n && eqb (n % 2) 0) (n + 1) 0
 stepNo n End = n / 2
+stepNo n (Send x delay id) = n
+stepNo n (Cancel x) = n
 
 unfoldable pub nestsNo : ℕ → List Action → Bool
 nestsNo n [] = eqb n 1
@@ -53,6 +55,8 @@ broken (If i ∷ rest) = broken rest
 broken (ElseIf i ∷ rest) = broken rest
 broken (Else ∷ rest) = broken rest
 broken (End ∷ rest) = broken rest
+broken (Send x delay id ∷ rest) = broken rest
+broken (Cancel x ∷ rest) = broken rest
 
 -- four levels are below 32, fewer below 16
 low-four : (l : List Bool) → length l ≤ mostNested → ltb (code l) 16 ≡ ltb (length l) mostNested
@@ -71,6 +75,8 @@ code-nests [] [] h = refl
 code-nests [] (b ∷ l) h = let p = some-code l in ne-eqb (code l * 2 + digit b) 1 (omega arith)
 code-nests (Raise x ∷ rest) l h = code-nests rest l h
 code-nests (Host x ∷ rest) l h = code-nests rest l h
+code-nests (Send x delay id ∷ rest) l h = code-nests rest l h
+code-nests (Cancel x ∷ rest) l h = code-nests rest l h
 code-nests (If i ∷ rest) l h =
     bool-case (ltb (length l) mostNested)
     (λ e. let q : ltb (code l) 16 ≡ true = low-four l h ∙ e in
@@ -116,6 +122,8 @@ pub step-low : (n : ℕ) (a : Action) → n < 32 → stepNo n a < 32
 unfolding stepNo
 step-low n (Raise x) h = h
 step-low n (Host x) h = h
+step-low n (Send x delay id) h = h
+step-low n (Cancel x) h = h
 step-low n (If i) h = bool-case (ltb n 16) (λ e. let l : n < 16 = ltb-true _ _ e in rw e (omega arith)) (λ e. rw e (omega arith))
 step-low n (ElseIf i) h = bool-case (leb 2 n && eqb (n % 2) 0) (λ e. rw e h) (λ e. rw e (omega arith))
 step-low n Else h =
@@ -154,3 +162,11 @@ module _ (n : ℕ) (a : Action) where
   pub at-end : a ≡ End → n / 2 ≡ stepNo n a
   unfolding stepNo
   at-end e = sym (rw e)
+
+pub at-send : (n : ℕ) (a : Action) (x delay id : ℕ) → a ≡ Send x delay id → n ≡ stepNo n a
+unfolding stepNo
+at-send n a x delay id e = sym (rw e)
+
+pub at-cancel : (n : ℕ) (a : Action) (x : ℕ) → a ≡ Cancel x → n ≡ stepNo n a
+unfolding stepNo
+at-cancel n a x e = sym (rw e)

@@ -17,9 +17,6 @@ use numbers::Row;
 use numbers::Transition;
 use tables::columns;
 
-// Raise and host action have lower numbers.
-const IF: u64 = 2;
-
 // The open ifs are a 1 and behind it a binary digit for each, the innermost last: 1 where its else was seen. 0 is a broken block.
 const NONE_OPEN: u64 = 1;
 
@@ -43,6 +40,8 @@ fn step(ifs: u64, action: Action) -> u64
             }
         }
         Action::End => ifs / 2,
+        Action::Send(_, _, _) => ifs,
+        Action::Cancel(_) => ifs,
     }
 }
 
@@ -66,6 +65,8 @@ fn test_fits(numbers: &[u64], action: Action) -> bool
         Action::ElseIf(i) => may_be_asked(numbers, Row(i as u8)),
         Action::Else => true,
         Action::End => true,
+        Action::Send(_, _, _) => true,
+        Action::Cancel(_) => true,
     }
 }
 
@@ -133,7 +134,7 @@ fn transitions_branches_fit(numbers: &[u64]) -> bool
     true
 }
 
-// Whether no action of the table is a part of an if.
+// Whether no action of the table is a part of an if: raise and host action have lower numbers than those.
 fn all_plain(numbers: &[u64]) -> bool
     requires { ⌜ InTables (now numbers) ⌝ }
     ensures { λ b. ⌜ b ≡ all (isPlainAt (now (numbers .entry))) (from (actionCount (now (numbers .entry))) 0) ⌝ }
@@ -141,7 +142,7 @@ fn all_plain(numbers: &[u64]) -> bool
     let n = tables::action_count(numbers);
     let mut i = 0;
     while i < n {
-        if IF <= tables::action_cell(numbers, i, columns::ACTION_KIND) {
+        if columns::IF <= tables::action_cell(numbers, i, columns::ACTION_KIND) {
             return false;
         }
         i += 1;

@@ -1,14 +1,16 @@
 -- The names of slots and of raises, as they were read.
-use mathlib.Core.Path.{_≡_, sym, _∙_}
-use mathlib.Core.Bool.{Bool, true, _&&_}
+use mathlib.Core.Path.{_≡_, refl, _∙_}
+use mathlib.Core.Bool.{Bool, true, false, _&&_, _||_}
 use mathlib.Core.List.{List}
 use Prim.Native.Nat.{ℕ, _<_}
-use borrow.Author.Tests.{ltb-true}
+use lib.Dec.{eqb, leb, ltb}
+use borrow.Author.Tests.{ltb-true, ne-eqb}
 use Rattle.definition.specs.declared.Action.{Action}
-use Rattle.definition.specs.declared.Action.the-variants.{Raise, Host, If, ElseIf, Else, End}
+use Rattle.definition.specs.declared.Action.the-variants.{Raise, Host, If, ElseIf, Else, End, Send, Cancel}
 use Rattle.definition.specs.Names.{isName, isDescriptor, beforeZero, zerosAfter}
-use Rattle.definition.specs.Tables.{nameCount, actionAt, nameAt}
-use Rattle.definition.specs.Rules.{slotFits, raiseFits, actionNamed}
+use Rattle.definition.specs.Tables.{noNumber, mostDelay, nameCount, actionAt, nameAt}
+use Rattle.definition.specs.Rules.{optionalBelow, slotFits, raiseFits, actionNamed}
+use Rattle.laws.specs.Bools.{no, and3}
 use Rattle.tables.specs.Actions.{numberFits}
 use Rattle.tables.specs.Parts.{SlotOf}
 
@@ -16,32 +18,67 @@ pub slot-judged : (names : List ℕ) (n : ℕ) (xs : List ℕ) (b : Bool) → Sl
 unfolding slotFits nameAt
 slot-judged names n xs b a e = e ∙ rw (a .is)
 
+-- the name of a slot
+pub slot-named : (names : List ℕ) (n : ℕ) (xs ys : List ℕ) (b : Bool) → SlotOf names n xs → ys ≡ beforeZero xs → b ≡ isName ys → b ≡ isName (nameAt names n)
+unfolding nameAt
+slot-named names n xs ys b s z h = h ∙ rw (z, s .is)
+
+abbrev pub hasNoName : Action → Bool
+hasNoName (Raise n) = false
+hasNoName (Host n) = true
+hasNoName (If i) = true
+hasNoName (ElseIf i) = true
+hasNoName Else = true
+hasNoName End = true
+hasNoName (Send n delay id) = false
+hasNoName (Cancel n) = false
+
+-- what rule 1 gives of the names of an action
 pub raise-low : (numbers : List ℕ) (n : ℕ) (x : Action) → x ≡ Raise n → numberFits numbers x ≡ true → n < nameCount numbers
 unfolding numberFits
 raise-low numbers n x e h = ltb-true _ _ (rw e at h)
 
-module _ (numbers names : List ℕ) (a n : ℕ) (x : Action) (e : x ≡ actionAt numbers a) where
-  pub raise-named : (xs ys : List ℕ) (b : Bool) → x ≡ Raise n → SlotOf names n xs → ys ≡ beforeZero xs → b ≡ isName ys → b ≡ actionNamed numbers names a
-  unfolding actionNamed raiseFits nameAt
-  raise-named xs ys b q s z h = h ∙ rw (z, s .is) (sym (rw (← e, q)))
+pub cancel-low : (numbers : List ℕ) (n : ℕ) (x : Action) → x ≡ Cancel n → numberFits numbers x ≡ true → n < nameCount numbers
+unfolding numberFits
+cancel-low numbers n x e h = ltb-true _ _ (rw e at h)
 
-  pub host-named : x ≡ Host n → true ≡ actionNamed numbers names a
-  unfolding actionNamed raiseFits
-  host-named q = sym (rw (← e, q))
+pub send-low : (numbers : List ℕ) (n delay id : ℕ) (x : Action) → x ≡ Send n delay id → numberFits numbers x ≡ true → (n < nameCount numbers) × (optionalBelow (nameCount numbers) id ≡ true)
+unfolding numberFits
+send-low numbers n delay id x e h =
+    let k = and3 (ltb n (nameCount numbers)) (leb delay mostDelay) (optionalBelow (nameCount numbers) id) (rw e at h) in (ltb-true _ _ (k .0), k .2)
 
-  pub if-named : x ≡ If n → true ≡ actionNamed numbers names a
-  unfolding actionNamed raiseFits
-  if-named q = sym (rw (← e, q))
+-- an action of the table, judged by what it is
+pub judged : (numbers names : List ℕ) (a : ℕ) (x y : Action) (b : Bool) → x ≡ actionAt numbers a → x ≡ y → b ≡ raiseFits names y → b ≡ actionNamed numbers names a
+unfolding actionNamed
+judged numbers names a x y b e q h = h ∙ rw (← q, e)
 
-  pub elseif-named : x ≡ ElseIf n → true ≡ actionNamed numbers names a
-  unfolding actionNamed raiseFits
-  elseif-named q = sym (rw (← e, q))
+pub raise-named : (names : List ℕ) (n : ℕ) → isName (nameAt names n) ≡ raiseFits names (Raise n)
+unfolding raiseFits
+raise-named names n = refl
 
-module _ (numbers names : List ℕ) (a : ℕ) (x : Action) (e : x ≡ actionAt numbers a) where
-  pub else-named : x ≡ Else → true ≡ actionNamed numbers names a
-  unfolding actionNamed raiseFits
-  else-named q = sym (rw (← e, q))
+pub cancel-named : (names : List ℕ) (n : ℕ) → isName (nameAt names n) ≡ raiseFits names (Cancel n)
+unfolding raiseFits
+cancel-named names n = refl
 
-  pub end-named : x ≡ End → true ≡ actionNamed numbers names a
-  unfolding actionNamed raiseFits
-  end-named q = sym (rw (← e, q))
+pub send-named : (names : List ℕ) (n delay id : ℕ) (a b : Bool) → a ≡ isName (nameAt names n) → b ≡ (eqb id noNumber || isName (nameAt names id)) → (a && b) ≡ raiseFits names (Send n delay id)
+unfolding raiseFits
+send-named names n delay id a b e q = rw (e, q)
+
+-- no other action has a name
+pub nameless : (names : List ℕ) (x : Action) → hasNoName x ≡ true → true ≡ raiseFits names x
+unfolding raiseFits
+nameless names (Raise n) h = absurd (no h)
+nameless names (Host n) h = refl
+nameless names (If i) h = refl
+nameless names (ElseIf i) h = refl
+nameless names Else h = refl
+nameless names End h = refl
+nameless names (Send n delay id) h = absurd (no h)
+nameless names (Cancel n) h = absurd (no h)
+
+-- a send id or none
+pub none-named : (names : List ℕ) (n : ℕ) → n ≡ noNumber → true ≡ (eqb n noNumber || isName (nameAt names n))
+none-named names n e = rw e
+
+pub other-named : (names : List ℕ) (n : ℕ) (b : Bool) → (n ≡ noNumber → ⊥) → b ≡ isName (nameAt names n) → b ≡ (eqb n noNumber || isName (nameAt names n))
+other-named names n b d e = rw (ne-eqb n noNumber d, e)

@@ -13,14 +13,9 @@ use numbers::Transition;
 use tables::columns;
 use tables::limits;
 
-// The number of the last kind of row, of the last host action, of the last kind of action, and of the last that has a row of In.
-const LAST_KIND: u64 = 5;
-
 const LAST_HOST_ACTION: u64 = 65535;
 
-const LAST_ACTION: u64 = 5;
-
-const LAST_WITH_A_ROW: u64 = 3;
+const MOST_DELAY: u64 = 4294967295;
 
 // A start and a count in a table of so many. Their sum may be more than 64 bits hold.
 fn is_inside(total: u64, start: u64, count: u64) -> bool
@@ -93,7 +88,7 @@ fn row_in_range(numbers: &[u64], r: Row) -> bool
     let kind = tables::row_cell(numbers, r, columns::KIND);
     let parent = tables::row_cell(numbers, r, columns::PARENT);
     let id = tables::row_cell(numbers, r, columns::ID);
-    let own = (kind <= LAST_KIND)
+    let own = (kind <= kinds::DEEP)
         & is_optional_below(tables::row_count(numbers), parent)
         & is_optional_below(tables::name_count(numbers), id);
     if has_no_parts(numbers, r) {
@@ -155,16 +150,20 @@ fn transition_in_range(numbers: &[u64], t: Transition) -> bool
         & transition_list_fits(numbers, t, columns::BLOCK, actions, limits::MOST_ACTIONS)
 }
 
+// The number in the second cell of an action that is no send. An elseif is the last kind that has a row of In.
 fn argument_fits(numbers: &[u64], kind: u64, argument: u64) -> bool
     ensures { λ b. ⌜ ArgumentIs (now (numbers .entry)) kind argument b ⌝ }
 {
-    if kind == 0 {
+    if columns::SEND <= kind {
         return argument < tables::name_count(numbers);
     }
-    if kind == 1 {
+    if kind == columns::RAISE {
+        return argument < tables::name_count(numbers);
+    }
+    if kind == columns::HOST {
         return argument <= LAST_HOST_ACTION;
     }
-    if kind <= LAST_WITH_A_ROW {
+    if kind <= columns::ELSE_IF {
         return argument < tables::row_count(numbers);
     }
     argument == 0
@@ -176,10 +175,13 @@ fn action_in_range(numbers: &[u64], a: u64) -> bool
 {
     let kind = tables::action_cell(numbers, a, columns::ACTION_KIND);
     let argument = tables::action_cell(numbers, a, columns::ARGUMENT);
-    (kind <= LAST_ACTION)
-        & argument_fits(numbers, kind, argument)
-        & (tables::action_cell(numbers, a, columns::ARGUMENT + 1) == 0)
-        & (tables::action_cell(numbers, a, columns::ARGUMENT + 2) == 0)
+    let delay = tables::action_cell(numbers, a, columns::DELAY);
+    let id = tables::action_cell(numbers, a, columns::SEND_ID);
+    if kind == columns::SEND {
+        let n = tables::name_count(numbers);
+        return (argument < n) & (delay <= MOST_DELAY) & is_optional_below(n, id);
+    }
+    (kind <= columns::CANCEL) & argument_fits(numbers, kind, argument) & (delay == 0) & (id == 0)
 }
 
 fn rows_in_range(numbers: &[u64]) -> bool

@@ -12,6 +12,7 @@ use Rattle.definition.specs.Chart.{Chart}
 use Rattle.definition.specs.Tables.{rowCount, chartOf, nameAt}
 use Rattle.follower.specs.Follower as follower
 use Rattle.definition.specs.Answers.{modeNo}
+use Rattle.follower.specs.Clock.{newClock}
 use Rattle.follower.specs.Follower.{Follower, startOr, start, run}
 use Rattle.definition.specs.Compiled.{words, ownNumbers, isCompiled}
 use Rattle.accepted.specs.Sound.{Sound}
@@ -19,14 +20,19 @@ use Rattle.rowset.specs.Member.{rowsOf}
 use Rattle.chart.specs.Ready.{setAt}
 use Rattle.chart.specs.Own.{own-chart, compiled-ready}
 use Rattle.state.specs.declared.State.{State}
-use Rattle.state.specs.State.{rowsAt, modeFrom, numbersOf, historyIn, internalIn, externalIn, Spells, Holds, stateAt, HoldsAt, traceWith}
+use Rattle.state.specs.State.{rowsAt, modeFrom, numbersOf, historyIn, internalIn, externalIn, Spells, Holds, modeIn, stateOf, stateAt, HoldsAt, traceWith}
 use Rattle.state.specs.Places.{reads-words, reads-history, reads-internal, reads-external, reads-number, state-again}
 use Rattle.state.specs.Numbers.{back-history}
+use Rattle.clock.specs.Records.{clockBytes, clockIn, ClockHolds}
+use Rattle.clock.specs.Spelled.{zeros-are-new}
+use Rattle.rounds.specs.Calls.{timedAt}
 use Rattle.session.specs.declared.Session.{Session}
+use Rattle.session.specs.declared.Clock.{Clock}
 use Rattle.session.specs.declared.Started.{Started}
 use Rattle.session.specs.declared.Ran.{Ran}
-use Rattle.session.specs.Sessions.{session, sessionAt, sessionOf, endedSession, view, isSession, startBy, startOf, startEffects, refusedRun, ranAs, runFrom, runOf, runEffects}
+use Rattle.session.specs.Sessions.{session, sessionAt, sessionOf, endedSession, view, isSession, recordOf, viewTimed, isTimed, startBy, startedAs, startOf, startEffects, refusedRun, ranAs, runFrom, runOf, runEffects}
 use Rattle.session.specs.Spelling.{session-spells, session-well-formed, ended-spells}
+use Rattle.session.specs.Timing.{timed-session, timed-holds}
 
 -- the session in places that spell a state is the session of that state
 pub places-session : (f : Follower) (numbers internal external : List ℕ) → Spells f numbers internal external → sessionAt numbers internal external ≡ sessionOf f
@@ -99,13 +105,13 @@ module _ (c : Chart) (g : Sound c) (s : Session) (h : isSession c s ≡ true) (n
         externalIs = ap (λ (x : Session). x .external) (sym spelled);
       }
 
-module _ (chart names : List ℕ) (s : Session) (k : isCompiled chart names ≡ true) (h : isSession (chartOf chart) s ≡ true) (numbers internal external : List ℕ)
+module _ (chart names : List ℕ) (s : Session) (y : Clock) (k : isCompiled chart names ≡ true) (h : isTimed (chartOf chart) s y ≡ true) (numbers internal external : List ℕ)
     (w : Spells (view (rowCount chart) s) numbers internal external) where
   sound : Sound (chartOf chart)
   sound = compiled-ready chart names k .ready .sound
 
   begins : Holds (chartOf chart) (view (rowCount chart) s) numbers internal external
-  begins = record { spells = w; formed = session-well-formed (chartOf chart) sound s h }
+  begins = record { spells = w; formed = session-well-formed (chartOf chart) sound s (timed-session (chartOf chart) s y h) }
 
   again : stateAt chart numbers internal external ≡ view (rowCount chart) s
   again =
@@ -114,53 +120,65 @@ module _ (chart names : List ℕ) (s : Session) (k : isCompiled chart names ≡ 
   pub places-hold : HoldsAt chart numbers internal external
   places-hold = rw again begins
 
+  -- the record beside a session of the mode in its numbers
+  pub record-holds : ClockHolds (modeIn numbers) (y .bytes)
+  unfolding stateOf view
+  record-holds =
+      let m : modeIn numbers ≡ modeFrom (s .mode) = ap (λ (f : Follower). f .mode) again in
+      rw m (timed-holds (chartOf chart) s y h)
+
   own-is : chartOf (ownNumbers chart) ≡ chartOf chart
   own-is = own-chart chart (compiled-ready chart names k .ready .tables)
 
   module _ (rounds room : ℕ) where
     abbrev ran : follower.Ran
-    ran = run (chartOf chart) (nameAt names) rounds (stateAt chart numbers internal external) room
+    ran = run (chartOf chart) (nameAt names) rounds (timedAt chart numbers internal external (y .bytes)) room
 
-    ran-from : ran ≡ runFrom (chartOf chart) names s rounds room
-    unfolding runFrom
-    ran-from = ap (λ (f : Follower). run (chartOf chart) (nameAt names) rounds f room) again
+    ran-from : ran ≡ runFrom (chartOf chart) names s y rounds room
+    unfolding runFrom viewTimed
+    ran-from = ap (λ (f : Follower). run (chartOf chart) (nameAt names) rounds (record { follower = f; clock = clockIn (y .bytes) }) room) again
 
     -- a run over the places is the session's run
-    pub run-is : (after : Session) (status : Status) (done count : ℕ) → after ≡ sessionOf (ran .follower) → status ≡ ran .status → done ≡ ran .rounds → count ≡ length (ran .effects) →
-        record { session = after; status = status; rounds = done; count = count } ≡ runOf s chart names rounds room
-    unfolding runOf ranAs
-    run-is after status done count a b d e =
-        rw (k, own-is, h) (rw (← ran-from) (λ j. record { session = a j; status = b j; rounds = d j; count = e j }))
+    pub run-is : (after : Session) (bytes : List ℕ) (status : Status) (done count : ℕ) → after ≡ sessionOf (ran .state .follower) → bytes ≡ clockBytes (ran .state .clock) →
+        status ≡ ran .status → done ≡ ran .rounds → count ≡ length (ran .effects) →
+        record { session = after; clock = record { bytes = bytes }; status = status; rounds = done; count = count } ≡ runOf s y chart names rounds room
+    unfolding runOf ranAs recordOf
+    run-is after bytes status done count a z b d e =
+        rw (k, own-is, h) (rw (← ran-from) (λ j. record { session = a j; clock = record { bytes = z j }; status = b j; rounds = d j; count = e j }))
 
-    pub run-trace : (old trace : List ℕ) → trace ≡ traceWith old (ran .effects) → trace ≡ traceWith old (runEffects s chart names rounds room)
+    pub run-trace : (old trace : List ℕ) → trace ≡ traceWith old (ran .effects) → trace ≡ traceWith old (runEffects s y chart names rounds room)
     unfolding runEffects
     run-trace old trace e = rw (k, own-is, h) (rw (← ran-from) e)
 
--- ---- refused runs: 8 and 9 leave session and trace as they were
+-- ---- refused runs: 8 and 9 leave session, clock record and trace as they were
 
-module _ (chart names : List ℕ) (s : Session) (rounds room : ℕ) where
-  pub run-bad-chart : isCompiled chart names ≡ false → refusedRun s BadChart ≡ runOf s chart names rounds room
+module _ (chart names : List ℕ) (s : Session) (y : Clock) (rounds room : ℕ) where
+  pub run-bad-chart : isCompiled chart names ≡ false → refusedRun s y BadChart ≡ runOf s y chart names rounds room
   unfolding runOf
   run-bad-chart k = rw k
 
-  pub run-bad-session : isCompiled chart names ≡ true → isSession (chartOf chart) s ≡ false → refusedRun s BadSession ≡ runOf s chart names rounds room
+  pub run-bad-session : isCompiled chart names ≡ true → isTimed (chartOf chart) s y ≡ false → refusedRun s y BadSession ≡ runOf s y chart names rounds room
   unfolding runOf
   run-bad-session k h = rw (k, own-chart chart (compiled-ready chart names k .ready .tables), h)
 
-  pub bad-chart-trace : (old : List ℕ) → isCompiled chart names ≡ false → old ≡ traceWith old (runEffects s chart names rounds room)
+  pub bad-chart-trace : (old : List ℕ) → isCompiled chart names ≡ false → old ≡ traceWith old (runEffects s y chart names rounds room)
   unfolding runEffects traceWith
   bad-chart-trace old k = rw k
 
-  pub bad-session-trace : (old : List ℕ) → isCompiled chart names ≡ true → isSession (chartOf chart) s ≡ false → old ≡ traceWith old (runEffects s chart names rounds room)
+  pub bad-session-trace : (old : List ℕ) → isCompiled chart names ≡ true → isTimed (chartOf chart) s y ≡ false → old ≡ traceWith old (runEffects s y chart names rounds room)
   unfolding runEffects traceWith
   bad-session-trace old k h = rw (k, own-chart chart (compiled-ready chart names k .ready .tables), h)
 
 -- ---- start
 
 module _ (chart names : List ℕ) (room : ℕ) where
-  pub start-bad-chart : isCompiled chart names ≡ false → (s : Session) → s ≡ endedSession → record { session = s; answer = BadChart; count = 0 } ≡ startOf chart names room
-  unfolding startOf startBy startOr
-  start-bad-chart k s z = let e = z ∙ ended-spells (chartOf (ownNumbers chart)) in rw k (λ j. record { session = e j; answer = BadChart; count = 0 })
+  pub start-bad-chart : isCompiled chart names ≡ false → (s : Session) (bytes : List ℕ) → s ≡ endedSession → bytes ≡ replicate 4368 0 →
+      record { session = s; clock = record { bytes = bytes }; answer = BadChart; count = 0 } ≡ startOf chart names room
+  unfolding startOf startedAs startBy startOr recordOf
+  start-bad-chart k s bytes z y =
+      let e = z ∙ ended-spells (chartOf (ownNumbers chart)) in
+      let f : bytes ≡ clockBytes newClock = y ∙ sym zeros-are-new in
+      rw k (λ j. record { session = e j; clock = record { bytes = f j }; answer = BadChart; count = 0 })
 
   pub start-bad-trace : (old : List ℕ) → isCompiled chart names ≡ false → old ≡ traceWith old (startEffects chart names room)
   unfolding startEffects startBy startOr traceWith
@@ -174,10 +192,11 @@ module _ (chart names : List ℕ) (room : ℕ) where
     unfolding startBy
     start-by = rw (k, own-chart chart (compiled-ready chart names k .ready .tables))
 
-    pub start-is : (after : Session) (answer : Answer) (count : ℕ) → after ≡ sessionOf (began .follower) → answer ≡ began .answer → count ≡ length (began .effects) →
-        record { session = after; answer = answer; count = count } ≡ startOf chart names room
-    unfolding startOf
-    start-is after answer count a b d = rw start-by (λ j. record { session = a j; answer = b j; count = d j })
+    pub start-is : (after : Session) (bytes : List ℕ) (answer : Answer) (count : ℕ) → after ≡ sessionOf (began .state .follower) → bytes ≡ clockBytes (began .state .clock) →
+        answer ≡ began .answer → count ≡ length (began .effects) →
+        record { session = after; clock = record { bytes = bytes }; answer = answer; count = count } ≡ startOf chart names room
+    unfolding startOf startedAs recordOf
+    start-is after bytes answer count a z b d = rw start-by (λ j. record { session = a j; clock = record { bytes = z j }; answer = b j; count = d j })
 
     pub start-trace : (old trace : List ℕ) → trace ≡ traceWith old (began .effects) → trace ≡ traceWith old (startEffects chart names room)
     unfolding startEffects

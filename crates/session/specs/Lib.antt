@@ -1,7 +1,9 @@
 pub mod Sessions
 pub mod Spelling
+pub mod Timing
 pub mod Judged
 pub mod Parts
 pub mod Posting
+pub mod Clocking
 pub mod DoneNames
 pub mod Calling

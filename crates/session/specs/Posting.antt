@@ -12,10 +12,11 @@ use Rattle.definition.specs.declared.Answer.the-variants.{Done, NotAName, Full,
 use Rattle.definition.specs.Names.{Name, isName}
 use Rattle.definition.specs.Chart.{Chart}
 use Rattle.definition.specs.Tables.{rowCount, chartOf, slotOf}
-use Rattle.definition.specs.Answers.{answerNo}
+use Rattle.definition.specs.Answers.{modeNo, answerNo}
 use Rattle.follower.specs.Follower.{Follower, isEnded, postAnswer, withExternal, post}
 use Rattle.follower.specs.Legal.{WellFormed}
 use Rattle.definition.specs.Compiled.{ownNumbers, isCompiled}
+use Rattle.laws.specs.Bools.{bool-case}
 use Rattle.accepted.specs.Sound.{Sound}
 use Rattle.theory.specs.Queues.{post-queued}
 use Rattle.theory.specs.Keeps.{post-fits}
@@ -30,7 +31,7 @@ use Rattle.session.specs.Spelling.{view-session, session-passes, session
 
 -- ---- the answer
 
-ended-mode : (m : ℕ) → (m ≡ 0 → ⊥) → isEnded (modeFrom m) ≡ false
+pub ended-mode : (m : ℕ) → (m ≡ 0 → ⊥) → isEnded (modeFrom m) ≡ false
 unfolding isEnded modeFrom
 ended-mode zero n = absurd (n refl)
 ended-mode (suc zero) n = refl
@@ -149,6 +150,15 @@ module _ (c : Chart) (g : Sound c) (few : c .rows ≤ 256) (s : Session) (h : is
 
   pub post-passes : isSession c ((postChecked c s name) .session) ≡ true
   post-passes = ap (isSession c) post-spells ∙ session-passes c g (post before name) few after-well-formed
+
+  -- in the same mode
+  same-mode : (post before name) .mode ≡ before .mode
+  unfolding post withExternal
+  same-mode = bool-case (eqb (answerNo (postAnswer before name)) 0) (λ q. rw q) (λ q. rw q)
+
+  pub post-mode : (postChecked c s name) .session .mode ≡ s .mode
+  unfolding sessionOf
+  post-mode = ap (λ (x : Session). x .mode) post-spells ∙ ap modeNo same-mode ∙ ap (λ (x : Session). x .mode) (session-spells c g s h)
 
 -- ---- the chart, checked
 

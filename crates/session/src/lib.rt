@@ -1,15 +1,17 @@
-// The session by value: what every call of this crate takes and hands back beside its answer. Plain numbers; C lends the same parts in place (crate lent).
+// The session and its clock record by value: what every call of this crate takes and hands back beside its answer. Plain numbers; C lends the same parts in place (crate lent).
 ghost use mathlib.Core.Path.{_≡_};
 ghost use mathlib.Core.List.{_++_};
 ghost use Prim.Native.Nat.{_+_, _*_, _<_};
 ghost use lib.ListN.{length, take, drop};
 ghost use Rattle.definition.specs.Tables.{chartOf, slotOf};
 ghost use Rattle.chart.specs.Ready.{Ready};
-ghost use Rattle.session.specs.Sessions.{session, sessionAt, endedSession, isSession, postChecked, postOf, startOf, startEffects, refusedRun, runOf, runEffects};
+ghost use Rattle.session.specs.Sessions.{session, sessionAt, endedSession, isSession, isTimed, postChecked, postOf, startOf, startEffects, refusedRun, runOf, runEffects, clockOf};
 ghost use Rattle.session.specs.Calling.{Taken};
 ghost use Rattle.state.specs.State.{rowsAt, modeFrom, numbersOf, traceWith};
 ghost use Rattle.definition.specs.Compiled.{words};
 ghost use Rattle.definition.specs.Answers.{modeNo};
+pub use clocking::MOST_TICKS;
+use clocking::clock_checked;
 use definition::Answer;
 use definition::Status;
 pub use judging::history_holds;
@@ -19,6 +21,7 @@ use places::copy_u64;
 use state::ENDED;
 use state::State;
 
+mod clocking;
 mod judging;
 
 #[repr(C)]
@@ -32,6 +35,12 @@ pub struct Session {
     pub mode: u64,
 }
 
+// A clock record (R-9): the bytes of its place, of which crate clock tells the parts. Zeros are a new one.
+#[repr(C)]
+pub struct Clock {
+    pub bytes: [u8; 4368],
+}
+
 // What a post hands back.
 pub struct Posted {
     pub session: Session,
@@ -41,6 +50,7 @@ pub struct Posted {
 // What a start hands back; count entries of the trace are its own.
 pub struct Started {
     pub session: Session,
+    pub clock: Clock,
     pub answer: Answer,
     pub count: usize,
 }
@@ -48,9 +58,17 @@ pub struct Started {
 // What a run hands back: the rounds done, and how many entries of the trace they wrote.
 pub struct Ran {
     pub session: Session,
+    pub clock: Clock,
     pub status: Status,
     pub rounds: u32,
     pub count: usize,
+}
+
+// What a clock call hands back.
+pub struct Clocked {
+    pub session: Session,
+    pub clock: Clock,
+    pub answer: Answer,
 }
 
 // The name into the slot behind the count names of a session's queue.
@@ -118,11 +136,12 @@ impl Session {
         }
     }
 
-    fn refused(self, answer: Answer) -> Ran
-        ensures { λ r. ⌜ r ≡ refusedRun self answer ⌝ }
+    fn refused(self, clock: Clock, answer: Answer) -> Ran
+        ensures { λ r. ⌜ r ≡ refusedRun self clock answer ⌝ }
     {
         Ran {
             session: self,
+            clock: clock,
             status: Status::Refused(answer),
             rounds: 0,
             count: 0,
@@ -146,6 +165,18 @@ impl Session {
             external,
             mode,
         )
+    }
+
+    // Both are well formed, the record beside a session of that mode.
+    fn is_timed(self, clock: Clock, chart: &[u64]) -> bool
+        requires { ⌜ Ready (now chart) ⌝ }
+        ensures { λ b. ⌜ b ≡ isTimed (chartOf (now (chart .entry))) self clock ⌝ }
+    {
+        let mode = self.mode;
+        if !self.is_session(chart) {
+            return false;
+        }
+        clock::is_clock(&clock.bytes, state::mode_from(mode))
     }
 
     // A post, the chart once checked: answers 9, 6, 11, 7 in this order, or the name last in the external queue.
@@ -199,48 +230,61 @@ impl Session {
         self.post_checked(chart, name)
     }
 
-    // Start afresh, whatever the session was. Refused with 8, 7 or 10 it hands back an ended session that stores nothing.
-    pub fn start(self, chart: &[u64], names: &[u8], trace: &mut [u32]) -> Started
+    // Start afresh, whatever session and clock record were. Refused with 8, 7 or 10 it hands back an ended session that stores nothing; every start begins a new record.
+    pub fn start(self, clock: Clock, chart: &[u64], names: &[u8], trace: &mut [u32]) -> Started
         ensures { λ r. ⌜ (r ≡ startOf (now (chart .entry)) (now (names .entry)) (length (now (trace .entry)))) × (now (trace .exit) ≡ traceWith (now (trace .entry)) (startEffects (now (chart .entry)) (now (names .entry)) (length (now (trace .entry))))) ⌝ }
     {
         if !compiler::check(chart, names) {
+            let zeros = [0u8; 4368];
             return Started {
                 session: Session::ended(),
+                clock: Clock { bytes: zeros },
                 answer: Answer::BadChart,
                 count: 0,
             };
         }
         let mut numbers = [0u64; state::NUMBERS];
         let mut internal = [0u8; 2048];
-        let begun = rounds::start(chart, names, &mut numbers, &mut internal, trace);
+        let mut bytes = [0u8; 4368];
+        let begun = rounds::start(chart, names, &mut numbers, &mut internal, &mut bytes, trace);
         let answer = begun.answer;
         let count = begun.count;
         Started {
             session: Session::of(numbers, internal, [0u8; 2048]),
+            clock: Clock { bytes: bytes },
             answer: answer,
             count: count,
         }
     }
 
     // At most so many rounds: 8 or 9 changes nothing, and a round refused with 7 or 10 ends the run with the rounds before it.
-    pub fn run(self, chart: &[u64], names: &[u8], rounds: u32, trace: &mut [u32]) -> Ran
-        ensures { λ r. ⌜ (r ≡ runOf self (now (chart .entry)) (now (names .entry)) rounds (length (now (trace .entry)))) × (now (trace .exit) ≡ traceWith (now (trace .entry)) (runEffects self (now (chart .entry)) (now (names .entry)) rounds (length (now (trace .entry))))) ⌝ }
+    pub fn run(
+        self,
+        clock: Clock,
+        chart: &[u64],
+        names: &[u8],
+        rounds: u32,
+        trace: &mut [u32],
+    ) -> Ran
+        ensures { λ r. ⌜ (r ≡ runOf self clock (now (chart .entry)) (now (names .entry)) rounds (length (now (trace .entry)))) × (now (trace .exit) ≡ traceWith (now (trace .entry)) (runEffects self clock (now (chart .entry)) (now (names .entry)) rounds (length (now (trace .entry))))) ⌝ }
     {
         if !compiler::check(chart, names) {
-            return self.refused(Answer::BadChart);
+            return self.refused(clock, Answer::BadChart);
         }
-        if !self.is_session(chart) {
-            return self.refused(Answer::BadSession);
+        if !self.is_timed(clock, chart) {
+            return self.refused(clock, Answer::BadSession);
         }
         let mut numbers = self.numbers();
         let mut internal = self.internal;
         let mut external = self.external;
+        let mut bytes = clock.bytes;
         let done = rounds::run(
             chart,
             names,
             &mut numbers,
             &mut internal,
             &mut external,
+            &mut bytes,
             rounds,
             trace,
         );
@@ -249,9 +293,24 @@ impl Session {
         let count = done.count;
         Ran {
             session: Session::of(numbers, internal, external),
+            clock: Clock { bytes: bytes },
             status: status,
             rounds: number,
             count: count,
         }
+    }
+
+    // The clock moves on to ticks, and whatever is due joins the external queue (R-9): answers 8, 9, 11, 14 in this order leave session and record as they were.
+    pub fn clock(self, clock: Clock, chart: &[u64], names: &[u8], ticks: u64) -> Clocked
+        ensures { λ r. ⌜ r ≡ clockOf self clock (now (chart .entry)) (now (names .entry)) ticks ⌝ }
+    {
+        if !compiler::check(chart, names) {
+            return Clocked {
+                session: self,
+                clock: clock,
+                answer: Answer::BadChart,
+            };
+        }
+        clock_checked(self, clock, chart, ticks)
     }
 }

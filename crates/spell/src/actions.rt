@@ -1,4 +1,4 @@
-// Actions: a function for each kind.
+// Actions: a function for each kind, those of sends and cancels in `sends`.
 ghost use mathlib.Core.List.{[]};
 ghost use Rattle.definition.specs.Tables.{nameAt};
 ghost use Rattle.reading.specs.Content.{raises, hosts, ifIn, elseifIn, otherwise, endIf};
@@ -9,22 +9,11 @@ ghost use Rattle.spell.specs.Ready.{NameReady, RowReady};
 ghost use Rattle.spell.specs.Actions.{ActionReady, actAt};
 use crate::parts::lay_number;
 use crate::parts::lay_part;
+use crate::sends::lay_cancel;
+use crate::sends::lay_send;
 use crate::values::lay_condition;
 use crate::values::lay_name;
 use tables::columns;
-
-// The kinds of actions, as the tables number them.
-const RAISE: u64 = 0;
-
-const HOST: u64 = 1;
-
-pub const IF: u64 = 2;
-
-const ELSE_IF: u64 = 3;
-
-const ELSE: u64 = 4;
-
-pub const END: u64 = 5;
 
 fn lay_raise(names: &[u8], n: u64, out: &mut [u8], at: usize) -> usize
     requires { ⌜ NameReady (now names) n ⌝ }
@@ -76,20 +65,28 @@ pub fn lay_action(numbers: &[u64], names: &[u8], a: u64, out: &mut [u8], at: usi
 {
     let kind = tables::action_cell(numbers, a, columns::ACTION_KIND);
     let x = tables::action_cell(numbers, a, columns::ARGUMENT);
-    if kind == RAISE {
+    if kind == columns::RAISE {
         return lay_raise(names, x, out, at);
     }
-    if kind == HOST {
+    if kind == columns::HOST {
         return lay_host(x, out, at);
     }
-    if kind == IF {
+    if kind == columns::IF {
         return lay_if(numbers, names, x, out, at);
     }
-    if kind == ELSE_IF {
+    if kind == columns::ELSE_IF {
         return lay_else_if(numbers, names, x, out, at);
     }
-    if kind == ELSE {
+    if kind == columns::ELSE {
         return lay_else(out, at);
     }
-    lay_end(out, at)
+    if kind == columns::END {
+        return lay_end(out, at);
+    }
+    if kind == columns::SEND {
+        let delay = tables::action_cell(numbers, a, columns::DELAY);
+        let id = tables::action_cell(numbers, a, columns::SEND_ID);
+        return lay_send(names, x, delay, id, out, at);
+    }
+    lay_cancel(names, x, out, at)
 }

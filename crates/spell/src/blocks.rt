@@ -6,8 +6,6 @@ ghost use Rattle.reading.specs.Print.{condition, blockText, blockElement};
 ghost use Rattle.spell.specs.Laid.{Laid};
 ghost use Rattle.spell.specs.Actions.{ActionReady};
 ghost use Rattle.spell.specs.Blocks.{BlockReady, HollowReady, isHollow, closing};
-use crate::actions::END;
-use crate::actions::IF;
 use crate::actions::lay_action;
 use crate::parts::lay_byte;
 use crate::parts::lay_part;
@@ -19,14 +17,14 @@ fn is_hollow(numbers: &[u64], a: u64, end: u64) -> bool
     requires { ⌜ HollowReady (now numbers) a end ⌝ }
     ensures { λ b. ⌜ b ≡ isHollow (now (numbers .entry)) a end ⌝ }
 {
-    if tables::action_cell(numbers, a, columns::ACTION_KIND) != IF {
+    if tables::action_cell(numbers, a, columns::ACTION_KIND) != columns::IF {
         return false;
     }
     let b = a + 1;
     if end <= b {
         return false;
     }
-    tables::action_cell(numbers, b, columns::ACTION_KIND) == END
+    tables::action_cell(numbers, b, columns::ACTION_KIND) == columns::END
 }
 
 // `count` actions from `start` on.

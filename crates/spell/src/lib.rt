@@ -4,4 +4,5 @@ pub mod actions;
 pub mod blocks;
 pub mod lists;
 pub mod parts;
+pub mod sends;
 pub mod values;

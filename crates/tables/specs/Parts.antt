@@ -1,5 +1,5 @@
 -- What the readers hand out: a part of the numbers that lists rows or names, a block, a condition, a row number.
-use mathlib.Core.Path.{_≡_, refl, ap, _∙_}
+use mathlib.Core.Path.{_≡_, refl, ap, sym, _∙_}
 use mathlib.Core.Bool.{true}
 use mathlib.Core.List.{List, [], _∷_}
 use mathlib.Core.Option.{Option, none, some}
@@ -10,6 +10,7 @@ use lib.ListN.{length, getD, take, drop, length-take, length-drop}
 use lib.Seq.{drop-cons, getD-take, getD-drop, length-take-le, take-add, drop-drop}
 use borrow.Author.Tests.{ltb-true, ne-eqb}
 use Rattle.definition.specs.declared.Action.{Action}
+use Rattle.definition.specs.declared.Action.the-variants.{Send}
 use Rattle.numbers.specs.declared.Row.{Row}
 use Rattle.rowset.specs.declared.RowSet.{RowSet}
 use Rattle.definition.specs.Rows.{from, all, insert, with}
@@ -161,11 +162,19 @@ part-four place at l =
 -- ---- blocks
 
 -- an action of the table, read by its number
-pub action-read : (numbers : List ℕ) (a k x : ℕ) (y : Action) → ActionIn numbers a → k ≡ actionCell numbers a 0 → x ≡ actionCell numbers a 1 → IsAction k x y →
+action-fits : (numbers : List ℕ) (a : ℕ) (y : Action) → ActionIn numbers a → y ≡ actionAt numbers a → (y ≡ actionAt numbers a) × (numberFits numbers y ≡ true)
+action-fits numbers a y h w = (w, ap (numberFits numbers) w ∙ number-fits numbers a h)
+
+pub action-read : (numbers : List ℕ) (a k x : ℕ) (y : Action) → ActionIn numbers a → k ≡ actionCell numbers a 0 → x ≡ actionCell numbers a 1 → (k ≡ 6 → ⊥) → IsAction k x y →
     (y ≡ actionAt numbers a) × (numberFits numbers y ≡ true)
 unfolding actionAt
-action-read numbers a k x y h e q z =
-    let w : y ≡ actionAt numbers a = z .is (actionCell numbers a 2) (actionCell numbers a 3) ∙ rw (e, q) in (w, ap (numberFits numbers) w ∙ number-fits numbers a h)
+action-read numbers a k x y h e q d z = action-fits numbers a y h (z .is (actionCell numbers a 2) (actionCell numbers a 3) d ∙ rw (e, q))
+
+-- a send has something in all four cells
+pub send-read : (numbers : List ℕ) (a k x y z : ℕ) → ActionIn numbers a → k ≡ actionCell numbers a 0 → x ≡ actionCell numbers a 1 → y ≡ actionCell numbers a 2 → z ≡ actionCell numbers a 3 → k ≡ 6 →
+    (Send x y z ≡ actionAt numbers a) × (numberFits numbers (Send x y z) ≡ true)
+unfolding actionAt
+send-read numbers a k x y z h e q p r s = action-fits numbers a (Send x y z) h (ap (λ (n : ℕ). actionOf n x y z) (sym s) ∙ rw (e, q, p, r))
 
 -- how many actions a part has
 pub actions-count : (b : List ℕ) → length b / 4 ≡ length (actionsOf b)
@@ -196,9 +205,13 @@ actions-at (k₀ ∷ x ∷ y ∷ z ∷ b) (suc k) d l =
     rw (e, q, p, r) (actions-at b k d (omega arith))
 
 -- an action read by its first two cells
-pub actions-read : (b : List ℕ) (k : ℕ) (d a : Action) → k < length (actionsOf b) → IsAction (getD b (k * 4 + 0) 0) (getD b (k * 4 + 1) 0) a → a ≡ getD (actionsOf b) k d
-actions-read b k d a l i =
-    i .is (getD b (k * 4 + 2) 0) (getD b (k * 4 + 3) 0) ∙ rw add-zero (actions-at b k d l)
+pub actions-read : (b : List ℕ) (k : ℕ) (d a : Action) → k < length (actionsOf b) → (getD b (k * 4 + 0) 0 ≡ 6 → ⊥) → IsAction (getD b (k * 4 + 0) 0) (getD b (k * 4 + 1) 0) a → a ≡ getD (actionsOf b) k d
+actions-read b k d a l n i =
+    i .is (getD b (k * 4 + 2) 0) (getD b (k * 4 + 3) 0) n ∙ rw add-zero (actions-at b k d l)
+
+pub send-at : (b : List ℕ) (k : ℕ) (d : Action) → k < length (actionsOf b) → getD b (k * 4 + 0) 0 ≡ 6 → Send (getD b (k * 4 + 1) 0) (getD b (k * 4 + 2) 0) (getD b (k * 4 + 3) 0) ≡ getD (actionsOf b) k d
+send-at b k d l e =
+    ap (λ (n : ℕ). actionOf n (getD b (k * 4 + 1) 0) (getD b (k * 4 + 2) 0) (getD b (k * 4 + 3) 0)) (sym e) ∙ rw add-zero (actions-at b k d l)
 
 -- so many actions from start on
 actions-from : (numbers : List ℕ) (start count : ℕ) → actionBase numbers + (start + count) * 4 ≤ length numbers →

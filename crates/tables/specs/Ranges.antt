@@ -9,7 +9,7 @@ use lib.Dec.{eqb, leb, ltb}
 use lib.ListN.{length, getD}
 use borrow.Author.Tests.{eqb-true, leb-true, ltb-true}
 use Rattle.definition.specs.Tables.{mostRows, mostTransitions, mostNames, mostDescriptors, mostTargets, mostActions, slotSize, noNumber, rowCount, transitionCount, referenceCount, descriptorCount, actionCount, nameCount, transitionBase, referenceBase, descriptorBase, actionBase, tablesSize, rowCell, transitionCell, actionCell, actionAt, parentAt}
-use Rattle.definition.specs.Rules.{countsFit, sizesFit, compiledSize, optionalBelow, inside, blockFits, rowInRange, transitionInRange, referenceInRange, descriptorInRange, argumentFits, actionInRange, rule1}
+use Rattle.definition.specs.Rules.{countsFit, sizesFit, compiledSize, optionalBelow, inside, blockFits, rowInRange, transitionInRange, referenceInRange, descriptorInRange, argumentsFit, actionInRange, rule1}
 use Rattle.laws.specs.Bools.{and-left, and-right, and4, and7, or-elim}
 use Rattle.laws.specs.Loops.{each-below}
 
@@ -239,11 +239,9 @@ transition-fits numbers t h =
       block = block-fits _ _ _ (p .6);
     }
 
-pub argument-fits : (numbers : List ℕ) (a : ℕ) → ActionIn numbers a → argumentFits numbers (actionAt numbers a) (actionCell numbers a 1) ≡ true
+pub arguments-fit : (numbers : List ℕ) (a : ℕ) → ActionIn numbers a → argumentsFit numbers (actionAt numbers a) (actionCell numbers a 1) (actionCell numbers a 2) (actionCell numbers a 3) ≡ true
 unfolding actionInRange
-argument-fits numbers a h =
-    and4 (leb (actionCell numbers a 0) 5) (argumentFits numbers (actionAt numbers a) (actionCell numbers a 1)) (eqb (actionCell numbers a 2) 0) (eqb (actionCell numbers a 3) 0)
-    (h .tables .action a (h .below)) .1
+arguments-fit numbers a h = and-right (leb (actionCell numbers a 0) 7) _ (h .tables .action a (h .below))
 
 -- a number that is not none is below its bound
 pub optional-below : (n x : ℕ) → optionalBelow n x ≡ true → (x ≡ noNumber → ⊥) → x < n

@@ -72,16 +72,19 @@ pub fn transition_block_of(numbers: &[u64], t: Transition) -> &[u64]
     actions_part(numbers, start, count)
 }
 
-// What the cells of an action mean; no kind has anything in the last two.
+// What the first two cells of an action mean that is no send.
 fn action_from(kind: u64, argument: u64) -> Action
     ensures { λ x. ⌜ IsAction kind argument x ⌝ }
 {
+    if columns::SEND <= kind {
+        return Action::Cancel(argument);
+    }
     match kind {
-        0 => Action::Raise(argument),
-        1 => Action::Host(argument),
-        2 => Action::If(argument),
-        3 => Action::ElseIf(argument),
-        4 => Action::Else,
+        columns::RAISE => Action::Raise(argument),
+        columns::HOST => Action::Host(argument),
+        columns::IF => Action::If(argument),
+        columns::ELSE_IF => Action::ElseIf(argument),
+        columns::ELSE => Action::Else,
         _ => Action::End,
     }
 }
@@ -98,10 +101,16 @@ pub fn action_of(block: &[u64], k: usize) -> Action
     ensures { λ x. ⌜ x ≡ getD (actionsOf (now (block .entry))) k (Action.Raise 0) ⌝ }
 {
     let at = k * columns::ACTION_WIDTH;
-    action_from(
-        block[at + columns::ACTION_KIND],
-        block[at + columns::ARGUMENT],
-    )
+    let kind = block[at + columns::ACTION_KIND];
+    let argument = block[at + columns::ARGUMENT];
+    if kind == columns::SEND {
+        return Action::Send(
+            argument,
+            block[at + columns::DELAY],
+            block[at + columns::SEND_ID],
+        );
+    }
+    action_from(kind, argument)
 }
 
 // What an action of the whole table does, in a block or not.
@@ -111,5 +120,10 @@ pub fn action_at(numbers: &[u64], a: u64) -> Action
 {
     let kind = action_cell(numbers, a, columns::ACTION_KIND);
     let argument = action_cell(numbers, a, columns::ARGUMENT);
+    if kind == columns::SEND {
+        let delay = action_cell(numbers, a, columns::DELAY);
+        let id = action_cell(numbers, a, columns::SEND_ID);
+        return Action::Send(argument, delay, id);
+    }
     action_from(kind, argument)
 }

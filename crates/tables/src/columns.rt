@@ -50,7 +50,28 @@ pub const ACTION_KIND: usize = 0;
 
 pub const ARGUMENT: usize = 1;
 
+pub const DELAY: usize = 2;
+
+pub const SEND_ID: usize = 3;
+
 pub const ACTION_WIDTH: usize = 4;
+
+// The kinds of actions. A send is the one that has something in its last two cells.
+pub const RAISE: u64 = 0;
+
+pub const HOST: u64 = 1;
+
+pub const IF: u64 = 2;
+
+pub const ELSE_IF: u64 = 3;
+
+pub const ELSE: u64 = 4;
+
+pub const END: u64 = 5;
+
+pub const SEND: u64 = 6;
+
+pub const CANCEL: u64 = 7;
 
 // Behind the tables: the words of a set of rows, of a row's four sets, and of a transition's one.
 pub const SET_WIDTH: usize = 4;

@@ -34,7 +34,7 @@ pub fn kind_of(numbers: &[u64], r: Row) -> Kind
     requires { ⌜ RowIn (now numbers) (r .0) ⌝ }
     ensures { λ k. ⌜ k ≡ kindAt (now (numbers .entry)) (r .0) ⌝ }
 {
-    kind_from(row_cell(numbers, r, columns::KIND) as usize)
+    kind_from(row_cell(numbers, r, columns::KIND))
 }
 
 // The number in the parent's column: a climb goes on while it is smaller than the row's own.

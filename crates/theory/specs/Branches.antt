@@ -8,7 +8,7 @@ use Prim.Native.Nat.{ℕ, zero, suc, _+_, _≤_}
 use native.Mathlib.Omega.{arith}
 use lib.ListN.{getD}
 use Rattle.definition.specs.declared.Action.{Action}
-use Rattle.definition.specs.declared.Action.the-variants.{Raise, Host, If, ElseIf, Else, End}
+use Rattle.definition.specs.declared.Action.the-variants.{Raise, Host, If, ElseIf, Else, End, Send, Cancel}
 use Rattle.definition.specs.declared.Reach.{Reach}
 use Rattle.definition.specs.declared.Reach.the-variants.{Live, Waiting, Past}
 use Rattle.definition.specs.Rows.{mem, flat}
@@ -16,7 +16,7 @@ use Rattle.follower.specs.Blocks.{Effect, atIf, atElse, atEnd, after, perform, 
 use Rattle.laws.specs.Bools.{no, bool-case, or-left, or-right}
 use Rattle.laws.specs.Sets.{mem-head}
 use Rattle.laws.specs.Lists.{mem-app}
-use Rattle.theory.specs.Nested.{Branch, others, wholeIf, partsOf, Nested, nothing, raising, hosting, choosing, NestedParts, no-part, else-part, more-parts}
+use Rattle.theory.specs.Nested.{Branch, others, wholeIf, partsOf, Nested, nothing, raising, hosting, sending, cancelling, choosing, NestedParts, no-part, else-part, more-parts}
 
 -- ---- "only the branch taken"
 
@@ -177,6 +177,10 @@ module _ (conf : List ℕ) where
       let k = contained v in record { back = k .back; quiet = λ r q. ap (λ (es : List Effect). es ++ performedFrom conf r rest) (idle-quiet r (Raise n) q) ∙ k .quiet r q }
   contained (hosting n {rest} v) =
       let k = contained v in record { back = k .back; quiet = λ r q. ap (λ (es : List Effect). es ++ performedFrom conf r rest) (idle-quiet r (Host n) q) ∙ k .quiet r q }
+  contained (sending n delay id {rest} v) =
+      let k = contained v in record { back = k .back; quiet = λ r q. ap (λ (es : List Effect). es ++ performedFrom conf r rest) (idle-quiet r (Send n delay id) q) ∙ k .quiet r q }
+  contained (cancelling n {rest} v) =
+      let k = contained v in record { back = k .back; quiet = λ r q. ap (λ (es : List Effect). es ++ performedFrom conf r rest) (idle-quiet r (Cancel n) q) ∙ k .quiet r q }
   contained (choosing b bs last {rest} v u) = if-contained b bs last rest (λ n. contained (v n)) (contained u)
 
   -- the first branch, if its test holds, else what is taken of the others
@@ -244,6 +248,8 @@ tested (If i) = i ∷ []
 tested (ElseIf i) = i ∷ []
 tested Else = []
 tested End = []
+tested (Send n delay id) = []
+tested (Cancel n) = []
 
 unfoldable pub testedIn : List Action → List ℕ
 testedIn block = flat tested block
@@ -257,6 +263,8 @@ module _ (conf other : List ℕ) where
   after-alike (ElseIf i) r f = ap (λ (b : Bool). atElse b r) (f i (mem-head i []))
   after-alike Else r f = refl
   after-alike End r f = refl
+  after-alike (Send n delay id) r f = refl
+  after-alike (Cancel n) r f = refl
 
   performed-from-alike : (r : Reach) (block : List Action) → ((i : ℕ) → mem i (testedIn block) ≡ true → mem i conf ≡ mem i other) → performedFrom conf r block ≡ performedFrom other r block
   unfolding performedFrom testedIn flat

@@ -15,7 +15,7 @@ use Rattle.definition.specs.Chart.{Chart, Names, kind, isHistory}
 use Rattle.follower.specs.Selection.{initialTargets, selected, chooser}
 use Rattle.follower.specs.Microstep.{storedIn, historyAfter, configurationAfter, targeted, entryOf, fallenOf}
 use Rattle.definition.specs.Answers.{answerNo}
-use Rattle.follower.specs.Follower.{Follower, noHistory, endedFollower, modeOf, Round, idle, over, did, taking, selectedBy, closingRound, round, refusal, firstEffects, firstFollower, startOr, start, isEnded, postAnswer, withExternal, post, run}
+use Rattle.follower.specs.Follower.{Follower, noHistory, endedFollower, modeOf, Round, idle, over, did, taking, selectedBy, closingRound, round, firstFollower, isEnded, postAnswer, withExternal, post, withNames}
 use Rattle.follower.specs.Legal.{isLegal, StoredFrom}
 use Rattle.laws.specs.Bools.{clash, bool-case}
 use Rattle.laws.specs.Sets.{ascends-those}
@@ -30,7 +30,7 @@ use Rattle.theory.specs.Choosers.{FirstChooser, chooser-first}
 use Rattle.theory.specs.DefaultBlocks.{DefaultBlocks}
 use Rattle.theory.specs.Fallen.{round-default-blocks}
 use Rattle.theory.specs.Storing.{stored-kept, kept-stored}
-use Rattle.theory.specs.Runs.{round-cases, run-invariant}
+use Rattle.theory.specs.Runs.{round-cases}
 use Rattle.theory.specs.Queues.{post-free}
 
 -- a place for each row; what is stored there is what a history's parent would store
@@ -186,20 +186,9 @@ module _ (c : Chart) (g : Sound c) (names : Names) where
 
   -- ---- calls
 
-  pub run-fits : (k : ℕ) (s : Follower) (room : ℕ) → Fit c s → Fit c ((run c names k s room) .follower)
-  run-fits k s room f = run-invariant c names (Fit c) (λ s next es room f e q. subst (FitAfter c) e (round-fits s f)) k s room f
-
   pub first-fits : Live c (firstFollower c names)
   unfolding firstFollower
   first-fits = record { legal = first-legal c g; mode = refl; history = no-histories c }
-
-  pub start-fits : (room : ℕ) → Fit c ((start c names room) .follower)
-  unfolding start startOr
-  start-fits room = go (refusal room (firstFollower c names) (firstEffects c))
-    where
-      go : (o : Option Answer) → Fit c ((startOr c names o) .follower)
-      go none = inl first-fits
-      go (some x) = inr (ended-over c)
 
 pub post-fits : (c : Chart) (s : Follower) (name : Name) → Fit c s → Fit c (post s name)
 unfolding post withExternal isEnded
@@ -210,3 +199,10 @@ post-fits c s name f = go (eqb (answerNo (postAnswer s name)) 0) refl
         ⊎-elim (λ (a : Live c s). inl (record { legal = a .legal; mode = a .mode; history = a .history }))
         (λ (o : Over c s). absurd (clash (isEnded (s .mode)) (rw (o .mode)) (post-free s name e .1))) f
     go false e = f
+
+-- names join the external queue of a session that has not ended (R-9)
+pub names-fit : (c : Chart) (s : Follower) (more : List Name) → isEnded (s .mode) ≡ false → Fit c s → Fit c (withNames s more)
+unfolding withNames isEnded
+names-fit c s more e f =
+    ⊎-elim (λ (a : Live c s). inl (record { legal = a .legal; mode = a .mode; history = a .history }))
+    (λ (o : Over c s). absurd (clash (isEnded (s .mode)) (rw (o .mode)) e)) f

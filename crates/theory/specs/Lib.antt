@@ -19,5 +19,6 @@ pub mod Moments
 pub mod Queues
 pub mod Shown
 pub mod Keeps
+pub mod Timers
 pub mod WellFormed
 pub mod Theorems

@@ -1,22 +1,23 @@
 -- "a round or start would hold more than 32 internal names at any moment" (78) is what the definition tests where it refuses with 7.
-use mathlib.Core.Path.{_≡_, refl, subst}
-use mathlib.Core.Bool.{Bool, true, false}
+use mathlib.Core.Path.{_≡_, refl, ap, subst}
+use mathlib.Core.Bool.{Bool, true, false, _||_, cond}
 use mathlib.Core.List.{List, [], _∷_, _++_, append-assoc, append-nil}
-use mathlib.Core.Logic.{_↔_}
+use mathlib.Core.Logic.{_↔_, _⊎_, inl, inr, ⊎-elim}
 use mathlib.Core.Option.{Option, some}
 use Prim.Native.Nat.{ℕ, _<_, _≤_}
 use native.Mathlib.Omega.{arith}
-use lib.Dec.{ltb}
+use lib.Dec.{leb, ltb}
 use lib.ListN.{length, length-append}
-use borrow.Author.Tests.{ltb-true, lt-ltb}
+use borrow.Author.Tests.{ltb-true, lt-ltb, leb-true, le-leb}
 use Rattle.definition.specs.declared.Mode.the-variants.{Running}
 use Rattle.definition.specs.declared.Answer.the-variants.{Full}
 use Rattle.definition.specs.Rows.{mem, flat}
 use Rattle.definition.specs.Names.{Name}
 use Rattle.definition.specs.Chart.{Chart, Names}
-use Rattle.follower.specs.Blocks.{Effect, exited, taken, entered, acted, raised, done, chosen, queued}
-use Rattle.follower.specs.Follower.{Follower, mostQueued, Round, idle, over, did, taking, closingRound, round, refusalIf, refusal, firstEffects, firstFollower}
-use Rattle.laws.specs.Bools.{no}
+use Rattle.follower.specs.Blocks.{Effect, exited, taken, entered, acted, raised, done, chosen, sent, cancelled, queued}
+use Rattle.follower.specs.Clock.{mostPending, Table, sendOf, withSend, tableStep, tableAfter}
+use Rattle.follower.specs.Follower.{Follower, mostQueued, Round, idle, over, did, taking, closingRound, round, refusalIf, refusal, firstEffects, firstFollower, firstTable}
+use Rattle.laws.specs.Bools.{no, clash, bool-case, or-right}
 use Rattle.laws.specs.Sets.{mem-head}
 use Rattle.laws.specs.Lists.{mem-cases, mem-tail}
 use Rattle.theory.specs.Runs.{ChosenEvent, round-cases}
@@ -32,6 +33,8 @@ module _ (c : Chart) (names : Names) where
   queued-one (raised n) = omega arith
   queued-one (done i) = omega arith
   queued-one (chosen i) = omega arith
+  queued-one (sent n delay id) = omega arith
+  queued-one (cancelled n) = omega arith
 
   -- the lengths of the queue: at first, which is without the taken event, and after each effect
   unfoldable pub moments : List Name → List Effect → List ℕ
@@ -65,45 +68,115 @@ module _ (c : Chart) (names : Names) where
     (λ h. record { held = length (queue ++ flat (queued c names) es); moment = at-end queue es; tooMany = ltb-true mostQueued _ h }),
   )
 
-  -- ---- so 7 is answered exactly if some moment has more
+  -- ---- so 7 is answered exactly if some moment has more, or a send found the table full
 
-  refused-full : (room : ℕ) (next : Follower) (es : List Effect) → (refusal room next es ≡ some Full) ↔ (ltb mostQueued (length (next .internal)) ≡ true)
+  refused-full : (room : ℕ) (next : Follower) (full : Bool) (es : List Effect) → (refusal room next full es ≡ some Full) ↔ ((ltb mostQueued (length (next .internal)) ≡ true) ⊎ (full ≡ true))
   unfolding refusal refusalIf
-  refused-full room next es = (go (ltb mostQueued (length (next .internal))) (ltb room (length es)), (λ h. rw h))
+  refused-full room next full es = (
+    (λ h. go (ltb mostQueued (length (next .internal))) full (ltb room (length es)) h),
+    (λ h. ⊎-elim (λ (e : ltb mostQueued (length (next .internal)) ≡ true). rw e) (λ (e : full ≡ true). rw (e, or-right (ltb mostQueued (length (next .internal))) true refl)) h),
+  )
     where
-      go : (full noRoom : Bool) → refusalIf full noRoom ≡ some Full → full ≡ true
-      go true noRoom h = refl
-      go false true h = let z : _≡_ {A = ℕ} 0 1 = cc in absurd (omega arith)
-      go false false h = let z : _≡_ {A = ℕ} 0 1 = cc in absurd (omega arith)
+      go : (long full noRoom : Bool) → refusalIf (long || full) noRoom ≡ some Full → (long ≡ true) ⊎ (full ≡ true)
+      go true full noRoom h = inl refl
+      go false true noRoom h = inr refl
+      go false false true h = let z : _≡_ {A = ℕ} 0 1 = cc in absurd (omega arith)
+      go false false false h = let z : _≡_ {A = ℕ} 0 1 = cc in absurd (omega arith)
 
-  exact : (room : ℕ) (queue : List Name) (next : Follower) (es : List Effect) → next .internal ≡ queue ++ flat (queued c names) es →
-      (refusal room next es ≡ some Full) ↔ Overfull queue es
-  exact room queue next es e =
-      let r = refused-full room next es in
-      let o = overfull-at-end queue es in
-      ((λ h. o .1 (rw e at (r .0 h))), (λ h. r .1 (rw e (o .0 h))))
+  exact : (room : ℕ) (queue : List Name) (next : Follower) (full : Bool) (es : List Effect) → next .internal ≡ queue ++ flat (queued c names) es →
+      (refusal room next full es ≡ some Full) ↔ (Overfull queue es ⊎ (full ≡ true))
+  exact room queue next full es e =
+      let r = refused-full room next full es in
+      let o = overfull-at-end queue es in (
+        (λ h. ⊎-elim (λ (q : ltb mostQueued (length (next .internal)) ≡ true). inl (o .1 (rw e at q))) (λ (q : full ≡ true). inr q) (r .0 h)),
+        (λ h. r .1 (⊎-elim (λ (q : Overfull queue es). inl (rw e (o .0 q))) (λ (q : full ≡ true). inr q) h)),
+      )
 
   -- a round of a running session: internal is its queue without the taken event
-  pub record FullAt (room : ℕ) (s next : Follower) (es : List Effect) : Type 0 where
+  pub record FullAt (room : ℕ) (s next : Follower) (full : Bool) (es : List Effect) : Type 0 where
     pub internal : List Name
     pub external : List Name
     pub event : Option Name
     pub chosen : ChosenEvent s internal external event
     -- it is the queue that the round's names join
     pub joined : next .internal ≡ internal ++ flat (queued c names) es
-    pub full : (refusal room next es ≡ some Full) ↔ Overfull internal es
+    pub exactly : (refusal room next full es ≡ some Full) ↔ (Overfull internal es ⊎ (full ≡ true))
 
-  pub round-full : (room : ℕ) (s next : Follower) (es : List Effect) → s .mode ≡ Running → round c names s ≡ did next es → FullAt room s next es
+  pub round-full : (room : ℕ) (s next : Follower) (full : Bool) (es : List Effect) → s .mode ≡ Running → round c names s ≡ did next es → FullAt room s next full es
   unfolding taking closingRound
-  round-full room s next es m e =
+  round-full room s next full es m e =
       subst Exact e (round-cases c names s Exact (λ q. tt) (λ q. tt) (λ q. let z : _≡_ {A = ℕ} 0 1 = cc in absurd (omega arith))
-      (λ q internal external event h. record { internal = internal; external = external; event = event; chosen = h; joined = refl; full = exact room internal _ _ refl }))
+      (λ q internal external event h. record { internal = internal; external = external; event = event; chosen = h; joined = refl; exactly = exact room internal _ full _ refl }))
     where
       Exact : Round → Type 0
       Exact idle = Unit {0}
       Exact over = Unit {0}
-      Exact (did next es) = FullAt room s next es
+      Exact (did next es) = FullAt room s next full es
 
-  pub start-full : (room : ℕ) → (refusal room (firstFollower c names) (firstEffects c) ≡ some Full) ↔ Overfull [] (firstEffects c)
+  pub start-full : (room : ℕ) → (refusal room (firstFollower c names) ((firstTable c names) .full) (firstEffects c) ≡ some Full) ↔ (Overfull [] (firstEffects c) ⊎ ((firstTable c names) .full ≡ true))
   unfolding firstFollower
-  start-full room = exact room [] (firstFollower c names) (firstEffects c) refl
+  start-full room = exact room [] (firstFollower c names) ((firstTable c names) .full) (firstEffects c) refl
+
+  -- ---- the table is full exactly if some send is performed while 32 are pending: before it come some effects, behind it others
+
+  pub record NoPlace (ticks : ℕ) (t : Table) (es : List Effect) : Type 0 where
+    pub before : List Effect
+    pub event : ℕ
+    pub delay : ℕ
+    pub id : ℕ
+    pub behind : List Effect
+    pub parted : es ≡ before ++ (sent event delay id ∷ behind)
+    pub pending : mostPending ≤ length ((tableAfter names ticks t before) .pending)
+
+  -- once full, full for good
+  stays-full : (ticks : ℕ) (t : Table) (es : List Effect) → t .full ≡ true → (tableAfter names ticks t es) .full ≡ true
+  unfolding tableAfter tableStep withSend
+  stays-full ticks t [] h = h
+  stays-full ticks t (exited i ∷ es) h = stays-full ticks t es h
+  stays-full ticks t (taken i ∷ es) h = stays-full ticks t es h
+  stays-full ticks t (entered i ∷ es) h = stays-full ticks t es h
+  stays-full ticks t (acted n ∷ es) h = stays-full ticks t es h
+  stays-full ticks t (raised n ∷ es) h = stays-full ticks t es h
+  stays-full ticks t (done i ∷ es) h = stays-full ticks t es h
+  stays-full ticks t (chosen i ∷ es) h = stays-full ticks t es h
+  stays-full ticks t (sent n d id ∷ es) h = stays-full ticks (withSend t (sendOf names ticks n d id)) es (unfold withSend in go (leb mostPending (length (t .pending))))
+    where
+      go : (b : Bool) → (cond {A = Table} b (record { pending = t .pending; full = true }) (record { pending = t .pending ++ (sendOf names ticks n d id ∷ []); full = t .full })) .full ≡ true
+      go true = refl
+      go false = h
+  stays-full ticks t (cancelled n ∷ es) h = stays-full ticks _ es h
+
+  after-app : (ticks : ℕ) (t : Table) (xs ys : List Effect) → tableAfter names ticks t (xs ++ ys) ≡ tableAfter names ticks (tableAfter names ticks t xs) ys
+  unfolding tableAfter
+  after-app ticks t [] ys = refl
+  after-app ticks t (x ∷ xs) ys = after-app ticks (tableStep names ticks t x) xs ys
+
+  one-more : (ticks : ℕ) (t : Table) (e : Effect) (es : List Effect) → NoPlace ticks (tableStep names ticks t e) es → NoPlace ticks t (e ∷ es)
+  unfolding tableAfter
+  one-more ticks t e es p =
+      record { before = e ∷ p .before; event = p .event; delay = p .delay; id = p .id; behind = p .behind; parted = ap {B = List Effect} (λ l. e ∷ l) (p .parted); pending = p .pending }
+
+  full-place : (ticks : ℕ) (t : Table) (es : List Effect) → t .full ≡ false → (tableAfter names ticks t es) .full ≡ true → NoPlace ticks t es
+  unfolding tableAfter tableStep withSend
+  full-place ticks t [] f h = absurd (clash _ h f)
+  full-place ticks t (exited i ∷ es) f h = one-more ticks t (exited i) es (full-place ticks t es f h)
+  full-place ticks t (taken i ∷ es) f h = one-more ticks t (taken i) es (full-place ticks t es f h)
+  full-place ticks t (entered i ∷ es) f h = one-more ticks t (entered i) es (full-place ticks t es f h)
+  full-place ticks t (acted n ∷ es) f h = one-more ticks t (acted n) es (full-place ticks t es f h)
+  full-place ticks t (raised n ∷ es) f h = one-more ticks t (raised n) es (full-place ticks t es f h)
+  full-place ticks t (done i ∷ es) f h = one-more ticks t (done i) es (full-place ticks t es f h)
+  full-place ticks t (chosen i ∷ es) f h = one-more ticks t (chosen i) es (full-place ticks t es f h)
+  full-place ticks t (sent n d id ∷ es) f h =
+      bool-case (leb mostPending (length (t .pending)))
+      (λ e. record { before = []; event = n; delay = d; id = id; behind = es; parted = refl; pending = leb-true _ _ e })
+      (λ e. one-more ticks t (sent n d id) es (full-place ticks (withSend t (sendOf names ticks n d id)) es (unfold withSend in rw e f) h))
+  full-place ticks t (cancelled n ∷ es) f h = one-more ticks t (cancelled n) es (full-place ticks _ es f h)
+
+  place-full : (ticks : ℕ) (t : Table) (es : List Effect) → NoPlace ticks t es → (tableAfter names ticks t es) .full ≡ true
+  unfolding tableStep withSend
+  place-full ticks t es p =
+      rw (p .parted, after-app ticks t (p .before) (sent (p .event) (p .delay) (p .id) ∷ p .behind))
+      (unfold tableAfter in stays-full ticks _ (p .behind) (rw (le-leb mostPending _ (p .pending))))
+
+  pub table-full : (ticks : ℕ) (t : Table) (es : List Effect) → t .full ≡ false → ((tableAfter names ticks t es) .full ≡ true) ↔ NoPlace ticks t es
+  table-full ticks t es f = (full-place ticks t es f, place-full ticks t es)

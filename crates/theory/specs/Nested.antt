@@ -7,7 +7,7 @@ use Prim.Native.Nat.{ℕ, zero, suc, _<_}
 use lib.Dec.{ltb}
 use lib.ListN.{length, getD}
 use Rattle.definition.specs.declared.Action.{Action}
-use Rattle.definition.specs.declared.Action.the-variants.{Raise, Host, If, ElseIf, Else, End}
+use Rattle.definition.specs.declared.Action.the-variants.{Raise, Host, If, ElseIf, Else, End, Send, Cancel}
 use Rattle.definition.specs.Rows.{all, isEmpty}
 use Rattle.definition.specs.Chart.{Chart}
 use Rattle.definition.specs.Tables.{mostNested}
@@ -41,6 +41,8 @@ pub data Nested : List Action → Type 0 where
   nothing : Nested []
   raising : (n : ℕ) {rest : List Action} → Nested rest → Nested (Raise n ∷ rest)
   hosting : (n : ℕ) {rest : List Action} → Nested rest → Nested (Host n ∷ rest)
+  sending : (n delay id : ℕ) {rest : List Action} → Nested rest → Nested (Send n delay id ∷ rest)
+  cancelling : (n : ℕ) {rest : List Action} → Nested rest → Nested (Cancel n ∷ rest)
   choosing : (b : Branch) (bs : List Branch) (last : Option (List Action)) {rest : List Action} → ((n : ℕ) → Nested (getD (partsOf (b ∷ bs) last) n [])) → Nested rest → Nested (wholeIf b bs last ++ rest)
 
 -- every part is
@@ -113,6 +115,8 @@ unfolding nests
 nests-open ifs [] h = none-open ifs h
 nests-open ifs (Raise n ∷ xs) h = front (Raise n ∷ []) (λ ys v. raising n v) (nests-open ifs xs h)
 nests-open ifs (Host n ∷ xs) h = front (Host n ∷ []) (λ ys v. hosting n v) (nests-open ifs xs h)
+nests-open ifs (Send n delay id ∷ xs) h = front (Send n delay id ∷ []) (λ ys v. sending n delay id v) (nests-open ifs xs h)
+nests-open ifs (Cancel n ∷ xs) h = front (Cancel n ∷ []) (λ ys v. cancelling n v) (nests-open ifs xs h)
 nests-open ifs (If i ∷ xs) h = if-open i (nests-open (false ∷ ifs) xs (and-right (ltb (length ifs) mostNested) _ h))
 nests-open ifs (ElseIf i ∷ xs) h = elseif-open i ifs (and-left (awaitsElse ifs) _ h) (nests-open ifs xs (and-right (awaitsElse ifs) _ h))
 nests-open ifs (Else ∷ xs) h = else-open ifs (and-left (awaitsElse ifs) _ h) (nests-open (withElse ifs) xs (and-right (awaitsElse ifs) _ h))

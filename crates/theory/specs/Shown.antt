@@ -5,15 +5,15 @@ use mathlib.Core.List.{List, [], _∷_, _++_, append-nil}
 use mathlib.Core.Option.{Option}
 use Prim.Native.Nat.{ℕ}
 use Rattle.definition.specs.declared.Action.{Action}
-use Rattle.definition.specs.declared.Action.the-variants.{Raise, Host, If, ElseIf, Else, End}
+use Rattle.definition.specs.declared.Action.the-variants.{Raise, Host, If, ElseIf, Else, End, Send, Cancel}
 use Rattle.definition.specs.declared.Reach.{Reach}
 use Rattle.definition.specs.declared.Reach.the-variants.{Live, Waiting, Past}
 use Rattle.definition.specs.Rows.{mem, meets, flat, backwards}
 use Rattle.definition.specs.Names.{Name}
 use Rattle.definition.specs.Chart.{Chart, Names, kind, parent, isRoot, isFinal}
 use Rattle.follower.specs.Selection.{History, exitSet, chooser}
-use Rattle.follower.specs.Blocks.{Effect, exited, taken, entered, acted, raised, done, chosen, perform, performIf, performedFrom, performed, after}
-use Rattle.follower.specs.Microstep.{exits, exitEffects, exiting, transitionEffects, Entry, initialBlock, defaultBlock, isDoneAbove, doneEffects, activeAt, defaultEffects, entryEffects, entering, storedIn, effects, staying}
+use Rattle.follower.specs.Blocks.{Effect, exited, taken, entered, acted, raised, done, chosen, sent, cancelled, perform, performIf, performedFrom, performed, after}
+use Rattle.follower.specs.Microstep.{activeLeaving, activeAt, defaultBlock, initialBlock, defaultEffects, staying, exits, exitEffects, exiting, transitionEffects, Entry, isDoneAbove, doneEffects, entryEffects, entering, storedIn, effects}
 use Rattle.follower.specs.Follower.{Follower, Round, idle, over, did, taking, selectedBy, closingRound, round}
 use Rattle.laws.specs.Bools.{no}
 use Rattle.laws.specs.Sets.{NoTwice}
@@ -29,6 +29,8 @@ ifTaken (acted n) = []
 ifTaken (raised n) = []
 ifTaken (done i) = []
 ifTaken (chosen i) = []
+ifTaken (sent n delay id) = []
+ifTaken (cancelled n) = []
 
 -- the transitions that the effects show, in their order
 unfoldable pub takenIn : List Effect → List ℕ
@@ -46,6 +48,8 @@ taken-perform Live (If i) = refl
 taken-perform Live (ElseIf i) = refl
 taken-perform Live Else = refl
 taken-perform Live End = refl
+taken-perform Live (Send n delay id) = refl
+taken-perform Live (Cancel n) = refl
 taken-perform (Waiting k) a = refl
 taken-perform (Past k) a = refl
 

@@ -30,13 +30,13 @@ use Rattle.theory.specs.Keeps.{Histories, Live, Over, Fit, history-of}
 
 -- ---- modes
 
-ended-running : (m : Mode) → m ≡ Running → m ≡ Ended → ⊥
+pub ended-running : (m : Mode) → m ≡ Running → m ≡ Ended → ⊥
 ended-running m e q = let z : _≡_ {A = ℕ} 0 1 = cc in omega arith
 
-ended-closing : (m : Mode) → m ≡ Closing → m ≡ Ended → ⊥
+pub ended-closing : (m : Mode) → m ≡ Closing → m ≡ Ended → ⊥
 ended-closing m e q = let z : _≡_ {A = ℕ} 0 1 = cc in omega arith
 
-running-closing : (m : Mode) → m ≡ Running → m ≡ Closing → ⊥
+pub running-closing : (m : Mode) → m ≡ Running → m ≡ Closing → ⊥
 running-closing m e q = let z : _≡_ {A = ℕ} 0 1 = cc in omega arith
 
 final-mode : (c : Chart) (conf : List ℕ) → any (isFinalUnderRoot c) conf ≡ true → modeOf c conf ≡ Closing
@@ -48,7 +48,7 @@ unfolding modeOf
 other-mode c conf e = rw e
 
 -- a session that starts or goes on has not ended
-mode-lives : (c : Chart) (conf : List ℕ) → modeOf c conf ≡ Ended → ⊥
+pub mode-lives : (c : Chart) (conf : List ℕ) → modeOf c conf ≡ Ended → ⊥
 mode-lives c conf q =
     bool-case (any (isFinalUnderRoot c) conf) (λ e. ended-closing (modeOf c conf) (final-mode c conf e) q) (λ e. ended-running (modeOf c conf) (other-mode c conf e) q)
 

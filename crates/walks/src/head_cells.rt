@@ -39,7 +39,7 @@ fn is_other(text: &[u8], cells: &[u16], d: Default) -> bool
     }
 }
 
-// A row's kind: its element's, or 5 for a deep history.
+// A row's kind: its element's number, but of a deep history its own.
 pub fn kind_at(text: &[u8], cells: &[u16], element: u8) -> u64
     requires { ⌜ WordRoom (now text) (now cells) 28 ⌝ }
     ensures { λ r. ⌜ r ≡ cond (eqb element 4 && same (plain (valueIn (now (text .entry)) (now (cells .entry)) 28 shallow)) deep) 5 element ⌝ }
@@ -50,9 +50,9 @@ pub fn kind_at(text: &[u8], cells: &[u16], element: u8) -> u64
     }
     let deep = is_other(text, cells, Default::Shallow);
     if deep {
-        return 5;
+        return kinds::DEEP;
     }
-    4
+    kinds::SHALLOW
 }
 
 // The slot of a row's id; 65,535 for one without an id.

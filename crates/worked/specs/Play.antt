@@ -4,8 +4,7 @@ use Prim.Native.Nat.{ℕ}
 use Rattle.definition.specs.Tables.{chartOf, nameAt}
 use Rattle.definition.specs.Rules.{keepsRules}
 use Rattle.definition.specs.Answers.{answerNo}
-use Rattle.follower.specs.Follower.{endedFollower}
-use Rattle.follower.specs.Calls.{Call, starts, posts, runs, Outcome, followAll}
+use Rattle.follower.specs.Calls.{Call, starts, posts, clocks, runs, Outcome, followAll, atRest}
 
 abbrev pub raises : ℕ → List ℕ
 raises n = 0 ∷ n ∷ 0 ∷ 0 ∷ []
@@ -25,11 +24,12 @@ otherwise = 4 ∷ 0 ∷ 0 ∷ 0 ∷ []
 abbrev pub ends : List ℕ
 ends = 5 ∷ 0 ∷ 0 ∷ 0 ∷ []
 
--- what a start or run hands back: number and rounds, trace, configuration; of a post nothing
+-- what a start or run hands back: number and rounds, trace, configuration; of a post and a clock call nothing
 unfoldable pub shown : Call → Outcome → List (List ℕ)
-shown (starts room) o = (o .number ∷ o .rounds ∷ []) ∷ o .trace ∷ (o .after .configuration) ∷ []
+shown (starts room) o = (o .number ∷ o .rounds ∷ []) ∷ o .trace ∷ (o .after .follower .configuration) ∷ []
 shown (posts name) o = []
-shown (runs n room) o = (o .number ∷ o .rounds ∷ []) ∷ o .trace ∷ (o .after .configuration) ∷ []
+shown (clocks ticks) o = []
+shown (runs n room) o = (o .number ∷ o .rounds ∷ []) ∷ o .trace ∷ (o .after .follower .configuration) ∷ []
 
 unfoldable pub shownAll : List Call → List Outcome → List (List ℕ)
 shownAll [] os = []
@@ -39,4 +39,4 @@ shownAll (call ∷ calls) (o ∷ os) = shown call o ++ shownAll calls os
 -- the verdict, then three lists for each start and run
 unfoldable pub played : List ℕ → List ℕ → List Call → List (List ℕ)
 played numbers names calls =
-    (answerNo (keepsRules numbers names) ∷ []) ∷ shownAll calls (followAll (chartOf numbers) (nameAt names) (endedFollower (chartOf numbers)) calls)
+    (answerNo (keepsRules numbers names) ∷ []) ∷ shownAll calls (followAll (chartOf numbers) (nameAt names) (atRest (chartOf numbers)) calls)

@@ -11,9 +11,6 @@ use numbers::Row;
 use spell::blocks::lay_element;
 use tables::columns;
 
-// The first kind of a history.
-const HISTORY: u64 = 4;
-
 // Whether nothing stands there; the transitions of row r are those from t on, before transition `end`.
 fn is_blank(numbers: &[u64], r: Row, t: u64, end: u64) -> bool
     requires { ⌜ RowIn (now numbers) (r .0) ⌝ }
@@ -31,7 +28,7 @@ fn is_blank(numbers: &[u64], r: Row, t: u64, end: u64) -> bool
     if tables::row_cell(numbers, r, columns::LIST + 1) == 0 {
         return true;
     }
-    if HISTORY <= tables::row_cell(numbers, r, columns::KIND) {
+    if kinds::SHALLOW <= tables::row_cell(numbers, r, columns::KIND) {
         return false;
     }
     tables::row_cell(numbers, r, columns::LIST_BLOCK + 1) == 0

@@ -5,10 +5,10 @@ use Prim.Native.Nat.{ℕ}
 use Rattle.grammar.specs.declared.Place.the-variants.{Content, Tag}
 use Rattle.grammar.specs.Grammar.{after, live, run}
 use Rattle.written.specs.Pieces.{wordText}
-use Rattle.written.specs.Begins.{all, sending, where-sending, May, may-0-0, may-2-1, may-2-2, may-2-3, may-2-4, may-2-6, may-2-7, may-2-8, may-3-1, may-3-2, may-3-3, may-3-4, may-3-6, may-3-7, may-3-8, may-4-1, may-4-2, may-4-3, may-4-4, may-4-6, may-4-7, may-4-8, may-5-1, may-5-2, may-5-3, may-5-4, may-5-6, may-5-7, may-5-8, may-6-1, may-6-2, may-6-3, may-6-4, may-6-6, may-6-7, may-6-8, may-7-1, may-7-2, may-7-3, may-7-4, may-7-6, may-7-7, may-7-8, may-4-5, may-8-11, may-10-9, may-10-10, may-10-12, may-10-13, may-10-14, may-10-15, may-10-16, may-11-9, may-11-10, may-11-12, may-11-13, may-11-14, may-11-15, may-11-16, may-12-9, may-12-10, may-12-12, may-12-13, may-12-14, may-12-15, may-12-16, may-15-9, may-15-10, may-15-12, may-15-13, may-15-14, may-15-15, may-15-16, Behind, space, end, slash}
+use Rattle.written.specs.Begins.{all, May, may-0-0, may-2-1, may-2-2, may-2-3, may-2-4, may-2-6, may-2-7, may-2-8, may-3-1, may-3-2, may-3-3, may-3-4, may-3-6, may-3-7, may-3-8, may-4-1, may-4-2, may-4-3, may-4-4, may-4-6, may-4-7, may-4-8, may-5-1, may-5-2, may-5-3, may-5-4, may-5-6, may-5-7, may-5-8, may-6-1, may-6-2, may-6-3, may-6-4, may-6-6, may-6-7, may-6-8, may-7-1, may-7-2, may-7-3, may-7-4, may-7-6, may-7-7, may-7-8, may-4-5, may-8-11, may-10-9, may-10-10, may-10-12, may-10-13, may-10-14, may-10-15, may-10-16, may-11-9, may-11-10, may-11-12, may-11-13, may-11-14, may-11-15, may-11-16, may-12-9, may-12-10, may-12-12, may-12-13, may-12-14, may-12-15, may-12-16, may-15-9, may-15-10, may-15-12, may-15-13, may-15-14, may-15-15, may-15-16, Behind, space, end, slash}
 
 pub begins-run : (t e b : ℕ) → May t e → Behind b → (st rest : List ℕ) → run (live Content t st) (60 ∷ (wordText e ++ b ∷ rest)) ≡ run (live (Tag e 0) (after t e) st) (b ∷ rest)
-unfolding all sending
+unfolding all
 begins-run t e b may-0-0 space st rest = refl
 begins-run t e b may-0-0 end st rest = refl
 begins-run t e b may-0-0 slash st rest = refl
@@ -159,12 +159,12 @@ begins-run t e b may-10-13 slash st rest = refl
 begins-run t e b may-10-14 space st rest = refl
 begins-run t e b may-10-14 end st rest = refl
 begins-run t e b may-10-14 slash st rest = refl
-begins-run t e b (may-10-15 h) space st rest = where-sending h refl
-begins-run t e b (may-10-15 h) end st rest = where-sending h refl
-begins-run t e b (may-10-15 h) slash st rest = where-sending h refl
-begins-run t e b (may-10-16 h) space st rest = where-sending h refl
-begins-run t e b (may-10-16 h) end st rest = where-sending h refl
-begins-run t e b (may-10-16 h) slash st rest = where-sending h refl
+begins-run t e b may-10-15 space st rest = refl
+begins-run t e b may-10-15 end st rest = refl
+begins-run t e b may-10-15 slash st rest = refl
+begins-run t e b may-10-16 space st rest = refl
+begins-run t e b may-10-16 end st rest = refl
+begins-run t e b may-10-16 slash st rest = refl
 begins-run t e b may-11-9 space st rest = refl
 begins-run t e b may-11-9 end st rest = refl
 begins-run t e b may-11-9 slash st rest = refl
@@ -180,12 +180,12 @@ begins-run t e b may-11-13 slash st rest = refl
 begins-run t e b may-11-14 space st rest = refl
 begins-run t e b may-11-14 end st rest = refl
 begins-run t e b may-11-14 slash st rest = refl
-begins-run t e b (may-11-15 h) space st rest = where-sending h refl
-begins-run t e b (may-11-15 h) end st rest = where-sending h refl
-begins-run t e b (may-11-15 h) slash st rest = where-sending h refl
-begins-run t e b (may-11-16 h) space st rest = where-sending h refl
-begins-run t e b (may-11-16 h) end st rest = where-sending h refl
-begins-run t e b (may-11-16 h) slash st rest = where-sending h refl
+begins-run t e b may-11-15 space st rest = refl
+begins-run t e b may-11-15 end st rest = refl
+begins-run t e b may-11-15 slash st rest = refl
+begins-run t e b may-11-16 space st rest = refl
+begins-run t e b may-11-16 end st rest = refl
+begins-run t e b may-11-16 slash st rest = refl
 begins-run t e b may-12-9 space st rest = refl
 begins-run t e b may-12-9 end st rest = refl
 begins-run t e b may-12-9 slash st rest = refl
@@ -201,12 +201,12 @@ begins-run t e b may-12-13 slash st rest = refl
 begins-run t e b may-12-14 space st rest = refl
 begins-run t e b may-12-14 end st rest = refl
 begins-run t e b may-12-14 slash st rest = refl
-begins-run t e b (may-12-15 h) space st rest = where-sending h refl
-begins-run t e b (may-12-15 h) end st rest = where-sending h refl
-begins-run t e b (may-12-15 h) slash st rest = where-sending h refl
-begins-run t e b (may-12-16 h) space st rest = where-sending h refl
-begins-run t e b (may-12-16 h) end st rest = where-sending h refl
-begins-run t e b (may-12-16 h) slash st rest = where-sending h refl
+begins-run t e b may-12-15 space st rest = refl
+begins-run t e b may-12-15 end st rest = refl
+begins-run t e b may-12-15 slash st rest = refl
+begins-run t e b may-12-16 space st rest = refl
+begins-run t e b may-12-16 end st rest = refl
+begins-run t e b may-12-16 slash st rest = refl
 begins-run t e b may-15-9 space st rest = refl
 begins-run t e b may-15-9 end st rest = refl
 begins-run t e b may-15-9 slash st rest = refl
@@ -222,9 +222,9 @@ begins-run t e b may-15-13 slash st rest = refl
 begins-run t e b may-15-14 space st rest = refl
 begins-run t e b may-15-14 end st rest = refl
 begins-run t e b may-15-14 slash st rest = refl
-begins-run t e b (may-15-15 h) space st rest = where-sending h refl
-begins-run t e b (may-15-15 h) end st rest = where-sending h refl
-begins-run t e b (may-15-15 h) slash st rest = where-sending h refl
-begins-run t e b (may-15-16 h) space st rest = where-sending h refl
-begins-run t e b (may-15-16 h) end st rest = where-sending h refl
-begins-run t e b (may-15-16 h) slash st rest = where-sending h refl
+begins-run t e b may-15-15 space st rest = refl
+begins-run t e b may-15-15 end st rest = refl
+begins-run t e b may-15-15 slash st rest = refl
+begins-run t e b may-15-16 space st rest = refl
+begins-run t e b may-15-16 end st rest = refl
+begins-run t e b may-15-16 slash st rest = refl

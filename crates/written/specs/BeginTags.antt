@@ -6,12 +6,12 @@ use Rattle.grammar.specs.declared.Place.the-variants.{Content, Tag}
 use Rattle.grammar.specs.Grammar.{after, live}
 use Rattle.reading.specs.Tags.{tagsFrom}
 use Rattle.written.specs.Pieces.{wordText, draft, attrsAt}
-use Rattle.written.specs.Begins.{all, sending, where-sending, May, may-0-0, may-2-1, may-2-2, may-2-3, may-2-4, may-2-6, may-2-7, may-2-8, may-3-1, may-3-2, may-3-3, may-3-4, may-3-6, may-3-7, may-3-8, may-4-1, may-4-2, may-4-3, may-4-4, may-4-6, may-4-7, may-4-8, may-5-1, may-5-2, may-5-3, may-5-4, may-5-6, may-5-7, may-5-8, may-6-1, may-6-2, may-6-3, may-6-4, may-6-6, may-6-7, may-6-8, may-7-1, may-7-2, may-7-3, may-7-4, may-7-6, may-7-7, may-7-8, may-4-5, may-8-11, may-10-9, may-10-10, may-10-12, may-10-13, may-10-14, may-10-15, may-10-16, may-11-9, may-11-10, may-11-12, may-11-13, may-11-14, may-11-15, may-11-16, may-12-9, may-12-10, may-12-12, may-12-13, may-12-14, may-12-15, may-12-16, may-15-9, may-15-10, may-15-12, may-15-13, may-15-14, may-15-15, may-15-16, Behind, space, end, slash}
+use Rattle.written.specs.Begins.{all, May, may-0-0, may-2-1, may-2-2, may-2-3, may-2-4, may-2-6, may-2-7, may-2-8, may-3-1, may-3-2, may-3-3, may-3-4, may-3-6, may-3-7, may-3-8, may-4-1, may-4-2, may-4-3, may-4-4, may-4-6, may-4-7, may-4-8, may-5-1, may-5-2, may-5-3, may-5-4, may-5-6, may-5-7, may-5-8, may-6-1, may-6-2, may-6-3, may-6-4, may-6-6, may-6-7, may-6-8, may-7-1, may-7-2, may-7-3, may-7-4, may-7-6, may-7-7, may-7-8, may-4-5, may-8-11, may-10-9, may-10-10, may-10-12, may-10-13, may-10-14, may-10-15, may-10-16, may-11-9, may-11-10, may-11-12, may-11-13, may-11-14, may-11-15, may-11-16, may-12-9, may-12-10, may-12-12, may-12-13, may-12-14, may-12-15, may-12-16, may-15-9, may-15-10, may-15-12, may-15-13, may-15-14, may-15-15, may-15-16, Behind, space, end, slash}
 
 pub begins : (t e b : ℕ) → May t e → Behind b → (st : List ℕ) (at old from i : ℕ) (rest : List ℕ) →
     tagsFrom (live Content t st) (draft at old [] from []) i (60 ∷ (wordText e ++ b ∷ rest)) ≡
     tagsFrom (live (Tag e 0) (after t e) st) (draft i e [] (attrsAt i e) []) (attrsAt i e) (b ∷ rest)
-unfolding all sending
+unfolding all
 begins t e b may-0-0 space st at old from i rest = refl
 begins t e b may-0-0 end st at old from i rest = refl
 begins t e b may-0-0 slash st at old from i rest = refl
@@ -162,12 +162,12 @@ begins t e b may-10-13 slash st at old from i rest = refl
 begins t e b may-10-14 space st at old from i rest = refl
 begins t e b may-10-14 end st at old from i rest = refl
 begins t e b may-10-14 slash st at old from i rest = refl
-begins t e b (may-10-15 h) space st at old from i rest = where-sending h refl
-begins t e b (may-10-15 h) end st at old from i rest = where-sending h refl
-begins t e b (may-10-15 h) slash st at old from i rest = where-sending h refl
-begins t e b (may-10-16 h) space st at old from i rest = where-sending h refl
-begins t e b (may-10-16 h) end st at old from i rest = where-sending h refl
-begins t e b (may-10-16 h) slash st at old from i rest = where-sending h refl
+begins t e b may-10-15 space st at old from i rest = refl
+begins t e b may-10-15 end st at old from i rest = refl
+begins t e b may-10-15 slash st at old from i rest = refl
+begins t e b may-10-16 space st at old from i rest = refl
+begins t e b may-10-16 end st at old from i rest = refl
+begins t e b may-10-16 slash st at old from i rest = refl
 begins t e b may-11-9 space st at old from i rest = refl
 begins t e b may-11-9 end st at old from i rest = refl
 begins t e b may-11-9 slash st at old from i rest = refl
@@ -183,12 +183,12 @@ begins t e b may-11-13 slash st at old from i rest = refl
 begins t e b may-11-14 space st at old from i rest = refl
 begins t e b may-11-14 end st at old from i rest = refl
 begins t e b may-11-14 slash st at old from i rest = refl
-begins t e b (may-11-15 h) space st at old from i rest = where-sending h refl
-begins t e b (may-11-15 h) end st at old from i rest = where-sending h refl
-begins t e b (may-11-15 h) slash st at old from i rest = where-sending h refl
-begins t e b (may-11-16 h) space st at old from i rest = where-sending h refl
-begins t e b (may-11-16 h) end st at old from i rest = where-sending h refl
-begins t e b (may-11-16 h) slash st at old from i rest = where-sending h refl
+begins t e b may-11-15 space st at old from i rest = refl
+begins t e b may-11-15 end st at old from i rest = refl
+begins t e b may-11-15 slash st at old from i rest = refl
+begins t e b may-11-16 space st at old from i rest = refl
+begins t e b may-11-16 end st at old from i rest = refl
+begins t e b may-11-16 slash st at old from i rest = refl
 begins t e b may-12-9 space st at old from i rest = refl
 begins t e b may-12-9 end st at old from i rest = refl
 begins t e b may-12-9 slash st at old from i rest = refl
@@ -204,12 +204,12 @@ begins t e b may-12-13 slash st at old from i rest = refl
 begins t e b may-12-14 space st at old from i rest = refl
 begins t e b may-12-14 end st at old from i rest = refl
 begins t e b may-12-14 slash st at old from i rest = refl
-begins t e b (may-12-15 h) space st at old from i rest = where-sending h refl
-begins t e b (may-12-15 h) end st at old from i rest = where-sending h refl
-begins t e b (may-12-15 h) slash st at old from i rest = where-sending h refl
-begins t e b (may-12-16 h) space st at old from i rest = where-sending h refl
-begins t e b (may-12-16 h) end st at old from i rest = where-sending h refl
-begins t e b (may-12-16 h) slash st at old from i rest = where-sending h refl
+begins t e b may-12-15 space st at old from i rest = refl
+begins t e b may-12-15 end st at old from i rest = refl
+begins t e b may-12-15 slash st at old from i rest = refl
+begins t e b may-12-16 space st at old from i rest = refl
+begins t e b may-12-16 end st at old from i rest = refl
+begins t e b may-12-16 slash st at old from i rest = refl
 begins t e b may-15-9 space st at old from i rest = refl
 begins t e b may-15-9 end st at old from i rest = refl
 begins t e b may-15-9 slash st at old from i rest = refl
@@ -225,9 +225,9 @@ begins t e b may-15-13 slash st at old from i rest = refl
 begins t e b may-15-14 space st at old from i rest = refl
 begins t e b may-15-14 end st at old from i rest = refl
 begins t e b may-15-14 slash st at old from i rest = refl
-begins t e b (may-15-15 h) space st at old from i rest = where-sending h refl
-begins t e b (may-15-15 h) end st at old from i rest = where-sending h refl
-begins t e b (may-15-15 h) slash st at old from i rest = where-sending h refl
-begins t e b (may-15-16 h) space st at old from i rest = where-sending h refl
-begins t e b (may-15-16 h) end st at old from i rest = where-sending h refl
-begins t e b (may-15-16 h) slash st at old from i rest = where-sending h refl
+begins t e b may-15-15 space st at old from i rest = refl
+begins t e b may-15-15 end st at old from i rest = refl
+begins t e b may-15-15 slash st at old from i rest = refl
+begins t e b may-15-16 space st at old from i rest = refl
+begins t e b may-15-16 end st at old from i rest = refl
+begins t e b may-15-16 slash st at old from i rest = refl

@@ -1,9 +1,7 @@
 -- Which tags may stand where, as they are written; and the walk from an attribute's space to its value, and over an end tag. The bytes are known, so it computes.
 use mathlib.Core.Path.{_≡_, refl}
-use mathlib.Core.Bool.{Bool, true, cond}
 use mathlib.Core.List.{List, [], _∷_, _++_}
 use Prim.Native.Nat.{ℕ, _+_}
-use lib.Dec.{eqb}
 use lib.ListN.{length}
 use Rattle.grammar.specs.declared.Place.the-variants.{Content, Tag, Value}
 use Rattle.grammar.specs.Tables.{words, menus, attrs, kinds, needed, opened, owners, ends, bits, adds}
@@ -14,15 +12,6 @@ use Rattle.written.specs.Pieces.{wordText, further, draft}
 unfoldable pub all : ℕ
 unfolding words menus attrs kinds needed opened owners ends bits adds isSpace isChar isToken wordByte agree follows pickFrom pick attribute has added pickAttribute isComplete mayEnd owner after opens nameStep valueStep valueEnds kindOf contentStep nameAt lessStep tagStep nameStepAt attributeAt spaceStep equalsStep attributeStep quoteStep valueAt valueStepAt entityAt entityStep closeStep endStep only stepOf next run noted emitted tagsFrom wordText
 all = 0
-
--- do blocks hold send and cancel, as R-9 has it
-unfoldable pub sending : Bool
-unfolding all
-sending = eqb (pick 10 48 0 115) 15
-
--- what holds of the grammar where they do
-pub where-sending : {A : Type 0} {x y : A} → sending ≡ true → cond sending x y ≡ y → x ≡ y
-where-sending h e = rw h at e
 
 -- the level may hold the element: outside the root, in a row, in a state that has no initial list yet, in an initial element, in a block
 pub data May : ℕ → ℕ → Type 0 where
@@ -76,29 +65,29 @@ pub data May : ℕ → ℕ → Type 0 where
   may-10-12 : May 10 12
   may-10-13 : May 10 13
   may-10-14 : May 10 14
-  may-10-15 : sending ≡ true → May 10 15
-  may-10-16 : sending ≡ true → May 10 16
+  may-10-15 : May 10 15
+  may-10-16 : May 10 16
   may-11-9 : May 11 9
   may-11-10 : May 11 10
   may-11-12 : May 11 12
   may-11-13 : May 11 13
   may-11-14 : May 11 14
-  may-11-15 : sending ≡ true → May 11 15
-  may-11-16 : sending ≡ true → May 11 16
+  may-11-15 : May 11 15
+  may-11-16 : May 11 16
   may-12-9 : May 12 9
   may-12-10 : May 12 10
   may-12-12 : May 12 12
   may-12-13 : May 12 13
   may-12-14 : May 12 14
-  may-12-15 : sending ≡ true → May 12 15
-  may-12-16 : sending ≡ true → May 12 16
+  may-12-15 : May 12 15
+  may-12-16 : May 12 16
   may-15-9 : May 15 9
   may-15-10 : May 15 10
   may-15-12 : May 15 12
   may-15-13 : May 15 13
   may-15-14 : May 15 14
-  may-15-15 : sending ≡ true → May 15 15
-  may-15-16 : sending ≡ true → May 15 16
+  may-15-15 : May 15 15
+  may-15-16 : May 15 16
 
 -- what stands behind a name or a value in a start tag: a space, ">" or "/"
 pub data Behind : ℕ → Type 0 where

@@ -92,10 +92,10 @@ module _ (rs : List Row) (ids : List (List ℕ)) (n : ℕ) (known : Known rs ids
     act-says u (elseifIn x) f i e = stands-says s u k m 14 (attr 0 (inText rs x) ∷ []) (actTurn s k m (elseifIn x)) (λ (j : ℕ). elseif-turn s k m j x f) refl
     act-says u otherwise f i e = stands-says s u k m 13 [] (actTurn s k m otherwise) (λ (j : ℕ). else-turn s k m j) refl
     act-says u endIf f i e = absurd (no (sym e))
-    act-says u (sends v d none) (p, f, g) i e = stands-says s u k m 15 (attr 0 v ∷ delayAttr d) (actTurn s k m (sends v d none)) (λ (j : ℕ). send-turn s k m j v d g) refl
-    act-says u (sends v d (some w)) (p, f, g, h) i e =
+    act-says u (sends v d none) (f, g) i e = stands-says s u k m 15 (attr 0 v ∷ delayAttr d) (actTurn s k m (sends v d none)) (λ (j : ℕ). send-turn s k m j v d g) refl
+    act-says u (sends v d (some w)) (f, g, h) i e =
         stands-says s u k m 15 (attr 2 w ∷ attr 0 v ∷ delayAttr d) (actTurn s k m (sends v d (some w))) (λ (j : ℕ). sent-turn s k m j v w d g) refl
-    act-says u (cancels v) (p, f) i e = stands-says s u k m 16 (attr 0 v ∷ []) (actTurn s k m (cancels v)) (λ (j : ℕ). cancel-turn s k m j v) refl
+    act-says u (cancels v) f i e = stands-says s u k m 16 (attr 0 v ∷ []) (actTurn s k m (cancels v)) (λ (j : ℕ). cancel-turn s k m j v) refl
 
     -- an if with nothing inside says its end too
     empty-if-says : (u : List Spot) (i : ℕ) → Ref n i → Says ids (s ∷ u) k m (emptyIf rs i ∷ []) (actionFact (blockOf s) (ifIn i) ∷ actionFact (blockOf s) endIf ∷ []) (s ∷ u) k m

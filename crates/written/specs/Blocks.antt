@@ -14,7 +14,7 @@ use Rattle.reading.specs.Content.{Act, raises, hosts, ifIn, elseifIn, otherwise
 use Rattle.reading.specs.Print.{number, idOf, isEnd, isIf}
 use Rattle.laws.specs.Bools.{no}
 use Rattle.written.specs.Pieces.{Attr, Piece}
-use Rattle.written.specs.Begins.{sending, May, may-10-9, may-11-9, may-12-9, may-15-9, may-10-10, may-11-10, may-12-10, may-15-10, may-10-12, may-11-12, may-12-12, may-15-12, may-10-13, may-11-13, may-12-13, may-15-13, may-10-14, may-11-14, may-12-14, may-15-14, may-10-15, may-11-15, may-12-15, may-15-15, may-10-16, may-11-16, may-12-16, may-15-16, Follows, follows-9-0-0, follows-10-0-0, follows-12-0-0, follows-14-0-0, follows-15-0-2, follows-15-0-0, follows-15-4-0, follows-15-1-1, follows-15-5-1, follows-16-0-0, Ends, ends-15-12}
+use Rattle.written.specs.Begins.{May, may-10-9, may-11-9, may-12-9, may-15-9, may-10-10, may-11-10, may-12-10, may-15-10, may-10-12, may-11-12, may-12-12, may-15-12, may-10-13, may-11-13, may-12-13, may-15-13, may-10-14, may-11-14, may-12-14, may-15-14, may-10-15, may-11-15, may-12-15, may-15-15, may-10-16, may-11-16, may-12-16, may-15-16, Follows, follows-9-0-0, follows-10-0-0, follows-12-0-0, follows-14-0-0, follows-15-0-2, follows-15-0-0, follows-15-4-0, follows-15-1-1, follows-15-5-1, follows-16-0-0, Ends, ends-15-12}
 use Rattle.written.specs.Walks.{reads, Stated, none as no-attr, one}
 use Rattle.written.specs.Walked.{Goes, starts, stands, shuts, Fits, over, then, fits-both, fits-one}
 use Rattle.written.specs.Written.{attr, startTag, emptyTag, endTag, inText, delayAttr, actPiece, emptyIf, blockPieces, elementPieces}
@@ -60,17 +60,17 @@ elseif-may t of-entry = may-11-14
 elseif-may t of-exit = may-12-14
 elseif-may t of-if = may-15-14
 
-send-may : (t : ℕ) → BlockLevel t → sending ≡ true → May t 15
-send-may t of-transition p = may-10-15 p
-send-may t of-entry p = may-11-15 p
-send-may t of-exit p = may-12-15 p
-send-may t of-if p = may-15-15 p
+send-may : (t : ℕ) → BlockLevel t → May t 15
+send-may t of-transition = may-10-15
+send-may t of-entry = may-11-15
+send-may t of-exit = may-12-15
+send-may t of-if = may-15-15
 
-cancel-may : (t : ℕ) → BlockLevel t → sending ≡ true → May t 16
-cancel-may t of-transition p = may-10-16 p
-cancel-may t of-entry p = may-11-16 p
-cancel-may t of-exit p = may-12-16 p
-cancel-may t of-if p = may-15-16 p
+cancel-may : (t : ℕ) → BlockLevel t → May t 16
+cancel-may t of-transition = may-10-16
+cancel-may t of-entry = may-11-16
+cancel-may t of-exit = may-12-16
+cancel-may t of-if = may-15-16
 
 unfoldable all : ℕ
 unfolding kinds needed opened ends bits adds has added isComplete mayEnd after opens kindOf
@@ -115,10 +115,10 @@ module _ (rs : List Row) (n : ℕ) (named : (i : ℕ) → Ref n i → isName (id
   act-goes t st l (elseifIn j) f i e = stands (elseif-may t l) (one follows-14-0-0 (in-reads j f) no-attr) refl refl
   act-goes t st l otherwise f i e = stands (else-may t l) no-attr refl refl
   act-goes t st l endIf f i e = absurd (no (sym e))
-  act-goes t st l (sends m d none) (p, f, g) i e = stands (send-may t l p) (one follows-15-0-0 (reads-name m f) (delay-stated 1 follows-15-1-1 d)) (send-complete 1 (eqb d 0) refl refl) refl
-  act-goes t st l (sends m d (some j)) (p, f, g, h) i e =
-      stands (send-may t l p) (one follows-15-0-2 (reads-name j h) (one follows-15-4-0 (reads-name m f) (delay-stated 5 follows-15-5-1 d))) (send-complete 5 (eqb d 0) refl refl) refl
-  act-goes t st l (cancels m) (p, f) i e = stands (cancel-may t l p) (one follows-16-0-0 (reads-name m f) no-attr) refl refl
+  act-goes t st l (sends m d none) (f, g) i e = stands (send-may t l) (one follows-15-0-0 (reads-name m f) (delay-stated 1 follows-15-1-1 d)) (send-complete 1 (eqb d 0) refl refl) refl
+  act-goes t st l (sends m d (some j)) (f, g, h) i e =
+      stands (send-may t l) (one follows-15-0-2 (reads-name j h) (one follows-15-4-0 (reads-name m f) (delay-stated 5 follows-15-5-1 d))) (send-complete 5 (eqb d 0) refl refl) refl
+  act-goes t st l (cancels m) f i e = stands (cancel-may t l) (one follows-16-0-0 (reads-name m f) no-attr) refl refl
 
   -- ---- blocks
 

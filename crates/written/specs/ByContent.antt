@@ -10,7 +10,7 @@ use lib.Dec.{ltb}
 use lib.ListN.{length, getD, List·getD-eq-default}
 use borrow.Author.Tests.{le-ltb, ltb-true, ltb-false}
 use Rattle.definition.specs.declared.Action.{Action}
-use Rattle.definition.specs.declared.Action.the-variants.{Raise, Host, If, ElseIf, Else, End}
+use Rattle.definition.specs.declared.Action.the-variants.{Raise, Host, If, ElseIf, Else, End, Send, Cancel}
 use Rattle.definition.specs.Rows.{from}
 use Rattle.definition.specs.Chart.{Chart}
 use Rattle.definition.specs.Chart.{Row as ChartRow, Transition as ChartTransition}
@@ -31,8 +31,8 @@ action (ifIn i) = If i
 action (elseifIn i) = ElseIf i
 action otherwise = Else
 action endIf = End
-action (sends v d w) = End
-action (cancels v) = End
+action (sends v d w) = Send 0 d 0
+action (cancels v) = Cancel 0
 
 abbrev noText : List ℕ → ℕ
 noText v = 0

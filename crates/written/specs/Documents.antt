@@ -6,7 +6,7 @@ use mathlib.Core.Option.{Option, none, some}
 use Prim.Native.Nat.{ℕ, zero, suc}
 use native.Mathlib.Omega.{arith}
 use Rattle.definition.specs.declared.Answer.{Answer}
-use Rattle.definition.specs.declared.Answer.the-variants.{Done, Size, Names, Tree, Lists, Transitions, NotAName, Full, BadChart, BadSession, NoRoom, SessionEnded}
+use Rattle.definition.specs.declared.Answer.the-variants.{Done, Size, Names, Tree, Lists, Transitions, NotAName, Full, BadChart, BadSession, NoRoom, SessionEnded, ClockBack}
 use Rattle.definition.specs.Answers.{answerNo}
 use Rattle.definition.specs.Rules.{keepsRules}
 use Rattle.grammar.specs.Grammar.{inGrammar, grammarFault}
@@ -49,6 +49,7 @@ answer-done BadChart h = absurd (omega arith)
 answer-done BadSession h = absurd (omega arith)
 answer-done NoRoom h = absurd (omega arith)
 answer-done SessionEnded h = absurd (omega arith)
+answer-done ClockBack h = absurd (omega arith)
 
 judged-tables : (k : ℕ) (a b numbers names : List ℕ) → judged k a b ≡ tables numbers names → (k ≡ 0) × (a ≡ numbers) × (b ≡ names)
 unfolding isTables numbersIn namesIn

@@ -7,7 +7,7 @@ use Prim.Native.Nat.{ℕ, zero, suc}
 use lib.Dec.{ltb}
 use lib.ListN.{length}
 use Rattle.definition.specs.declared.Action.{Action}
-use Rattle.definition.specs.declared.Action.the-variants.{Raise, Host, If, ElseIf, Else, End}
+use Rattle.definition.specs.declared.Action.the-variants.{Raise, Host, If, ElseIf, Else, End, Send, Cancel}
 use Rattle.definition.specs.Rows.{from, all, any, mem, isEmpty}
 use Rattle.definition.specs.Chart.{Row, Transition, Chart, kind, parent, isShallow}
 use Rattle.definition.specs.Tree.{ancestors, isDescendant, isChild, children, isDomainKind, isCompound, listed, anchor}
@@ -20,6 +20,8 @@ erase (If i) = If i
 erase (ElseIf i) = ElseIf i
 erase Else = Else
 erase End = End
+erase (Send n delay id) = Send 0 delay 0
+erase (Cancel n) = Cancel 0
 
 abbrev pub noName : ℕ → ℕ
 noName d = 0
@@ -136,6 +138,8 @@ module _ (c : Chart) where
   nests-same (ElseIf i ∷ xs) ifs = ap (λ (z : Bool). awaitsElse ifs && z) (nests-same xs ifs)
   nests-same (Else ∷ xs) ifs = ap (λ (z : Bool). awaitsElse ifs && z) (nests-same xs (withElse ifs))
   nests-same (End ∷ xs) ifs = ap (λ (z : Bool). not (isEmpty ifs) && z) (nests-same xs (closed ifs))
+  nests-same (Send n delay id ∷ xs) ifs = nests-same xs ifs
+  nests-same (Cancel n ∷ xs) ifs = nests-same xs ifs
 
   test-same : (a : Action) → testFits (erased c) (erase a) ≡ testFits c a
   unfolding testFits
@@ -145,6 +149,8 @@ module _ (c : Chart) where
   test-same (ElseIf i) = condition-same (some i)
   test-same Else = refl
   test-same End = refl
+  test-same (Send n delay id) = refl
+  test-same (Cancel n) = refl
 
   tests-same : (xs : List Action) → all (testFits (erased c)) (map erase xs) ≡ all (testFits c) xs
   unfolding all

@@ -114,9 +114,9 @@ module _ (ids : List (List ℕ)) (rs : List Row) (n : ℕ) (named : (i : ℕ) �
   act-quiet (elseifIn i) f = quiet-empty 14 (attr 0 (inText rs i) ∷ []) refl (in-attr 14 0 elseif-cond i f)
   act-quiet otherwise f = quiet-empty 13 [] refl no-more
   act-quiet endIf f = quiet-end 12
-  act-quiet (sends v d none) (p, f, g) = quiet-empty 15 (attr 0 v ∷ delayAttr d) refl (more (name-clean ids 15 0 send-event v f) (delays d g))
-  act-quiet (sends v d (some w)) (p, f, g, h) = quiet-empty 15 (attr 2 w ∷ attr 0 v ∷ delayAttr d) refl (more (name-clean ids 15 2 send-id w h) (more (name-clean ids 15 0 send-event v f) (delays d g)))
-  act-quiet (cancels v) (p, f) = quiet-empty 16 (attr 0 v ∷ []) refl (more (name-clean ids 16 0 cancel-id v f) no-more)
+  act-quiet (sends v d none) (f, g) = quiet-empty 15 (attr 0 v ∷ delayAttr d) refl (more (name-clean ids 15 0 send-event v f) (delays d g))
+  act-quiet (sends v d (some w)) (f, g, h) = quiet-empty 15 (attr 2 w ∷ attr 0 v ∷ delayAttr d) refl (more (name-clean ids 15 2 send-id w h) (more (name-clean ids 15 0 send-event v f) (delays d g)))
+  act-quiet (cancels v) f = quiet-empty 16 (attr 0 v ∷ []) refl (more (name-clean ids 16 0 cancel-id v f) no-more)
 
   if-quiet : (a : Act) → isIf a ≡ true → ActFits n a → Notes ids (emptyIf rs (rowOfIf a) ∷ []) []
   if-quiet (raises v) e f = absurd (no e)

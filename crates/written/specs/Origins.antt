@@ -1,18 +1,19 @@
 -- Every name that an accepted chart uses stands in its table of names.
 use mathlib.Core.Path.{_≡_, refl, sym}
-use mathlib.Core.Bool.{true}
+use mathlib.Core.Bool.{Bool, true, false, _||_, cond}
 use mathlib.Core.List.{List, [], _∷_, _++_, map}
+use mathlib.Core.Option.{none, some}
 use Prim.Native.Nat.{ℕ, zero, suc, _≤_, _<_, _+_}
 use native.Mathlib.Omega.{arith}
 use lib.Dec.{eqb, leb, ltb}
 use borrow.Author.Tests.{ltb-true, not-true}
 use Rattle.definition.specs.declared.Answer.the-variants.{Done}
 use Rattle.definition.specs.Rows.{from, flat}
-use Rattle.definition.specs.Tables.{noNumber, rowCount, transitionCount, actionCount, nameCount, rowCell, transitionCell, actionCell, actionOf, actionAt, idAt, descriptorsAt, nameAt}
-use Rattle.definition.specs.Rules.{optionalBelow, argumentFits, rowInRange, keepsRules}
-use Rattle.reading.specs.Content.{Transition, Content, ofSource}
+use Rattle.definition.specs.Tables.{mostDelay, noNumber, rowCount, transitionCount, actionCount, nameCount, rowCell, transitionCell, actionCell, actionOf, actionAt, idAt, descriptorsAt, nameAt}
+use Rattle.definition.specs.Rules.{optionalBelow, argumentsFit, rowInRange, keepsRules}
+use Rattle.reading.specs.Content.{sends, Transition, Content, ofSource}
 use Rattle.reading.specs.Layout.{actOf, actsAt, rowBack, transitionBack, content}
-use Rattle.laws.specs.Bools.{and7, or-elim, clash}
+use Rattle.laws.specs.Bools.{and3, and7, or-elim, clash}
 use Rattle.written.specs.Sound.{AllOf, no-more, more}
 use Rattle.written.specs.Values.{all-both}
 use Rattle.written.specs.Laid.{all-of-source}
@@ -30,21 +31,36 @@ pub record Origin (numbers names v : List ℕ) : Type 0 where
   pub is : nameAt names number ≡ v
 
 module _ (numbers names : List ℕ) (h : keepsRules numbers names ≡ Done) where
-  act-origin : (k x y z : ℕ) → k ≤ 5 → argumentFits numbers (actionOf k x y z) x ≡ true → AllOf (Origin numbers names) (actUses (actOf (nameAt names) k x y z))
-  unfolding argumentFits
-  act-origin zero x y z l a = more (record { number = x; below = ltb-true x (nameCount numbers) a; is = refl }) no-more
+  origin : (x : ℕ) → ltb x (nameCount numbers) ≡ true → Origin numbers names (nameAt names x)
+  origin x l = record { number = x; below = ltb-true x (nameCount numbers) l; is = refl }
+
+  send-origin : (x y z : ℕ) → ltb x (nameCount numbers) ≡ true → optionalBelow (nameCount numbers) z ≡ true →
+      AllOf (Origin numbers names) (actUses (sends (nameAt names x) y (cond (eqb z noNumber) none (some (nameAt names z)))))
+  send-origin x y z l o = by (eqb z noNumber) o
+    where
+      by : (b : Bool) → (b || ltb z (nameCount numbers)) ≡ true → AllOf (Origin numbers names) (actUses (sends (nameAt names x) y (cond b none (some (nameAt names z)))))
+      by true h = more (origin x l) no-more
+      by false h = more (origin z h) (more (origin x l) no-more)
+
+  act-origin : (k x y z : ℕ) → k ≤ 7 → argumentsFit numbers (actionOf k x y z) x y z ≡ true → AllOf (Origin numbers names) (actUses (actOf (nameAt names) k x y z))
+  unfolding argumentsFit
+  act-origin zero x y z l a = more (origin x (and3 (ltb x (nameCount numbers)) (eqb y 0) (eqb z 0) a .0)) no-more
   act-origin (suc zero) x y z l a = no-more
   act-origin (suc (suc zero)) x y z l a = no-more
   act-origin (suc (suc (suc zero))) x y z l a = no-more
   act-origin (suc (suc (suc (suc zero)))) x y z l a = no-more
   act-origin (suc (suc (suc (suc (suc zero))))) x y z l a = no-more
-  act-origin (suc (suc (suc (suc (suc (suc k)))))) x y z l a = absurd (omega arith)
+  act-origin (suc (suc (suc (suc (suc (suc zero)))))) x y z l a =
+      let f = and3 (ltb x (nameCount numbers)) (leb y mostDelay) (optionalBelow (nameCount numbers) z) a in
+      send-origin x y z (f .0) (f .2)
+  act-origin (suc (suc (suc (suc (suc (suc (suc zero))))))) x y z l a = more (origin x (and3 (ltb x (nameCount numbers)) (eqb y 0) (eqb z 0) a .0)) no-more
+  act-origin (suc (suc (suc (suc (suc (suc (suc (suc k)))))))) x y z l a = absurd (omega arith)
 
   acts-origin : (xs : List ℕ) → AllOf (Acts numbers names (accepted-root numbers names h)) xs → AllOf (Origin numbers names) (flat actUses (map (look numbers names (accepted-root numbers names h)) xs))
   unfolding flat actionAt
   acts-origin [] no-more = no-more
   acts-origin (a ∷ xs) (more f g) =
-      all-both (act-origin (actionCell numbers a 0) (actionCell numbers a 1) (actionCell numbers a 2) (actionCell numbers a 3) (f .low) (f .argument)) (acts-origin xs g)
+      all-both (act-origin (actionCell numbers a 0) (actionCell numbers a 1) (actionCell numbers a 2) (actionCell numbers a 3) (f .low) (f .arguments)) (acts-origin xs g)
 
   block-origin : (start count : ℕ) → start + count ≤ actionCount numbers → AllOf (Origin numbers names) (flat actUses (actsAt numbers names start count))
   unfolding actsAt

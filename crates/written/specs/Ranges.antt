@@ -2,17 +2,18 @@
 use mathlib.Core.Path.{_≡_, refl, sym, ap, ap₂, _∙_, subst}
 use mathlib.Core.Bool.{Bool, true, false, _&&_, cond}
 use mathlib.Core.List.{List, [], _∷_, _++_}
+use mathlib.Core.Option.{none, some}
 use Prim.Native.Nat.{ℕ, zero, suc, _≤_, _<_, _+_, _*_}
 use native.Mathlib.Omega.{arith}
 use lib.Dec.{eqb, leb, ltb}
 use lib.ListN.{length, getD, length-append}
 use borrow.Author.Tests.{lt-ltb, le-leb, eqb-true, eqb-false}
 use Rattle.definition.specs.Rows.{flat}
-use Rattle.definition.specs.Tables.{rowCount, transitionCount, referenceCount, descriptorCount, actionCount, nameCount, transitionBase, referenceBase, descriptorBase, actionBase, rowCell, transitionCell, referenceCell, descriptorCell, actionCell, actionOf, actionAt}
-use Rattle.definition.specs.Rules.{inside, optionalBelow, blockFits, rowInRange, transitionInRange, referenceInRange, descriptorInRange, argumentFits, actionInRange}
+use Rattle.definition.specs.Tables.{mostDelay, noNumber, rowCount, transitionCount, referenceCount, descriptorCount, actionCount, nameCount, transitionBase, referenceBase, descriptorBase, actionBase, rowCell, transitionCell, referenceCell, descriptorCell, actionCell, actionOf, actionAt}
+use Rattle.definition.specs.Rules.{inside, optionalBelow, blockFits, rowInRange, transitionInRange, referenceInRange, descriptorInRange, argumentsFit, actionInRange}
 use Rattle.reading.specs.Content.{Act, raises, hosts, ifIn, elseifIn, otherwise, endIf, sends, cancels, Row, Transition, placeOf}
 use Rattle.reading.specs.Layout.{orNone, actCells, idCell, rowActs, rowCells, transitionCells, rowList, targetList, descriptorList, transitionActs}
-use Rattle.laws.specs.Bools.{and-true, bool-case}
+use Rattle.laws.specs.Bools.{and-true, or-right, bool-case}
 use Rattle.written.specs.Sound.{AllOf, no-more, more, Always}
 use Rattle.written.specs.Held.{Holds, holds-left, holds-right, holds-at, held-cell}
 
@@ -21,6 +22,9 @@ all-seven a b c d e f g p q r s t u v = rw (p, q, r, s, t, u, v)
 
 all-six : (a b c d e f : Bool) → a ≡ true → b ≡ true → c ≡ true → d ≡ true → e ≡ true → f ≡ true → (a && b && c && d && e && f) ≡ true
 all-six a b c d e f p q r s t u = rw (p, q, r, s, t, u)
+
+all-three : (a b c : Bool) → a ≡ true → b ≡ true → c ≡ true → (a && b && c) ≡ true
+all-three a b c p q r = rw (p, q, r)
 
 module _ (numbers : List ℕ) (slots : List (List ℕ)) where
   -- ---- references and descriptors
@@ -50,41 +54,49 @@ module _ (numbers : List ℕ) (slots : List (List ℕ)) where
   ActOK (elseifIn i) = i < rowCount numbers
   ActOK otherwise = Always
   ActOK endIf = Always
-  ActOK (sends v d w) = ⊥
-  ActOK (cancels v) = ⊥
+  ActOK (sends v d none) = (placeOf v slots < nameCount numbers) × (d ≤ mostDelay)
+  ActOK (sends v d (some w)) = (placeOf v slots < nameCount numbers) × (d ≤ mostDelay) × (placeOf w slots < nameCount numbers)
+  ActOK (cancels v) = placeOf v slots < nameCount numbers
 
   cell-of : (a k : ℕ) (ys : List ℕ) → Holds numbers (actionBase numbers + a * 4) ys → k < length ys → actionCell numbers a k ≡ getD ys k 0
   unfolding actionCell
   cell-of a k ys h l = held-cell h k l
 
-  four-in : (a w x : ℕ) → Holds numbers (actionBase numbers + a * 4) (w ∷ x ∷ 0 ∷ 0 ∷ []) → leb w 5 ≡ true → argumentFits numbers (actionOf w x 0 0) x ≡ true → actionInRange numbers a ≡ true
+  four-in : (a w x y z : ℕ) → Holds numbers (actionBase numbers + a * 4) (w ∷ x ∷ y ∷ z ∷ []) → leb w 7 ≡ true → argumentsFit numbers (actionOf w x y z) x y z ≡ true → actionInRange numbers a ≡ true
   unfolding actionInRange actionAt
-  four-in a w x h l f =
+  four-in a w x y z h l f =
       rw (cell-of a 0 cells h (omega arith), cell-of a 1 cells h (omega arith), cell-of a 2 cells h (omega arith), cell-of a 3 cells h (omega arith), l, f) refl
     where
       cells : List ℕ
-      cells = w ∷ x ∷ 0 ∷ 0 ∷ []
+      cells = w ∷ x ∷ y ∷ z ∷ []
 
   act-in : (a : ℕ) (x : Act) → Holds numbers (actionBase numbers + a * 4) (actCells slots x) → ActOK x → actionInRange numbers a ≡ true
-  unfolding argumentFits
-  act-in a (raises v) h f = four-in a 0 (placeOf v slots) h refl (lt-ltb (placeOf v slots) (nameCount numbers) f)
-  act-in a (hosts k) h f = four-in a 1 k h refl (le-leb k 65535 f)
-  act-in a (ifIn i) h f = four-in a 2 i h refl (lt-ltb i (rowCount numbers) f)
-  act-in a (elseifIn i) h f = four-in a 3 i h refl (lt-ltb i (rowCount numbers) f)
-  act-in a otherwise h f = four-in a 4 0 h refl refl
-  act-in a endIf h f = four-in a 5 0 h refl refl
-  act-in a (sends v d w) h f = absurd f
-  act-in a (cancels v) h f = absurd f
+  unfolding argumentsFit
+  act-in a (raises v) h f = four-in a 0 (placeOf v slots) 0 0 h refl (all-three (ltb (placeOf v slots) (nameCount numbers)) true true (lt-ltb (placeOf v slots) (nameCount numbers) f) refl refl)
+  act-in a (hosts k) h f = four-in a 1 k 0 0 h refl (all-three (leb k 65535) true true (le-leb k 65535 f) refl refl)
+  act-in a (ifIn i) h f = four-in a 2 i 0 0 h refl (all-three (ltb i (rowCount numbers)) true true (lt-ltb i (rowCount numbers) f) refl refl)
+  act-in a (elseifIn i) h f = four-in a 3 i 0 0 h refl (all-three (ltb i (rowCount numbers)) true true (lt-ltb i (rowCount numbers) f) refl refl)
+  act-in a otherwise h f = four-in a 4 0 0 0 h refl refl
+  act-in a endIf h f = four-in a 5 0 0 0 h refl refl
+  act-in a (sends v d none) h (f, g) =
+      four-in a 6 (placeOf v slots) d noNumber h refl
+      (all-three (ltb (placeOf v slots) (nameCount numbers)) (leb d mostDelay) true (lt-ltb (placeOf v slots) (nameCount numbers) f) (le-leb d mostDelay g) refl)
+  act-in a (sends v d (some w)) h (f, g, i) =
+      four-in a 6 (placeOf v slots) d (placeOf w slots) h refl
+      (all-three (ltb (placeOf v slots) (nameCount numbers)) (leb d mostDelay) (optionalBelow (nameCount numbers) (placeOf w slots)) (lt-ltb (placeOf v slots) (nameCount numbers) f) (le-leb d mostDelay g)
+      (or-right (eqb (placeOf w slots) noNumber) (ltb (placeOf w slots) (nameCount numbers)) (lt-ltb (placeOf w slots) (nameCount numbers) i)))
+  act-in a (cancels v) h f = four-in a 7 (placeOf v slots) 0 0 h refl (all-three (ltb (placeOf v slots) (nameCount numbers)) true true (lt-ltb (placeOf v slots) (nameCount numbers) f) refl refl)
 
-  cells-four : (x : Act) → ActOK x → length (actCells slots x) ≡ 4
-  cells-four (raises v) f = refl
-  cells-four (hosts k) f = refl
-  cells-four (ifIn i) f = refl
-  cells-four (elseifIn i) f = refl
-  cells-four otherwise f = refl
-  cells-four endIf f = refl
-  cells-four (sends v d w) f = absurd f
-  cells-four (cancels v) f = absurd f
+  cells-four : (x : Act) → length (actCells slots x) ≡ 4
+  cells-four (raises v) = refl
+  cells-four (hosts k) = refl
+  cells-four (ifIn i) = refl
+  cells-four (elseifIn i) = refl
+  cells-four otherwise = refl
+  cells-four endIf = refl
+  cells-four (sends v d none) = refl
+  cells-four (sends v d (some w)) = refl
+  cells-four (cancels v) = refl
 
   pub actions-in : (acts : List Act) (a : ℕ) → Holds numbers (actionBase numbers + a * 4) (flat (actCells slots) acts) → AllOf ActOK acts → (j : ℕ) → a ≤ j → j < a + length acts → actionInRange numbers j ≡ true
   unfolding flat
@@ -92,7 +104,7 @@ module _ (numbers : List ℕ) (slots : List (List ℕ)) where
   actions-in (x ∷ acts) a h (more f g) j l m =
       bool-case (eqb a j) (λ e. subst (λ (k : ℕ). actionInRange numbers k ≡ true) (eqb-true a j e) (act-in a x (holds-left (actCells slots x) (flat (actCells slots) acts) h) f))
       (λ e. let d = eqb-false a j e in
-      actions-in acts (suc a) (holds-at (actionBase numbers + a * 4 + length (actCells slots x)) (actionBase numbers + suc a * 4) (let c = cells-four x f in omega arith) (holds-right (actCells slots x) (flat (actCells slots) acts) h)) g j
+      actions-in acts (suc a) (holds-at (actionBase numbers + a * 4 + length (actCells slots x)) (actionBase numbers + suc a * 4) (let c = cells-four x in omega arith) (holds-right (actCells slots x) (flat (actCells slots) acts) h)) g j
       (further l d) (let z : j < a + suc (length acts) = m in omega arith))
     where
       further : {p q : ℕ} → p ≤ q → (p ≡ q → ⊥) → suc p ≤ q

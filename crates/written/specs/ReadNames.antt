@@ -1,17 +1,18 @@
 -- The tables that are read from what was written of an accepted chart keep rule 2.
 use mathlib.Core.Path.{_≡_, refl, sym, ap, _∙_, subst}
-use mathlib.Core.Bool.{true}
+use mathlib.Core.Bool.{Bool, true, false, _&&_, _||_, cond}
 use mathlib.Core.List.{List, [], _∷_, _++_, map}
+use mathlib.Core.Option.{none, some}
 use Prim.Native.Nat.{ℕ, zero, suc, _≤_, _<_, _+_}
 use native.Mathlib.Nat.{zero-add}
 use native.Mathlib.Omega.{arith}
 use lib.Dec.{eqb}
 use lib.ListN.{length, take, drop, replicate}
 use Rattle.definition.specs.Rows.{from, flat, all}
-use Rattle.definition.specs.Names.{isDescriptor, beforeZero, fromZero, zerosAfter}
-use Rattle.definition.specs.Tables.{actionCount, actionCell, actionOf, actionAt, slotAt, nameAt, slotOf}
+use Rattle.definition.specs.Names.{isName, isDescriptor, beforeZero, fromZero, zerosAfter}
+use Rattle.definition.specs.Tables.{noNumber, actionCount, actionCell, actionOf, actionAt, slotAt, nameAt, slotOf}
 use Rattle.definition.specs.Rules.{slotFits, raiseFits, actionNamed}
-use Rattle.reading.specs.Content.{Act}
+use Rattle.reading.specs.Content.{Act, sends}
 use Rattle.reading.specs.Layout.{namesOf, actOf, actsAt}
 use Rattle.laws.specs.Bools.{and-true}
 use Rattle.lay.specs.Sizes.{slot-size}
@@ -88,7 +89,13 @@ raise-fits names n (suc zero) x y z f = refl
 raise-fits names n (suc (suc zero)) x y z f = refl
 raise-fits names n (suc (suc (suc zero))) x y z f = refl
 raise-fits names n (suc (suc (suc (suc zero)))) x y z f = refl
-raise-fits names n (suc (suc (suc (suc (suc k))))) x y z f = refl
+raise-fits names n (suc (suc (suc (suc (suc zero))))) x y z f = refl
+raise-fits names n (suc (suc (suc (suc (suc (suc zero)))))) x y z f = by (eqb z noNumber) f
+  where
+    by : (b : Bool) → ActFits n (sends (nameAt names x) y (cond b none (some (nameAt names z)))) → (isName (nameAt names x) && (b || isName (nameAt names z))) ≡ true
+    by true (e, d) = and-true (isName (nameAt names x)) true e refl
+    by false (e, d, i) = and-true (isName (nameAt names x)) (isName (nameAt names z)) e i
+raise-fits names n (suc (suc (suc (suc (suc (suc (suc k))))))) x y z f = f
 
 pub all-mapped-at : {A : Type 0} {P : A → Type 0} (g : ℕ → A) (n i k : ℕ) → k < n → AllOf P (map g (from n i)) → P (g (i + k))
 unfolding from

@@ -11,20 +11,19 @@ use lib.ListN.{length, take, drop}
 use borrow.Author.Tests.{leb-true, lt-ltb}
 use Rattle.definition.specs.declared.Answer.the-variants.{Done}
 use Rattle.definition.specs.Rows.{from, flat, isEmpty}
-use Rattle.definition.specs.Tables.{noNumber, rowCount, transitionCount, referenceCount, descriptorCount, actionCount, nameCount, referenceBase, descriptorBase, rowCell, transitionCell, actionCell, part, referencesAt, descriptorsAt, nameAt}
+use Rattle.definition.specs.Tables.{noNumber, rowCount, transitionCount, referenceCount, descriptorCount, actionCount, nameCount, referenceBase, descriptorBase, rowCell, transitionCell, part, referencesAt, descriptorsAt, nameAt}
 use Rattle.definition.specs.Rules.{each, inside, optionalBelow, countsFit, sizesFit, compiledSize, blockFits, rowInRange, transitionInRange, rule1, keepsRules}
 use Rattle.reading.specs.Content.{Act, raises, hosts, ifIn, elseifIn, otherwise, endIf, sends, cancels, Row, Transition, Content, placeOf}
-use Rattle.reading.specs.Layout.{orNone, idCell, rowActs, rowList, targetList, descriptorList, transitionActs, actOf, actsAt, rowBack, transitionBack, content}
+use Rattle.reading.specs.Layout.{orNone, idCell, rowList, targetList, descriptorList, actsAt, rowBack, transitionBack, content}
 use Rattle.laws.specs.Bools.{and-left, and-right, and7}
 use Rattle.laws.specs.Maps.{map-length}
 use Rattle.laws.specs.Loops.{each-below}
 use Rattle.accepted.specs.Sound.{accepted-rule1}
 use Rattle.lay.specs.Sizes.{row-count, name-count}
-use Rattle.written.specs.Sound.{AllOf, no-more, more, Always, always, Ref, ActFits, ConditionFits, RowFits, TransitionFits}
+use Rattle.written.specs.Sound.{AllOf, no-more, more, always, Ref, ActFits, ConditionFits, RowFits, TransitionFits}
 use Rattle.written.specs.Values.{all-both}
-use Rattle.written.specs.TableBlocks.{accepted-root, act-stands, look}
-use Rattle.written.specs.TableRows.{row-range, row-inside}
-use Rattle.written.specs.AcceptedTransitions.{transition-inside}
+use Rattle.written.specs.TableBlocks.{accepted-root, look}
+use Rattle.written.specs.TableRows.{row-range}
 use Rattle.written.specs.SlotNames.{Slotted, place-low}
 use Rattle.written.specs.TablesBack.{ActNamed, RowNamed}
 use Rattle.written.specs.TableTransitions.{TransitionNamed}
@@ -39,40 +38,22 @@ unfolding from
 all-built f zero i g = no-more
 all-built f (suc k) i g = more (g i (omega arith) (omega arith)) (all-built f k (suc i) (λ (j : ℕ) (l : suc i ≤ j) (h : j < suc i + k). g j (omega arith) (omega arith)))
 
--- ---- actions that tables have
+-- ---- actions
 
-abbrev Simple : Act → Type 0
-Simple (raises v) = Always
-Simple (hosts k) = Always
-Simple (ifIn i) = Always
-Simple (elseifIn i) = Always
-Simple otherwise = Always
-Simple endIf = Always
-Simple (sends v d w) = ⊥
-Simple (cancels v) = ⊥
+act-ok : (numbers : List ℕ) (slots : List (List ℕ)) (n : ℕ) → n ≡ rowCount numbers → length slots ≡ nameCount numbers → (a : Act) → ActFits n a → ActNamed slots a → ActOK numbers slots a
+act-ok numbers slots n e q (raises v) f g = let l = place-low v slots (g .among) in omega arith
+act-ok numbers slots n e q (hosts x) f g = f
+act-ok numbers slots n e q (ifIn i) f g = let l = f .below in omega arith
+act-ok numbers slots n e q (elseifIn i) f g = let l = f .below in omega arith
+act-ok numbers slots n e q otherwise f g = always
+act-ok numbers slots n e q endIf f g = always
+act-ok numbers slots n e q (sends v d none) (f, l) g = let p = place-low v slots (g .among) in (omega arith, l)
+act-ok numbers slots n e q (sends v d (some w)) (f, l, i) (g, k) = let p = place-low v slots (g .among) in let r = place-low w slots (k .among) in (omega arith, l, omega arith)
+act-ok numbers slots n e q (cancels v) f g = let l = place-low v slots (g .among) in omega arith
 
-act-simple : (nm : ℕ → List ℕ) (k x y z : ℕ) → k ≤ 5 → Simple (actOf nm k x y z)
-act-simple nm zero x y z l = always
-act-simple nm (suc zero) x y z l = always
-act-simple nm (suc (suc zero)) x y z l = always
-act-simple nm (suc (suc (suc zero))) x y z l = always
-act-simple nm (suc (suc (suc (suc zero)))) x y z l = always
-act-simple nm (suc (suc (suc (suc (suc zero))))) x y z l = always
-act-simple nm (suc (suc (suc (suc (suc (suc k)))))) x y z l = absurd (omega arith)
-
-act-ok : (numbers : List ℕ) (slots : List (List ℕ)) (n : ℕ) → n ≡ rowCount numbers → length slots ≡ nameCount numbers → (a : Act) → ActFits n a → ActNamed slots a → Simple a → ActOK numbers slots a
-act-ok numbers slots n e q (raises v) f g k = let l = place-low v slots (g .among) in omega arith
-act-ok numbers slots n e q (hosts x) f g k = f
-act-ok numbers slots n e q (ifIn i) f g k = let l = f .below in omega arith
-act-ok numbers slots n e q (elseifIn i) f g k = let l = f .below in omega arith
-act-ok numbers slots n e q otherwise f g k = always
-act-ok numbers slots n e q endIf f g k = always
-act-ok numbers slots n e q (sends v d w) f g k = absurd k
-act-ok numbers slots n e q (cancels v) f g k = absurd k
-
-acts-ok : (numbers : List ℕ) (slots : List (List ℕ)) (n : ℕ) → n ≡ rowCount numbers → length slots ≡ nameCount numbers → (xs : List Act) → AllOf (ActFits n) xs → AllOf (ActNamed slots) xs → AllOf Simple xs → AllOf (ActOK numbers slots) xs
-acts-ok numbers slots n e q [] no-more no-more no-more = no-more
-acts-ok numbers slots n e q (a ∷ xs) (more f fs) (more g gs) (more k ks) = more (act-ok numbers slots n e q a f g k) (acts-ok numbers slots n e q xs fs gs ks)
+acts-ok : (numbers : List ℕ) (slots : List (List ℕ)) (n : ℕ) → n ≡ rowCount numbers → length slots ≡ nameCount numbers → (xs : List Act) → AllOf (ActFits n) xs → AllOf (ActNamed slots) xs → AllOf (ActOK numbers slots) xs
+acts-ok numbers slots n e q [] no-more no-more = no-more
+acts-ok numbers slots n e q (a ∷ xs) (more f fs) (more g gs) = more (act-ok numbers slots n e q a f g) (acts-ok numbers slots n e q xs fs gs)
 
 -- ---- lists of numbers
 
@@ -240,50 +221,5 @@ module _ (numbers names : List ℕ) (h : keepsRules numbers names ≡ Done) wher
 
   -- ---- actions
 
-  block-simple : (start count : ℕ) → start + count ≤ actionCount numbers → AllOf Simple (actsAt numbers names start count)
-  unfolding actsAt
-  block-simple start count l =
-      all-built (look numbers names (accepted-root numbers names h)) count start
-      (λ (j : ℕ) (a : start ≤ j) (b : j < start + count).
-      act-simple (nameAt names) (actionCell numbers j 0) (actionCell numbers j 1) (actionCell numbers j 2) (actionCell numbers j 3) (act-stands numbers names h j (omega arith) .low))
-
-  record SimpleRow (r : Row) : Type 0 where
-    pub simple : AllOf Simple (rowActs r)
-
-  record SimpleTransition (t : Transition) : Type 0 where
-    pub simple : AllOf Simple (t .block)
-
-  row-simple : (i : ℕ) → i < rowCount numbers → SimpleRow (rowBack numbers names i)
-  unfolding rowBack
-  row-simple i l =
-      let k = row-inside numbers names h i l in
-      record {
-        simple =
-            all-both (all-both (block-simple (rowCell numbers i 3) (rowCell numbers i 4) (k .entries)) (block-simple (rowCell numbers i 5) (rowCell numbers i 6) (k .exits)))
-            (block-simple (rowCell numbers i 9) (rowCell numbers i 10) (k .blocks));
-      }
-
-  transition-simple : (t : ℕ) → t < transitionCount numbers → SimpleTransition (transitionBack numbers names t)
-  unfolding transitionBack
-  transition-simple t l = record { simple = block-simple (transitionCell numbers t 7) (transitionCell numbers t 8) (transition-inside numbers names h t l .block-in) }
-
-  flat-rows : (rs : List Row) → AllOf SimpleRow rs → AllOf Simple (flat rowActs rs)
-  unfolding flat
-  flat-rows [] no-more = no-more
-  flat-rows (r ∷ rs) (more f g) = all-both (f .simple) (flat-rows rs g)
-
-  flat-transitions : (ts : List Transition) → AllOf SimpleTransition ts → AllOf Simple (flat transitionActs ts)
-  unfolding flat
-  flat-transitions [] no-more = no-more
-  flat-transitions (t ∷ ts) (more f g) = all-both (f .simple) (flat-transitions ts g)
-
-  simple-rows : AllOf SimpleRow (whole .rows)
-  unfolding content
-  simple-rows = all-built (rowBack numbers names) (rowCount numbers) 0 (λ (j : ℕ) (a : 0 ≤ j) (b : j < 0 + rowCount numbers). row-simple j (omega arith))
-
-  simple-transitions : AllOf SimpleTransition (whole .transitions)
-  unfolding content
-  simple-transitions = all-built (transitionBack numbers names) (transitionCount numbers) 0 (λ (j : ℕ) (a : 0 ≤ j) (b : j < 0 + transitionCount numbers). transition-simple j (omega arith))
-
   pub actions-ok : AllOf (ActOK new mine) (acts numbers names h)
-  actions-ok = acts-ok new mine n rows-number names-are (acts numbers names h) (acts-fit numbers names h) (acts-have numbers names h) (all-both (flat-rows (whole .rows) simple-rows) (flat-transitions (whole .transitions) simple-transitions))
+  actions-ok = acts-ok new mine n rows-number names-are (acts numbers names h) (acts-fit numbers names h) (acts-have numbers names h)

@@ -7,7 +7,6 @@ use Prim.Native.Nat.{ℕ, zero, suc, _≤_, _<_}
 use Rattle.definition.specs.Rows.{isEmpty}
 use Rattle.definition.specs.Names.{isName, isDescriptor}
 use Rattle.reading.specs.Content.{Act, raises, hosts, ifIn, elseifIn, otherwise, endIf, sends, cancels, Row, Transition}
-use Rattle.written.specs.Begins.{sending}
 
 pub data AllOf {A : Type 0} (P : A → Type 0) : List A → Type 0 where
   no-more : AllOf P []
@@ -23,7 +22,6 @@ pub record Ref (n i : ℕ) : Type 0 where
 
 -- ---- blocks
 
--- send and cancel are in the grammar where they are in a chart
 abbrev pub ActFits : ℕ → Act → Type 0
 ActFits n (raises m) = isName m ≡ true
 ActFits n (hosts k) = k ≤ 65535
@@ -31,9 +29,9 @@ ActFits n (ifIn i) = Ref n i
 ActFits n (elseifIn i) = Ref n i
 ActFits n otherwise = Always
 ActFits n endIf = Always
-ActFits n (sends m d none) = (sending ≡ true) × (isName m ≡ true) × (d ≤ 4294967295)
-ActFits n (sends m d (some j)) = (sending ≡ true) × (isName m ≡ true) × (d ≤ 4294967295) × (isName j ≡ true)
-ActFits n (cancels m) = (sending ≡ true) × (isName m ≡ true)
+ActFits n (sends m d none) = (isName m ≡ true) × (d ≤ 4294967295)
+ActFits n (sends m d (some j)) = (isName m ≡ true) × (d ≤ 4294967295) × (isName j ≡ true)
+ActFits n (cancels m) = isName m ≡ true
 
 -- with k ifs open, each end closes one, and all are closed at the end
 unfoldable pub balanced : ℕ → List Act → Bool

@@ -1,11 +1,11 @@
 -- The blocks of an accepted chart, as the writer finds them in its tables.
 use mathlib.Core.Path.{_≡_, refl, sym, ap, _∙_}
-use mathlib.Core.Bool.{Bool, true, false, not, _&&_, _||_}
+use mathlib.Core.Bool.{Bool, true, false, not, _&&_, _||_, cond}
 use mathlib.Core.List.{List, [], _∷_, map}
 use mathlib.Core.Option.{none, some}
 use Prim.Native.Nat.{ℕ, zero, suc, _≤_, _<_, _+_}
 use native.Mathlib.Omega.{arith}
-use lib.Dec.{leb, ltb}
+use lib.Dec.{eqb, leb, ltb}
 use lib.ListN.{length}
 use borrow.Author.Tests.{leb-true, ltb-true}
 use Rattle.definition.specs.declared.Kind.{Kind}
@@ -13,12 +13,13 @@ use Rattle.definition.specs.declared.Kind.the-variants.{Root, State, Parallel, 
 use Rattle.definition.specs.declared.Action.{Action}
 use Rattle.definition.specs.declared.Answer.the-variants.{Done}
 use Rattle.definition.specs.Rows.{from, all, isEmpty}
+use Rattle.definition.specs.Names.{isName}
 use Rattle.definition.specs.Chart.{Chart, kind, isRoot, isState, isParallel, isFinal}
-use Rattle.definition.specs.Tables.{nameCount, rowCount, transitionCount, actionCount, actionCell, actionOf, actionAt, blockAt, nameAt, chartOf}
-use Rattle.definition.specs.Rules.{each, countsFit, sizesFit, rowInRange, transitionInRange, argumentFits, actionInRange, compiledSize, rule1, rule2, slotFits, idFits, raiseFits, actionNamed, conditionFits, awaitsElse, withElse, closed, nests, testFits, branchesFit, keepsRules}
-use Rattle.reading.specs.Content.{Act}
+use Rattle.definition.specs.Tables.{mostDelay, noNumber, nameCount, rowCount, transitionCount, actionCount, actionCell, actionOf, actionAt, blockAt, nameAt, chartOf}
+use Rattle.definition.specs.Rules.{each, countsFit, sizesFit, rowInRange, transitionInRange, optionalBelow, argumentsFit, actionInRange, compiledSize, rule1, rule2, slotFits, idFits, raiseFits, actionNamed, conditionFits, awaitsElse, withElse, closed, nests, testFits, branchesFit, keepsRules}
+use Rattle.reading.specs.Content.{Act, sends}
 use Rattle.reading.specs.Layout.{actOf, actsAt}
-use Rattle.laws.specs.Bools.{and-left, and-right, and4, and7, no}
+use Rattle.laws.specs.Bools.{and-left, and-right, and3, and7, no}
 use Rattle.laws.specs.Loops.{each-below}
 use Rattle.accepted.specs.Tree.{root-kind}
 use Rattle.accepted.specs.Sound.{accepted-rule1, accepted-rule2, accepted-sound}
@@ -39,29 +40,42 @@ in-no-root c r zero h = absurd (by (kind c 0) r h)
 in-no-root c r (suc i) h = omega arith
 
 module _ (numbers names : List ℕ) (root : isRoot (kind (chartOf numbers) 0) ≡ true) where
-  act-fits : (k x y z : ℕ) → k ≤ 5 → argumentFits numbers (actionOf k x y z) x ≡ true → raiseFits names (actionOf k x y z) ≡ true → testFits (chartOf numbers) (actionOf k x y z) ≡ true →
+  send-fits : (x y z : ℕ) → leb y mostDelay ≡ true → (isName (nameAt names x) && (eqb z noNumber || isName (nameAt names z))) ≡ true →
+      ActFits (rowCount numbers) (sends (nameAt names x) y (cond (eqb z noNumber) none (some (nameAt names z))))
+  send-fits x y z l r = by (eqb z noNumber) (and-right (isName (nameAt names x)) (eqb z noNumber || isName (nameAt names z)) r)
+    where
+      event : isName (nameAt names x) ≡ true
+      event = and-left (isName (nameAt names x)) (eqb z noNumber || isName (nameAt names z)) r
+
+      by : (b : Bool) → (b || isName (nameAt names z)) ≡ true → ActFits (rowCount numbers) (sends (nameAt names x) y (cond b none (some (nameAt names z))))
+      by true h = (event, leb-true y mostDelay l)
+      by false h = (event, leb-true y mostDelay l, h)
+
+  act-fits : (k x y z : ℕ) → k ≤ 7 → argumentsFit numbers (actionOf k x y z) x y z ≡ true → raiseFits names (actionOf k x y z) ≡ true → testFits (chartOf numbers) (actionOf k x y z) ≡ true →
       ActFits (rowCount numbers) (actOf (nameAt names) k x y z)
-  unfolding argumentFits raiseFits testFits
+  unfolding argumentsFit raiseFits testFits
   act-fits zero x y z l a r t = r
-  act-fits (suc zero) x y z l a r t = leb-true x 65535 a
-  act-fits (suc (suc zero)) x y z l a r t = record { above = in-no-root (chartOf numbers) root x t; below = ltb-true x (rowCount numbers) a }
-  act-fits (suc (suc (suc zero))) x y z l a r t = record { above = in-no-root (chartOf numbers) root x t; below = ltb-true x (rowCount numbers) a }
+  act-fits (suc zero) x y z l a r t = leb-true x 65535 (and3 (leb x 65535) (eqb y 0) (eqb z 0) a .0)
+  act-fits (suc (suc zero)) x y z l a r t = record { above = in-no-root (chartOf numbers) root x t; below = ltb-true x (rowCount numbers) (and3 (ltb x (rowCount numbers)) (eqb y 0) (eqb z 0) a .0) }
+  act-fits (suc (suc (suc zero))) x y z l a r t = record { above = in-no-root (chartOf numbers) root x t; below = ltb-true x (rowCount numbers) (and3 (ltb x (rowCount numbers)) (eqb y 0) (eqb z 0) a .0) }
   act-fits (suc (suc (suc (suc zero)))) x y z l a r t = always
   act-fits (suc (suc (suc (suc (suc zero))))) x y z l a r t = always
-  act-fits (suc (suc (suc (suc (suc (suc k)))))) x y z l a r t = absurd (omega arith)
+  act-fits (suc (suc (suc (suc (suc (suc zero)))))) x y z l a r t = send-fits x y z (and3 (ltb x (nameCount numbers)) (leb y mostDelay) (optionalBelow (nameCount numbers) z) a .1) r
+  act-fits (suc (suc (suc (suc (suc (suc (suc zero))))))) x y z l a r t = r
+  act-fits (suc (suc (suc (suc (suc (suc (suc (suc k)))))))) x y z l a r t = absurd (omega arith)
 
   -- the actions of a block by their numbers
   abbrev pub look : ℕ → Act
   look a = actOf (nameAt names) (actionCell numbers a 0) (actionCell numbers a 1) (actionCell numbers a 2) (actionCell numbers a 3)
 
   pub record Acts (a : ℕ) : Type 0 where
-    pub low : actionCell numbers a 0 ≤ 5
-    pub argument : argumentFits numbers (actionAt numbers a) (actionCell numbers a 1) ≡ true
+    pub low : actionCell numbers a 0 ≤ 7
+    pub arguments : argumentsFit numbers (actionAt numbers a) (actionCell numbers a 1) (actionCell numbers a 2) (actionCell numbers a 3) ≡ true
     pub raised : raiseFits names (actionAt numbers a) ≡ true
 
   pub look-fits : (a : ℕ) → Acts a → testFits (chartOf numbers) (actionAt numbers a) ≡ true → ActFits (rowCount numbers) (look a)
   unfolding actionAt
-  look-fits a f t = act-fits (actionCell numbers a 0) (actionCell numbers a 1) (actionCell numbers a 2) (actionCell numbers a 3) (f .low) (f .argument) (f .raised) t
+  look-fits a f t = act-fits (actionCell numbers a 0) (actionCell numbers a 1) (actionCell numbers a 2) (actionCell numbers a 3) (f .low) (f .arguments) (f .raised) t
 
   acts-fit : (xs : List ℕ) → AllOf Acts xs → all (testFits (chartOf numbers)) (map (actionAt numbers) xs) ≡ true → AllOf (ActFits (rowCount numbers)) (map look xs)
   unfolding all
@@ -77,7 +91,7 @@ with-else [] = refl
 with-else (s ∷ outer) = refl
 
 -- one action, and those behind it
-nest-one : (nm : ℕ → List ℕ) (k x y z : ℕ) → k ≤ 5 → (ifs : List Bool) (rest : List Action) (acts : List Act) → nests ifs (actionOf k x y z ∷ rest) ≡ true →
+nest-one : (nm : ℕ → List ℕ) (k x y z : ℕ) → k ≤ 7 → (ifs : List Bool) (rest : List Action) (acts : List Act) → nests ifs (actionOf k x y z ∷ rest) ≡ true →
     ((outer : List Bool) → nests outer rest ≡ true → balanced (length outer) acts ≡ true) → balanced (length ifs) (actOf nm k x y z ∷ acts) ≡ true
 unfolding nests balanced
 nest-one nm zero x y z l ifs rest acts h r = r ifs h
@@ -90,7 +104,9 @@ nest-one nm (suc (suc (suc (suc (suc zero))))) x y z l [] rest acts h r = absurd
     none : (not (isEmpty {A = Bool} []) && nests (closed []) rest) ≡ true → ⊥
     none e = no (unfold isEmpty in e)
 nest-one nm (suc (suc (suc (suc (suc zero))))) x y z l (s ∷ outer) rest acts h r = r outer (unfold closed in and-right (not (isEmpty (s ∷ outer))) _ h)
-nest-one nm (suc (suc (suc (suc (suc (suc k)))))) x y z l ifs rest acts h r = absurd (omega arith)
+nest-one nm (suc (suc (suc (suc (suc (suc zero)))))) x y z l ifs rest acts h r = r ifs h
+nest-one nm (suc (suc (suc (suc (suc (suc (suc zero))))))) x y z l ifs rest acts h r = r ifs h
+nest-one nm (suc (suc (suc (suc (suc (suc (suc (suc k)))))))) x y z l ifs rest acts h r = absurd (omega arith)
 
 module _ (numbers names : List ℕ) (root : isRoot (kind (chartOf numbers) 0) ≡ true) where
   nest-all : (xs : List ℕ) → AllOf (Acts numbers names root) xs → (ifs : List Bool) → nests ifs (map (actionAt numbers) xs) ≡ true → balanced (length ifs) (map (look numbers names root) xs) ≡ true
@@ -126,8 +142,12 @@ module _ (numbers names : List ℕ) (h : keepsRules numbers names ≡ Done) wher
   pub act-stands : (a : ℕ) → a < actionCount numbers → Acts numbers names accepted-root a
   unfolding actionInRange actionNamed
   act-stands a l =
-      let k = and4 (leb (actionCell numbers a 0) 5) (argumentFits numbers (actionAt numbers a) (actionCell numbers a 1)) _ _ (action-range a l) in
-      record { low = leb-true (actionCell numbers a 0) 5 (k .0); argument = k .1; raised = action-named a l }
+      let k = argumentsFit numbers (actionAt numbers a) (actionCell numbers a 1) (actionCell numbers a 2) (actionCell numbers a 3) in
+      record {
+        low = leb-true (actionCell numbers a 0) 7 (and-left (leb (actionCell numbers a 0) 7) k (action-range a l));
+        arguments = and-right (leb (actionCell numbers a 0) 7) k (action-range a l);
+        raised = action-named a l;
+      }
 
   -- a block that stands in its table and keeps rule 5
   pub block-fits : (start count : ℕ) → start + count ≤ actionCount numbers → branchesFit (chartOf numbers) (blockAt numbers start count) ≡ true → BlockFits (rowCount numbers) (actsAt numbers names start count)

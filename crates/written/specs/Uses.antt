@@ -161,9 +161,9 @@ module _ (rs : List Row) (n : ℕ) where
   act-uses (elseifIn i) f = empty-uses 14 (attr 0 (inText rs i) ∷ []) [] (silent-uses 14 0 elseif-cond (inText rs i))
   act-uses otherwise f = empty-uses 13 [] [] (attr-none 13)
   act-uses endIf f = end-uses 12
-  act-uses (sends v d none) (p, f, g) = empty-uses 15 (attr 0 v ∷ delayAttr d) (v ∷ []) (attr-both (name-uses 15 0 of-send v f) (delay-uses d))
-  act-uses (sends v d (some w)) (p, f, g, h) = empty-uses 15 (attr 2 w ∷ attr 0 v ∷ delayAttr d) (w ∷ v ∷ []) (attr-both (name-uses 15 2 of-sent w h) (attr-both (name-uses 15 0 of-send v f) (delay-uses d)))
-  act-uses (cancels v) (p, f) = empty-uses 16 (attr 0 v ∷ []) (v ∷ []) (name-uses 16 0 of-cancel v f)
+  act-uses (sends v d none) (f, g) = empty-uses 15 (attr 0 v ∷ delayAttr d) (v ∷ []) (attr-both (name-uses 15 0 of-send v f) (delay-uses d))
+  act-uses (sends v d (some w)) (f, g, h) = empty-uses 15 (attr 2 w ∷ attr 0 v ∷ delayAttr d) (w ∷ v ∷ []) (attr-both (name-uses 15 2 of-sent w h) (attr-both (name-uses 15 0 of-send v f) (delay-uses d)))
+  act-uses (cancels v) f = empty-uses 16 (attr 0 v ∷ []) (v ∷ []) (name-uses 16 0 of-cancel v f)
 
   -- what is left of a block where the end of an if is written already
   abbrev left : Bool → List Act → List Act

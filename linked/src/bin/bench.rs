@@ -198,8 +198,8 @@ fn given(chart: &Bench, name: &[u8]) -> u32 {
 fn lent_short(chart: &Bench) -> u32 {
     let places = black_box(&chart.places);
     let mut session = black_box(chart.session.given.clone());
-    let Parts { numbers, internal, external } = session.lend();
-    Parts { numbers, internal, external: &mut external[1..] }.post(places.into(), NO_NAME)
+    let Parts { numbers, internal, external, clock } = session.lend();
+    Parts { numbers, internal, external: &mut external[1..], clock }.post(places.into(), NO_NAME)
 }
 
 /// A post of the second program, which has to open the chart as the library has to check it.

@@ -81,6 +81,12 @@ impl Picture {
             }
             Action::Else => "else".to_string(),
             Action::End => "end".to_string(),
+            Action::Send { event, delay, .. } => {
+                format!("send {} in {delay}", String::from_utf8_lossy(self.compiled.chart.name(*event)))
+            }
+            Action::Cancel(id) => {
+                format!("cancel {}", String::from_utf8_lossy(self.compiled.chart.name(*id)))
+            }
         }
     }
 

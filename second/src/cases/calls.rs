@@ -19,8 +19,9 @@ use crate::places::small_chart;
 use crate::readings::{chart_a, post, run, start};
 use crate::row_set::RowSet;
 use crate::rules::Place;
-use crate::session::{watch_nothing, Queue, Session, ENDED};
+use crate::session::{Queue, Session, ENDED};
 use crate::tables::Chart;
+use crate::timed::{watch_nothing, Timed};
 
 /// How many charts have calls behind them.
 pub fn charts_with_calls() -> usize {
@@ -50,11 +51,11 @@ fn chart_line(chart: &Chart) -> Line {
 fn after(chart: &Chart, calls: &[Call]) -> Session {
     let Lent { spelt, .. } = Lent::of(chart, Layout::Plain);
     let compiled = CompiledChart::from_tables(&spelt.numbers, &spelt.names).expect("the chart is accepted");
-    let mut session = Session::ended();
+    let mut timed = Timed::ended();
     for call in calls {
-        session = call.done_on(session, Some(&compiled), &mut watch_nothing).session;
+        timed = call.done_on(timed, Some(&compiled), &mut watch_nothing).timed();
     }
-    session
+    timed.session
 }
 
 // Posts

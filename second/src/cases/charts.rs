@@ -3,7 +3,7 @@
 
 use super::lines::*;
 use crate::at_limits;
-use crate::builder::Builder;
+use crate::builder::{Builder, Do};
 use crate::by_hand;
 use crate::compiled::{compile, CompiledChart};
 use crate::encode::Layout;
@@ -22,9 +22,9 @@ use std::fmt::Write as _;
 
 /// The first seed of the generated charts, and how many there are.
 const FIRST_SEED: u64 = 9_000_000;
-const GENERATED: u64 = 48;
+const GENERATED: u64 = 38;
 /// How many charts with cells changed at will.
-const CHANGED: usize = 50;
+const CHANGED: usize = 40;
 
 struct Case {
     about: String,
@@ -68,10 +68,19 @@ fn cases() -> Vec<Case> {
     cases
 }
 
+/// A send with an id and one without, and a cancel.
+fn with_timers() -> Chart {
+    let mut b = Builder::new();
+    b.state("", "s").on("s", "e *", "s");
+    b.doing(&[Do::Send("e", 5, "t"), Do::Send("t", u32::MAX, ""), Do::Cancel("t")]);
+    b.chart()
+}
+
 fn damaged_charts() -> Vec<Case> {
     let mut cases = vec![
         Case::of_chart("chart A", &readings::chart_a()).damaged(),
         Case::of_chart("the sample", &near_misses::sample()).damaged(),
+        Case::of_chart("sends and cancels", &with_timers()).damaged(),
         last_row_everywhere(WORD_BITS).damaged(),
     ];
     for (place, chart) in near_misses::small_samples().iter().enumerate() {

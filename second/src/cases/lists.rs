@@ -1,10 +1,11 @@
-//! Charts with lists of starts, posts and runs for the program `calls_run`.
+//! Charts with lists of starts, posts, clock calls and runs for the program `calls_run`.
 
-use super::script::{making, Line};
+use super::script::{making, making_clock, Line};
 use crate::at_limits;
 use crate::builder::{Builder, Do};
 use crate::by_hand;
 use crate::cells::INTERNAL;
+use crate::clock_damage;
 use crate::compiled::{compile, CompiledChart};
 use crate::encode::Layout;
 use crate::examples::{self, Example};
@@ -13,13 +14,13 @@ use crate::limits::SLOT_BYTES;
 use crate::near_misses::Lent;
 use crate::random::Random;
 use crate::readings::{self, post, run, run_in, start};
-use crate::session::{watch_nothing, Session};
 use crate::session_damage;
 use crate::story;
+use crate::timed::{watch_nothing, Timed};
 use crate::worked;
 
 /// How many small generated charts there are, how many of any size, and how many large ones.
-const SMALL: usize = 220;
+const SMALL: usize = 150;
 const ANY_SIZE: u64 = 12;
 const LARGE: u64 = 3;
 /// The first seed of those of any size, of the large ones, and of the lists with 8 and 9.
@@ -102,7 +103,8 @@ fn generated(seed: u64, flavour: fn(&mut Random) -> Flavour) -> Vec<Line> {
     played(Example::of_tables("generated", &about, spelt, calls))
 }
 
-/// A list of calls in which now and then the session or the compiled chart is changed for one call.
+/// A list of calls in which now and then the session, the clock record or the compiled chart is changed for
+/// one call.
 fn refused(seed: u64) -> Vec<Line> {
     let mut random = Random::seeded(seed);
     let flavour = match seed < REFUSED_SEED + REFUSED - LARGE_REFUSED {
@@ -119,25 +121,35 @@ fn refused(seed: u64) -> Vec<Line> {
     let mut lines =
         vec![Line::About(format!("a list with changes, seed {seed}")), Line::Chart(lent), Line::Zeros];
     let calls = CallMaker::new(&mut random, &chart).calls(2);
-    let mut session = Session::ended();
+    let mut timed = Timed::ended();
     for call in calls {
         let parts = session_damage::all();
         let part = parts[random.below(parts.len())];
-        let changed = session_damage::damaged(&session, part, &compiled, &mut random);
+        let changed = session_damage::damaged(&timed.session, part, &compiled, &mut random);
         if let Some(changed) = changed.filter(|_| random.chance(40)) {
-            lines.extend(making(&changed));
+            lines.extend(making(&changed).into_iter().chain(making_clock(&timed.clock)));
             lines.push(Line::Call(call.clone()));
-            lines.extend(making(&session));
+            lines.extend(making_both(&timed));
+        }
+        let changed = clock_damage::damaged(&timed.clock, clock_damage::any(&mut random), &mut random);
+        if let Some(changed) = changed.filter(|_| random.chance(40)) {
+            lines.extend(making(&timed.session).into_iter().chain(making_clock(&changed)));
+            lines.push(Line::Call(call.clone()));
+            lines.extend(making_both(&timed));
         }
         if random.chance(40) {
             let cell = random.below(places.numbers.len());
             lines.push(Line::Number(cell, places.numbers[cell] ^ 1));
             lines.push(Line::Call(call.clone()));
             lines.push(Line::Number(cell, places.numbers[cell]));
-            lines.extend(making(&session));
+            lines.extend(making_both(&timed));
         }
         lines.push(Line::Call(call.clone()));
-        session = call.done_on(session, Some(&compiled), &mut watch_nothing).session;
+        timed = call.done_on(timed, Some(&compiled), &mut watch_nothing).timed();
     }
     lines
+}
+
+fn making_both(timed: &Timed) -> Vec<Line> {
+    making(&timed.session).into_iter().chain(making_clock(&timed.clock)).collect()
 }

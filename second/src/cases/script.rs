@@ -3,14 +3,16 @@
 use super::lines::*;
 use crate::calls::Call;
 use crate::cells::{self, CELLS, EXTERNAL_COUNT, INTERNAL, INTERNAL_COUNT, STORED};
+use crate::clock::Clock;
 use crate::compiled::{compile, CompiledChart};
 use crate::limits::{QUEUE_NAMES, SLOT_BYTES};
-use crate::names::Slot;
+use crate::names::{Slot, EMPTY_SLOT};
 use crate::near_misses::Lent;
 use crate::numbers::RowNumber;
 use crate::row_set::RowSet;
 use crate::rules::Place;
-use crate::session::{watch_nothing, Answer, Queue, Session, BAD_COMPILED_CHART, BAD_SESSION};
+use crate::session::{Answer, Queue, Session, BAD_COMPILED_CHART, BAD_SESSION};
+use crate::timed::{watch_nothing, Timed};
 
 #[derive(Clone, Debug)]
 pub enum Line {
@@ -23,16 +25,21 @@ pub enum Line {
     /// A number of the compiled chart, a byte of its names.
     Number(usize, u64),
     Byte(usize, u8),
-    /// A session of zeros.
+    /// A session of zeros, and a clock record of zeros.
     Zeros,
     /// A cell of the session.
     Cell(usize, u64),
     /// The slots of a queue, and their count.
     Internal(Vec<Slot>),
     External(Vec<Slot>),
+    /// A number of the clock record: its ticks, its count, its due times.
+    ClockNumber(usize, u64),
+    /// The slots of its events, and of its ids.
+    Events(Vec<Slot>),
+    Ids(Vec<Slot>),
     /// A session whose every cell is made from the number.
     Made(u64),
-    /// Start, post or run.
+    /// Start, post, clock call or run.
     Call(Call),
     /// A post of the name to the session with each cell changed in each way.
     EachCell(Vec<u8>),
@@ -58,11 +65,15 @@ impl Line {
             Line::Byte(place, byte) => format!("b {place} {byte}\n"),
             Line::Zeros => "z \n".to_string(),
             Line::Cell(cell, number) => format!("f {cell} {number}\n"),
-            Line::Internal(slots) => format!("i {}\n", spell_slots(slots.iter().map(|slot| &slot[..]))),
-            Line::External(slots) => format!("x {}\n", spell_slots(slots.iter().map(|slot| &slot[..]))),
+            Line::Internal(slots) => spell_queue('i', slots),
+            Line::External(slots) => spell_queue('x', slots),
+            Line::ClockNumber(place, number) => format!("h {place} {number}\n"),
+            Line::Events(slots) => spell_queue('e', slots),
+            Line::Ids(slots) => spell_queue('w', slots),
             Line::Made(from) => format!("r {from}\n"),
             Line::Call(Call::Post { name }) => format!("o {}\n", spell_bytes(name)),
             Line::Call(Call::Start { room }) => format!("t {room}\n"),
+            Line::Call(Call::Clock { ticks }) => format!("y {ticks}\n"),
             Line::Call(Call::Run { rounds, room }) => format!("u {rounds} {room}\n"),
             Line::EachCell(name) => format!("d {}\n", spell_bytes(name)),
             Line::EachByte(name) => format!("v {}\n", spell_bytes(name)),
@@ -71,7 +82,33 @@ impl Line {
     }
 }
 
-/// The lines that make a session.
+fn spell_queue(letter: char, slots: &[Slot]) -> String {
+    format!("{letter} {}\n", spell_slots(slots.iter().map(|slot| &slot[..])))
+}
+
+/// The lines that make a clock record of one of zeros.
+pub fn making_clock(clock: &Clock) -> Vec<Line> {
+    let numbers = [clock.ticks, clock.count].into_iter().chain(clock.due).enumerate();
+    let mut lines: Vec<Line> = numbers
+        .filter(|&(_, number)| number != 0)
+        .map(|(place, number)| Line::ClockNumber(place, number))
+        .collect();
+    let slots = [(&clock.events, Line::Events as fn(Vec<Slot>) -> Line), (&clock.ids, Line::Ids)];
+    for (slots, line) in slots {
+        let used = used(slots);
+        if used > 0 {
+            lines.push(line(slots[..used].to_vec()));
+        }
+    }
+    lines
+}
+
+/// How many slots there are to the last that is not zero.
+fn used(slots: &[Slot]) -> usize {
+    slots.iter().rposition(|slot| slot != &EMPTY_SLOT).map_or(0, |last| last + 1)
+}
+
+/// The lines that make a session, and a clock record of zeros.
 pub fn making(session: &Session) -> Vec<Line> {
     let mut lines = vec![Line::Zeros];
     let numbers: Vec<u64> = cells::all(session).collect();
@@ -84,7 +121,7 @@ pub fn making(session: &Session) -> Vec<Line> {
         (&session.internal, INTERNAL_COUNT, Line::Internal as fn(Vec<Slot>) -> Line),
         (&session.external, EXTERNAL_COUNT, Line::External),
     ] {
-        let used = queue.slots.iter().rposition(|slot| slot != &[0; SLOT_BYTES]).map_or(0, |last| last + 1);
+        let used = used(&queue.slots);
         if used > 0 {
             lines.push(line(queue.slots[..used].to_vec()));
         }
@@ -100,7 +137,7 @@ struct Stage {
     words: Vec<u64>,
     bytes: Vec<u8>,
     lent: Place,
-    session: Session,
+    timed: Timed,
     printed: String,
 }
 
@@ -156,6 +193,21 @@ fn session_text(session: &Session, answer: u64) -> String {
     text + &format!(", {:016x}\n", sum_of(FIRST_SUM, session))
 }
 
+/// A clock record whole, with no bytes for an id that a send has not, and the sum of its bytes. After 8 and 9
+/// it may be anything: the sum alone.
+fn clock_text(clock: &Clock, answer: u64) -> String {
+    let mut text = String::new();
+    if answer != BAD_COMPILED_CHART && answer != BAD_SESSION {
+        text += &format!(", clock {}", clock.ticks);
+        for send in clock.pending() {
+            let id = send.id.unwrap_or_default();
+            let (event, id) = (String::from_utf8_lossy(&send.event), String::from_utf8_lossy(&id));
+            text += &format!(", due {} {event} {id}", send.due);
+        }
+    }
+    text + &format!(", {:016x}", sum_bytes(FIRST_SUM, &clock.bytes()))
+}
+
 fn trace_text(trace: &[u32]) -> String {
     let entries: Vec<String> = trace.iter().map(|entry| format!(" {entry}")).collect();
     format!(", {} entries{}, the others kept", trace.len(), entries.concat())
@@ -167,7 +219,7 @@ impl Stage {
             words: filled_words(),
             bytes: filled_bytes(),
             lent: Place { numbers: 0, names: 0 },
-            session: Session::ended(),
+            timed: Timed::ended(),
             printed: String::new(),
         }
     }
@@ -184,11 +236,14 @@ impl Stage {
             Line::Lend(place) => self.lent = *place,
             Line::Number(cell, number) => self.words[GUARD + cell] = *number,
             Line::Byte(place, byte) => self.bytes[GUARD + place] = *byte,
-            Line::Zeros => self.session = Session::ended(),
-            Line::Cell(at, number) => cells::change(&mut self.session, *at, |_| *number),
-            Line::Internal(slots) => self.session.internal = queue_of(slots),
-            Line::External(slots) => self.session.external = queue_of(slots),
-            Line::Made(from) => self.session = made(*from),
+            Line::Zeros => self.timed = Timed::ended(),
+            Line::Cell(at, number) => cells::change(&mut self.timed.session, *at, |_| *number),
+            Line::Internal(slots) => self.timed.session.internal = queue_of(slots),
+            Line::External(slots) => self.timed.session.external = queue_of(slots),
+            Line::ClockNumber(place, number) => *self.timed.clock.number_mut(*place) = *number,
+            Line::Events(slots) => self.timed.clock.events[..slots.len()].copy_from_slice(slots),
+            Line::Ids(slots) => self.timed.clock.ids[..slots.len()].copy_from_slice(slots),
+            Line::Made(from) => self.timed.session = made(*from),
             Line::Call(call) => self.call(call),
             Line::EachCell(name) => self.each_cell(name),
             Line::EachByte(name) => self.each_byte(name),
@@ -213,16 +268,20 @@ impl Stage {
     }
 
     fn call(&mut self, call: &Call) {
-        let answer = call.done_on(self.session.clone(), self.compiled().as_ref(), &mut watch_nothing);
+        let answer = call.done_on(self.timed.clone(), self.compiled().as_ref(), &mut watch_nothing);
         self.printed += &match call {
             Call::Post { .. } => format!("post {}", answer.number),
+            Call::Clock { .. } => format!("clock {}", answer.number),
             Call::Start { .. } => format!("start {}{}", answer.number, trace_text(&answer.trace)),
             Call::Run { .. } => {
                 format!("run {}, {} rounds{}", answer.number, answer.rounds, trace_text(&answer.trace))
             }
         };
+        if !matches!(call, Call::Post { .. }) {
+            self.printed += &clock_text(&answer.clock, answer.number);
+        }
         self.printed += &session_text(&answer.session, answer.number);
-        self.session = answer.session;
+        self.timed = answer.timed();
     }
 
     fn each_cell(&mut self, name: &[u8]) {
@@ -230,7 +289,7 @@ impl Stage {
         for way in 0..WAYS {
             let mut seen = Seen::none();
             for at in 0..CELLS {
-                let mut session = self.session.clone();
+                let mut session = self.timed.session.clone();
                 cells::change(&mut session, at, |number| match cells::is_byte(at) {
                     true => u64::from(changed_byte(way, number as u8)),
                     false => changed(way, number),
@@ -248,14 +307,14 @@ impl Stage {
             for byte in 0..=255 {
                 let mut name = name.to_vec();
                 name[place] = byte;
-                seen.add(&self.session.clone().post(compiled.as_ref(), &name));
+                seen.add(&self.timed.session.clone().post(compiled.as_ref(), &name));
             }
             self.printed += &format!("{place}:{}", seen.text());
         }
     }
 
     fn show(&mut self, first: usize, count: usize) {
-        for number in cells::all(&self.session).skip(first).take(count) {
+        for number in cells::all(&self.timed.session).skip(first).take(count) {
             self.printed += &format!(" {number}");
         }
         self.printed.push('\n');

@@ -7,8 +7,8 @@ use crate::encode::encode_plainly;
 use crate::invariants::{ensure, Found};
 use crate::limits::QUEUE_NAMES;
 use crate::readings;
-use crate::session::{watch_nothing, Session};
 use crate::story;
+use crate::timed::{watch_nothing, Timed};
 
 const MIN_CHARTS: usize = 300;
 
@@ -37,15 +37,15 @@ fn each_reading() -> Found {
 fn done_name_in_its_slot() -> Found {
     let spelt = encode_plainly(&story::chart());
     let compiled = CompiledChart::from_tables(&spelt.numbers, &spelt.names).expect("the chart is accepted");
-    let mut session = Session::ended();
+    let mut timed = Timed::ended();
     for call in story::before() {
-        let answer = call.done_on(session, Some(&compiled), &mut watch_nothing);
-        session = answer.session;
+        timed = call.done_on(timed, Some(&compiled), &mut watch_nothing).timed();
     }
+    let session = timed.session.clone();
     let full =
         session.external.count == QUEUE_NAMES as u64 && session.stored.iter().any(|set| !set.is_empty());
     ensure(full, "the session is not full")?;
-    let after = story::last().done_on(session.clone(), Some(&compiled), &mut watch_nothing).session;
+    let after = story::last().done_on(timed, Some(&compiled), &mut watch_nothing).session;
     ensure(after == story::expected(&session, &after), "another byte changes")?;
     ensure(after.configuration != session.configuration, "the region does not finish")
 }

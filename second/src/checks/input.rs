@@ -150,7 +150,8 @@ fn every_cell_huge() -> Found {
     for chart in some_charts() {
         let spelt = encode_plainly(&chart);
         for cell in 0..spelt.numbers.len() {
-            for value in [u64::MAX, 1 << 63, 65_537] {
+            let least = if is_delay(&spelt, cell) { MAX_DELAY + 1 } else { 65_537 };
+            for value in [u64::MAX, 1 << 63, least] {
                 let mut changed = spelt.clone();
                 changed.numbers[cell] = value;
                 ensure(judge(&changed) == 1, &format!("cell {cell} of {value}"))?;
@@ -160,11 +161,11 @@ fn every_cell_huge() -> Found {
     Ok(())
 }
 
-/// 65,535 is none in three columns and a host action; 65,536 is nothing anywhere.
+/// 65,535 is none in four columns and a host action; 65,536 is nothing anywhere. A delay may be either.
 fn every_cell_none() -> Found {
     for chart in some_charts() {
         let spelt = encode_plainly(&chart);
-        for cell in 0..spelt.numbers.len() {
+        for cell in (0..spelt.numbers.len()).filter(|&cell| !is_delay(&spelt, cell)) {
             let mut changed = spelt.clone();
             changed.numbers[cell] = 65_536;
             ensure(judge(&changed) == 1, &format!("cell {cell} of 65,536"))?;
@@ -181,14 +182,24 @@ fn may_be_none(spelt: &Spelt, cell: usize) -> bool {
     let transitions = spelt.numbers[1] as usize;
     let row_end = HEADER_CELLS + ROW_CELLS * rows;
     let transition_end = row_end + TRANSITION_CELLS * transitions;
-    let actions = spelt.numbers.len() - ACTION_CELLS * spelt.numbers[4] as usize;
     if (HEADER_CELLS..row_end).contains(&cell) {
         return [1, 2].contains(&((cell - HEADER_CELLS) % ROW_CELLS));
     }
     if (row_end..transition_end).contains(&cell) {
         return (cell - row_end) % TRANSITION_CELLS == 3;
     }
-    cell >= actions && (cell - actions) % ACTION_CELLS == 1 && spelt.numbers[cell - 1] == 1
+    matches!(of_action(spelt, cell), Some((1, 1) | (6, 3)))
+}
+
+/// The kind of the action that a cell is of, and the cell's column.
+fn of_action(spelt: &Spelt, cell: usize) -> Option<(u64, usize)> {
+    let actions = spelt.numbers.len() - ACTION_CELLS * spelt.numbers[4] as usize;
+    let column = cell.checked_sub(actions)? % ACTION_CELLS;
+    Some((spelt.numbers[cell - column], column))
+}
+
+fn is_delay(spelt: &Spelt, cell: usize) -> bool {
+    of_action(spelt, cell) == Some((6, 2))
 }
 
 fn every_wrong_length() -> Found {

@@ -15,6 +15,7 @@ use crate::row_set::RowSet;
 use crate::selection::{domain_for, Selected, StoredHistory};
 use crate::session::*;
 use crate::tables::Kind;
+use crate::timed::{RoundRecord, Timed};
 
 pub fn checks() -> Vec<Check> {
     vec![
@@ -57,12 +58,13 @@ struct Watched {
 fn watch(example: &Example) -> (CompiledChart, Vec<Watched>) {
     let compiled = example.compiled();
     let mut watched = Vec::new();
-    let mut session = Session::ended();
+    let mut timed = Timed::ended();
     for call in &example.calls {
-        let answer = call.done_on(session, Some(&compiled), &mut |before, record, after| {
-            watched.push(Watched { before: before.clone(), record: record.clone(), refusal: after.err() });
+        let answer = call.done_on(timed, Some(&compiled), &mut |before, record, after| {
+            let (before, record) = (before.session.clone(), record.clone());
+            watched.push(Watched { before, record, refusal: after.err() });
         });
-        session = answer.session;
+        timed = answer.timed();
     }
     (compiled, watched)
 }

@@ -52,7 +52,7 @@ fn answers(recogniser: &mut Recogniser, expected: u64, marked: &str) -> Found {
 
 /// Whether the scanner and the recogniser say the same of a text.
 fn agrees(recogniser: &mut Recogniser, text: &[u8]) -> Found {
-    let (found, wanted) = (scan(text, recogniser.actions).err(), recogniser.fault(text));
+    let (found, wanted) = (scan(text).err(), recogniser.fault(text));
     let shown = String::from_utf8_lossy(&text[..text.len().min(2_000)]);
     ensure(found == wanted, &format!("{shown:?}: the scanner {found:?}, the recogniser {wanted:?}"))
 }

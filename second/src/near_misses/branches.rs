@@ -8,7 +8,7 @@ const ELSEIF: Action = Action::ElseIf(RowNumber(1));
 const HOST: Action = Action::Host(7);
 
 /// Gives some row or transition this block, in any place where it may have one.
-fn put(chart: &mut Chart, tree: &Tree, random: &mut Random, block: &[Action]) -> Option<()> {
+pub(super) fn put(chart: &mut Chart, tree: &Tree, random: &mut Random, block: &[Action]) -> Option<()> {
     let acts = rows_where(chart, tree, Tree::is_real_state);
     let lists: Vec<RowNumber> =
         chart.row_numbers().filter(|&row| row != ROOT && !chart.row(row).list.is_empty()).collect();
@@ -23,7 +23,7 @@ fn put(chart: &mut Chart, tree: &Tree, random: &mut Random, block: &[Action]) ->
 }
 
 /// Adds an action that no block uses.
-fn unused(lent: &mut Lent, action: [u64; ACTION_CELLS]) -> Option<()> {
+pub(super) fn unused(lent: &mut Lent, action: [u64; ACTION_CELLS]) -> Option<()> {
     let lines = lent.counts().actions as u64 + 1;
     (lines <= MAX_ACTIONS).then_some(())?;
     lent.lengthen(Table::Actions, lines, &action)

@@ -3,7 +3,7 @@
 use super::elements::{Element, Name};
 use super::faults::tags;
 use super::scan::{Mark, Tag};
-use super::values::{condition, items, label, DEFAULTS, EXTERNAL, SHALLOW};
+use super::values::{condition, delay, items, label, DEFAULTS, EXTERNAL, SHALLOW};
 use crate::builder::empty_row;
 use crate::names::slot_of;
 use crate::numbers::{NameNumber, RowNumber, TransitionNumber};
@@ -110,16 +110,19 @@ impl<'a> Build<'a> {
             Element::Transition => self.add_transition(row, tag),
             Element::Onentry => Open::Block(Block::Entry(row)),
             Element::Onexit => Open::Block(Block::Exit(row)),
-            Element::Raise | Element::Log | Element::If | Element::Elseif | Element::Else => {
+            Element::Raise
+            | Element::Log
+            | Element::If
+            | Element::Elseif
+            | Element::Else
+            | Element::Send
+            | Element::Cancel => {
                 let action = self.action(tag);
                 let block = self.add_action(action);
                 match action {
                     Action::If(_) => Open::If(block),
                     _ => Open::Other,
                 }
-            }
-            Element::Send | Element::Cancel => {
-                unreachable!("the tables have no such action yet, and the scanner is not told of it")
             }
         }
     }
@@ -188,11 +191,28 @@ impl<'a> Build<'a> {
             Element::If => Action::If(self.condition(tag).expect("the attribute is required")),
             Element::Elseif => Action::ElseIf(self.condition(tag).expect("the attribute is required")),
             Element::Else => Action::Else,
+            Element::Send => self.send(tag),
+            Element::Cancel => Action::Cancel(self.names(tag, Name::Sendid)[0]),
             _ => {
                 let value = attribute(self.text, b"", tag, Name::Label, 0..0);
                 Action::Host(label(value).expect("the value was judged"))
             }
         }
+    }
+
+    /// The names take their slots in the order in which the tag has them. Without delay it is 0.
+    fn send(&mut self, tag: &Tag) -> Action {
+        let (mut event, mut id) = (None, None);
+        for attribute in &tag.attributes {
+            match attribute.name {
+                Name::Event => event = self.names(tag, Name::Event).first().copied(),
+                Name::Id => id = self.names(tag, Name::Id).first().copied(),
+                _ => {}
+            }
+        }
+        let ticks = attribute(self.text, b"0", tag, Name::Delay, 0..1);
+        let delay = delay(ticks).expect("the value was judged");
+        Action::Send { event: event.expect("the attribute is required"), delay, id }
     }
 
     /// "Several onentry (or onexit) elements of one row join into one block." The block it went to.

@@ -52,7 +52,7 @@ impl Names<'_> {
 
     fn renumber(&mut self, block: &mut [Action]) {
         for action in block {
-            if let Action::Raise(name) = action {
+            for name in names_of(action) {
                 *name = self.number(*name);
             }
         }
@@ -75,18 +75,20 @@ pub fn with_other_slots(chart: &Chart, random: &mut Random, most: usize) -> Char
     for row in &mut next.rows {
         row.id.iter_mut().for_each(&mut place);
         let blocks = [&mut row.entry, &mut row.exit, &mut row.block];
-        blocks.into_iter().flatten().for_each(|action| raised(action).into_iter().for_each(&mut place));
+        blocks.into_iter().flatten().for_each(|action| names_of(action).into_iter().for_each(&mut place));
     }
     for transition in &mut next.transitions {
         transition.descriptors.iter_mut().for_each(&mut place);
-        transition.block.iter_mut().for_each(|action| raised(action).into_iter().for_each(&mut place));
+        transition.block.iter_mut().for_each(|action| names_of(action).into_iter().for_each(&mut place));
     }
     next
 }
 
-fn raised(action: &mut Action) -> Option<&mut NameNumber> {
+/// The names of an action in the order in which they are written: a send's id before its event.
+fn names_of(action: &mut Action) -> Vec<&mut NameNumber> {
     match action {
-        Action::Raise(name) => Some(name),
-        _ => None,
+        Action::Raise(name) | Action::Cancel(name) => vec![name],
+        Action::Send { event, id, .. } => id.iter_mut().chain([event]).collect(),
+        _ => Vec::new(),
     }
 }

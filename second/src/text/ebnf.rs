@@ -7,9 +7,6 @@ use std::rc::Rc;
 
 /// The grammar that docs/ prints.
 pub const SCXML_TEXT: &str = include_str!("grammar.ebnf");
-/// The rules of the actions of later requests.
-pub const LATER_ACTIONS: &str = "send = ELEMENT(send, event!:id delay:free id:id, misc)
-cancel = ELEMENT(cancel, sendid!:id, misc)";
 
 pub type NodeNumber = usize;
 

@@ -1,6 +1,7 @@
 //! "elements scxml, state, parallel, final, history, initial, transition, onentry, onexit, raise, log;
 //! attributes xmlns, version, id, initial, type, event, cond (In('id')), target, label, placed as in the
-//! Recommendation". Those of later requests have their entries too; `KNOWN` says what is read today.
+//! Recommendation"; if, elseif and else (R-5); send "(event, delay in decimal ticks, id) and cancel (sendid)"
+//! (R-9).
 
 use crate::tables::Kind;
 
@@ -28,10 +29,8 @@ pub enum Element {
     Cancel,
 }
 
-/// The actions that the reader takes, and those of all requests. An action of a later one is 12 until it
-/// joins the first list, and `build.rs` and `write.rs` learn it.
-pub const KNOWN: &[Element] = &[Element::Raise, Element::Log, Element::If, Element::Elseif, Element::Else];
-pub const ALL: &[Element] = &[
+/// What a block holds.
+pub const ACTIONS: [Element; 7] = [
     Element::Raise,
     Element::Log,
     Element::If,
@@ -128,7 +127,7 @@ static ENTRIES: [Entry; 17] = [
     entry(Element::If, "if", &[COND], &[Name::Cond], Content::Block),
     entry(Element::Elseif, "elseif", &[COND], &[Name::Cond], Content::Nothing),
     entry(Element::Else, "else", &[], &[], Content::Nothing),
-    entry(Element::Send, "send", &[EVENT, DELAY, ID], &[Name::Event], Content::Nothing),
+    entry(Element::Send, "send", &[ID, EVENT, DELAY], &[Name::Event], Content::Nothing),
     entry(Element::Cancel, "cancel", &[SENDID], &[Name::Sendid], Content::Nothing),
 ];
 
@@ -153,14 +152,13 @@ const UNDER_STATE: [Element; 8] = [
 ];
 
 impl Content {
-    /// The elements that may stand there, where a block holds these actions; of a state's, the initial
-    /// element only once.
-    pub fn elements(self, actions: &'static [Element]) -> &'static [Element] {
+    /// The elements that may stand there; of a state's, the initial element only once.
+    pub fn elements(self) -> &'static [Element] {
         match self {
             Content::Row => &UNDER_ROW,
             Content::State => &UNDER_STATE,
             Content::Entering => &[Element::Entering],
-            Content::Block => actions,
+            Content::Block => &ACTIONS,
             Content::Nothing => &[],
         }
     }

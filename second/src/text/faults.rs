@@ -2,7 +2,7 @@
 
 use super::cursor::Offset;
 use super::elements::{Element, Form, Name};
-use super::scan::{scan, Attribute, Mark, Tag};
+use super::scan::{Attribute, Mark, Tag};
 use super::values::{condition, delay, items, label, HISTORY_TYPES, NAMESPACE, TRANSITION_TYPES, VERSION};
 use crate::limits::MAX_NAME_BYTES;
 use std::collections::HashSet;
@@ -17,14 +17,6 @@ pub fn tags(marks: &[Mark]) -> impl Iterator<Item = &Tag> {
 /// Whether an element is a row that must state an id.
 fn is_named_row(element: Element) -> bool {
     element != Element::Scxml && element.row_kind().is_some()
-}
-
-/// The place of the first 12 of a text whose blocks may hold these actions.
-pub fn fault(text: &[u8], actions: &'static [Element]) -> Option<Offset> {
-    match scan(text, actions) {
-        Ok(marks) => first_fault(text, &marks),
-        Err(place) => Some(place),
-    }
 }
 
 /// The place of the first fault, if there is one.

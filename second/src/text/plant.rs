@@ -2,7 +2,7 @@
 //! of reading has to find.
 
 use super::cursor::Offset;
-use super::elements::{Form, Name, KNOWN};
+use super::elements::{Element, Form, Name};
 use super::faults::tags;
 use super::scan::{scan, Attribute};
 use super::values::items;
@@ -16,6 +16,7 @@ struct Edit {
     fault: usize,
 }
 
+const DELAYS: [&str; 9] = ["4294967296", "", "-1", "1 ", " 1", "5s", "0x1", "99999999999999999999", "1.0"];
 const LABELS: [&str; 8] = ["65536", "", "-1", "1 ", " 1", "0x1", "99999999999999999999", "1.0"];
 const TYPES: [&str; 6] = ["", "foo", "External", "internal ", "shallow deep", "&amp;"];
 const OTHERS: [&str; 4] = ["", "1.1", " ", "http://www.w3.org/2005/07/scxml/"];
@@ -37,11 +38,11 @@ const CONDITIONS: [(&str, usize); 12] = [
 
 /// The text with one to three faults, and the place of the first; nothing if it has no value to spoil.
 pub fn planted(text: &[u8], random: &mut Random) -> Option<(Vec<u8>, Offset)> {
-    let marks = scan(text, KNOWN).ok()?;
+    let marks = scan(text).ok()?;
     let mut edits: Vec<Edit> = tags(&marks)
-        .flat_map(|tag| tag.attributes.iter().copied())
-        .filter(|attribute| attribute.name != Name::Id)
-        .map(|attribute| spoiled(text, attribute, random))
+        .flat_map(|tag| tag.attributes.iter().map(|&attribute| (tag.element, attribute)))
+        .filter(|&(element, attribute)| element == Element::Send || attribute.name != Name::Id)
+        .map(|(_, attribute)| spoiled(text, attribute, random))
         .collect();
     random.shuffle(&mut edits);
     edits.truncate(random.between(1, 3));
@@ -62,6 +63,7 @@ fn spoiled(text: &[u8], attribute: Attribute, random: &mut Random) -> Edit {
     let pick = |random: &mut Random, values: &[&'static str]| (values[random.below(values.len())], 0);
     let (value, fault) = match name {
         Name::Label => pick(random, &LABELS),
+        Name::Delay => pick(random, &DELAYS),
         Name::Type => pick(random, &TYPES),
         Name::Cond => CONDITIONS[random.below(CONDITIONS.len())],
         _ => pick(random, &OTHERS[1 + usize::from(name == Name::Version)..]),

@@ -2,7 +2,6 @@
 
 use super::build::chart;
 use super::cursor::Offset;
-use super::elements::KNOWN;
 use super::faults::first_fault;
 use super::scan::scan;
 use crate::compiled::needed_place;
@@ -20,7 +19,7 @@ pub enum Refusal {
 /// What a text without faults means, before the rules are asked. The tables may be larger than rule 1
 /// allows.
 pub fn meaning(text: &[u8]) -> Result<Spelt, Offset> {
-    let marks = scan(text, KNOWN)?;
+    let marks = scan(text)?;
     match first_fault(text, &marks) {
         Some(place) => Err(place),
         None => Ok(encode(&chart(text, &marks), Layout::InOrder)),

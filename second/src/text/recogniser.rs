@@ -1,8 +1,7 @@
 //! A recogniser of any EBNF without left recursion: it keeps every way in which the text so far can be
 //! the beginning of a text of the grammar, each a stack of what is still to come.
 
-use super::ebnf::{Grammar, Node, NodeNumber, LATER_ACTIONS, SCXML_TEXT};
-use super::elements::{Element, KNOWN};
+use super::ebnf::{Grammar, Node, NodeNumber, SCXML_TEXT};
 use std::collections::{HashMap, HashSet};
 use std::hash::{BuildHasherDefault, Hasher};
 use std::rc::Rc;
@@ -53,8 +52,6 @@ impl Ways {
 }
 
 pub struct Recogniser {
-    /// Those that blocks hold.
-    pub actions: &'static [Element],
     grammar: Grammar,
     first: NodeNumber,
     frames: Vec<Frame>,
@@ -65,24 +62,20 @@ pub struct Recogniser {
 
 impl Default for Recogniser {
     fn default() -> Self {
-        Recogniser::knowing(KNOWN)
+        Recogniser::new()
     }
 }
 
 impl Recogniser {
-    /// Of the grammar of SCXML text, in which blocks hold these actions.
-    pub fn knowing(actions: &'static [Element]) -> Recogniser {
-        let words: Vec<&str> = actions.iter().map(|action| action.entry().word).collect();
-        let rules = SCXML_TEXT.lines().chain(LATER_ACTIONS.lines());
-        let others = rules.filter(|line| !line.starts_with("action "));
-        let action = format!("action = {}", words.join(" | "));
-        let grammar = Grammar::read(others.chain([action.as_str()]));
+    /// Of the grammar of SCXML text.
+    pub fn new() -> Recogniser {
+        let grammar = Grammar::read(SCXML_TEXT.lines());
         assert!(grammar.can_always_end(), "a way that is left leads to a text");
         let first = grammar.named("text");
         // Stack 0 has nothing to come; what stands at its place is never looked at.
         let frames = vec![Frame { node: 0, from: 0, rest: NOTHING }];
         let (known, bytes_first) = (HashMap::default(), HashMap::default());
-        Recogniser { actions, grammar, first, frames, known, bytes_first }
+        Recogniser { grammar, first, frames, known, bytes_first }
     }
 
     /// Where every text begins.

@@ -12,7 +12,7 @@ pub const BRANCHES: &str = "<scxml><state id='a'><onexit><if cond=\"In('a')\"><r
  /><log label='1'></log><if cond='&lt;'/><else></else ></if ><else/><raise\tevent=\"e\"> </raise></onexit>
 <transition><if cond=''><log label='1'/></if></transition></state></scxml>";
 
-/// The actions of later requests.
-pub const LATER: &str = "<scxml><state id='a'><onexit><if cond=\"In('a')\"><send event='e' /><!-- --><elseif cond='In(&apos;a&apos;)'
+/// Sends and cancels among them.
+pub const TIMERS: &str = "<scxml><state id='a'><onexit><if cond=\"In('a')\"><send event='e' /><!-- --><elseif cond='In(&apos;a&apos;)'
  /><cancel sendid='s'></cancel><if cond='&lt;'/><else></else ></if ><else/><send\tid='s' delay='5' event=\"e\"> </send><raise event='f'/></onexit>
 <transition><if cond=''><log label='1'/></if></transition></state></scxml>";

@@ -35,11 +35,10 @@ pub enum Mark {
 }
 
 /// The tags of a text of the grammar and of at most 32,768 bytes; else "the first byte that no text of
-/// the grammar has there, at its end or at 32,768, whichever is first". Blocks hold these actions.
-pub fn scan(text: &[u8], actions: &'static [Element]) -> Result<Vec<Mark>, Offset> {
+/// the grammar has there, at its end or at 32,768, whichever is first".
+pub fn scan(text: &[u8]) -> Result<Vec<Mark>, Offset> {
     let seen = &text[..text.len().min(MAX_TEXT)];
-    let mut scanner =
-        Scanner { cursor: Cursor { text: seen, at: 0 }, actions, open: Vec::new(), marks: Vec::new() };
+    let mut scanner = Scanner { cursor: Cursor { text: seen, at: 0 }, open: Vec::new(), marks: Vec::new() };
     scanner.document()?;
     match text.len() > MAX_TEXT {
         true => Err(MAX_TEXT),
@@ -56,7 +55,6 @@ struct Open {
 
 struct Scanner<'a> {
     cursor: Cursor<'a>,
-    actions: &'static [Element],
     open: Vec<Open>,
     marks: Vec<Mark>,
 }
@@ -117,7 +115,7 @@ impl Scanner<'_> {
         let Some(open) = self.open.last() else {
             return if self.marks.is_empty() { vec![Element::Scxml] } else { Vec::new() };
         };
-        let elements = open.element.entry().content.elements(self.actions).iter().copied();
+        let elements = open.element.entry().content.elements().iter().copied();
         elements.filter(|&element| open.once_more || !comes_once(element)).collect()
     }
 

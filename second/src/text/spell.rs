@@ -305,6 +305,19 @@ impl Speller<'_> {
                 let zeros = if self.fancy() { "000" } else { "" };
                 self.element("log", vec![one("label", format!("{zeros}{number}"))], Vec::new())
             }
+            Action::Send { event, delay, id } => {
+                let mut given: Vec<Given> = id.into_iter().map(|id| one("id", self.name(id))).collect();
+                given.push(one("event", self.name(event)));
+                if delay > 0 || self.fancy() {
+                    let zeros = if self.fancy() { "00" } else { "" };
+                    given.push(one("delay", format!("{zeros}{delay}")));
+                }
+                self.element("send", given, Vec::new())
+            }
+            Action::Cancel(id) => {
+                let id = one("sendid", self.name(id));
+                self.element("cancel", vec![id], Vec::new())
+            }
             _ => unreachable!("the others make statements"),
         }
     }

@@ -171,11 +171,23 @@ impl Writer<'_> {
     }
 
     fn action(&self, action: Action) -> String {
-        let (word, attribute) = match action {
-            Action::Raise(name) => ("raise", ("event", self.names(&[name]))),
-            Action::Host(number) => ("log", ("label", number.to_string())),
+        let (word, attributes) = match action {
+            Action::Raise(name) => ("raise", vec![("event", self.names(&[name]))]),
+            Action::Host(number) => ("log", vec![("label", number.to_string())]),
+            Action::Send { event, delay, id } => ("send", self.send(event, delay, id)),
+            Action::Cancel(id) => ("cancel", vec![("sendid", self.names(&[id]))]),
             _ => unreachable!("the others make statements"),
         };
-        element(word, &vec![attribute], "")
+        element(word, &attributes, "")
+    }
+
+    /// The id before the event, as in R-1's list; a delay of 0 is the default.
+    fn send(&self, event: NameNumber, delay: u32, id: Option<NameNumber>) -> Attributes<'static> {
+        let mut attributes: Attributes = id.into_iter().map(|id| ("id", self.names(&[id]))).collect();
+        attributes.push(("event", self.names(&[event])));
+        if delay > 0 {
+            attributes.push(("delay", delay.to_string()));
+        }
+        attributes
     }
 }

@@ -132,7 +132,7 @@ fn past_the_table() -> Worked {
     spelt.numbers[actions + 1] = 2;
     let about = "R-5: In of a row past the table";
     let example = Example::of_tables("in_past_the_table", about, spelt, Vec::new());
-    Worked { example, verdict: 1, lines: Vec::new() }
+    Worked { example, verdict: 1, lines: Vec::new(), shows_clock: false }
 }
 
 pub fn all() -> Vec<Worked> {

@@ -1,6 +1,6 @@
 //! The engine's calls with the layouts and the arguments of include/auttervil.h.
 
-use bench::engine::{is_compiled, Ran, Session, Started, Stepped};
+use bench::engine::{is_compiled, Clock, Ran, Session, Started, Stepped};
 use std::slice;
 
 /// auttervil_chart.
@@ -12,7 +12,7 @@ pub struct Chart {
     bytes: usize,
 }
 
-const _: () = assert!(size_of::<Session>() == 12_344);
+const _: () = assert!(size_of::<Session>() == 12_344 && size_of::<Clock>() == 4_368);
 
 /// # Safety
 /// As for each function here: every place is there, aligned, as long as is said, and apart from the
@@ -36,12 +36,13 @@ pub unsafe extern "C" fn engine_is_compiled(chart: &Chart) -> u32 {
 #[no_mangle]
 pub unsafe extern "C" fn engine_start(
     session: &mut Session,
+    clock: &mut Clock,
     chart: &Chart,
     trace: *mut u32,
     room: usize,
 ) -> Started {
     let (numbers, names) = unsafe { lent(chart) };
-    session.start(numbers, names, unsafe { slice::from_raw_parts_mut(trace, room) })
+    session.start(clock, numbers, names, unsafe { slice::from_raw_parts_mut(trace, room) })
 }
 
 /// # Safety
@@ -62,13 +63,14 @@ pub unsafe extern "C" fn engine_post(
 #[no_mangle]
 pub unsafe extern "C" fn engine_run(
     session: &mut Session,
+    clock: &mut Clock,
     chart: &Chart,
     rounds: u32,
     trace: *mut u32,
     room: usize,
 ) -> Ran {
     let (numbers, names) = unsafe { lent(chart) };
-    session.run(numbers, names, rounds, unsafe { slice::from_raw_parts_mut(trace, room) })
+    session.run(clock, numbers, names, rounds, unsafe { slice::from_raw_parts_mut(trace, room) })
 }
 
 /// # Safety
@@ -76,6 +78,7 @@ pub unsafe extern "C" fn engine_run(
 #[no_mangle]
 pub unsafe extern "C" fn engine_step(
     session: &mut Session,
+    clock: &mut Clock,
     chart: &Chart,
     name: *const u8,
     length: usize,
@@ -85,5 +88,5 @@ pub unsafe extern "C" fn engine_step(
 ) -> Stepped {
     let (numbers, names) = unsafe { lent(chart) };
     let name = unsafe { slice::from_raw_parts(name, length) };
-    session.step(numbers, names, name, rounds, unsafe { slice::from_raw_parts_mut(trace, room) })
+    session.step(clock, numbers, names, name, rounds, unsafe { slice::from_raw_parts_mut(trace, room) })
 }

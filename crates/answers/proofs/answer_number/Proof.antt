@@ -89,6 +89,13 @@ returns-12 : tie.Need-returns-12
 unfolding answerNo
 returns-12 c = sym (ap answerNo (c .enum-told12 .given .1))
 
+enum-told-13 : tie.Need-enum-told-13
+enum-told-13 c = search needs
+
+returns-13 : tie.Need-returns-13
+unfolding answerNo
+returns-13 c = sym (ap answerNo (c .enum-told13 .given .1))
+
 pub answer-number-spec : {M : Type 1} → statement M
 answer-number-spec =
     tie.close
@@ -105,6 +112,7 @@ answer-number-spec =
     enum-told-10
     enum-told-11
     enum-told-12
+    enum-told-13
     returns
     returns-2
     returns-3
@@ -116,4 +124,5 @@ answer-number-spec =
     returns-9
     returns-10
     returns-11
-    returns-12)
+    returns-12
+    returns-13)

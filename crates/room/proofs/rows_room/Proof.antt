@@ -4,13 +4,13 @@ use Prim.Native.Nat.{_-_}
 use native.Mathlib.Omega.{arith}
 use Rattle.definition.specs.Tables.{rowCount, chartOf}
 use Rattle.laws.specs.Passes.{count-end}
-use Rattle.room.specs.Room.{addRow, rowRoom, rowsRoom}
+use Rattle.room.specs.Room.{addRow, rowRoom, rowsRoom, mostRowRoom}
 use Rattle.room.specs.Adding.{Added, added-begin, added-turn}
 use Rattle.room.proofs.rows_room.Statement.{statement}
 use Rattle.room.proofs.rows_room.Tie as tie
 
 abbrev Inv-loop : tie.InvT-loop
-Inv-loop chart rows sum₀ i₀ sum i = (rows ≡ rowCount chart) × Added (addRow (chartOf chart)) 100 rows i sum
+Inv-loop chart rows sum₀ i₀ sum i = (rows ≡ rowCount chart) × Added (addRow (chartOf chart)) mostRowRoom rows i sum
 
 abbrev μ-loop : tie.MeasureT-loop
 μ-loop chart rows sum₀ i₀ sum i = rows - i

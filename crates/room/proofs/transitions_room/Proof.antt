@@ -4,13 +4,13 @@ use Prim.Native.Nat.{_-_}
 use native.Mathlib.Omega.{arith}
 use Rattle.definition.specs.Tables.{transitionCount, chartOf}
 use Rattle.laws.specs.Passes.{count-end}
-use Rattle.room.specs.Room.{addTransition, transitionRoom, transitionsRoom}
+use Rattle.room.specs.Room.{addTransition, transitionRoom, transitionsRoom, mostTransitionRoom}
 use Rattle.room.specs.Adding.{Added, added-begin, added-turn}
 use Rattle.room.proofs.transitions_room.Statement.{statement}
 use Rattle.room.proofs.transitions_room.Tie as tie
 
 abbrev Inv-loop : tie.InvT-loop
-Inv-loop chart n sum₀ t₀ sum t = (n ≡ transitionCount chart) × Added (addTransition (chartOf chart)) 34 n t sum
+Inv-loop chart n sum₀ t₀ sum t = (n ≡ transitionCount chart) × Added (addTransition (chartOf chart)) mostTransitionRoom n t sum
 
 abbrev μ-loop : tie.MeasureT-loop
 μ-loop chart n sum₀ t₀ sum t = n - t

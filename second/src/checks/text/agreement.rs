@@ -7,10 +7,9 @@ use crate::generate::{self, Flavour};
 use crate::invariants::{ensure, Found};
 use crate::random::Random;
 use crate::text::damage::{damaged, words, BYTES};
-use crate::text::elements::{Element, ALL, KNOWN};
 use crate::text::read::{read, Refusal};
 use crate::text::recogniser::{Recogniser, Ways};
-use crate::text::samples::{BRANCHES, EVERYTHING, LATER};
+use crate::text::samples::{BRANCHES, EVERYTHING, TIMERS};
 use crate::text::scan::scan;
 use crate::text::spell::spell;
 
@@ -21,19 +20,18 @@ const TEXTS_OF_PIECE: u64 = 2_500;
 pub fn checks() -> Vec<Check> {
     let mut checks = Vec::new();
     let texts = [
-        ("everything", EVERYTHING, KNOWN),
-        ("chart A", CHART_A, KNOWN),
-        ("the numbered chart", NUMBERED, KNOWN),
-        ("branches", BRANCHES, KNOWN),
-        ("later actions", LATER, ALL),
-        ("everything where later actions are known", EVERYTHING, ALL),
+        ("everything", EVERYTHING),
+        ("chart A", CHART_A),
+        ("the numbered chart", NUMBERED),
+        ("branches", BRANCHES),
+        ("sends and cancels", TIMERS),
     ];
-    for (what, text, actions) in texts {
+    for (what, text) in texts {
         let name = |how: &str| format!("text: recogniser and reader on {what}, {how}");
         let text = text.as_bytes();
-        checks.push(Check::new(name("prefixes"), move || prefixes(text, actions)));
+        checks.push(Check::new(name("prefixes"), move || prefixes(text)));
         let changes = name("bytes changed, preceded, left out and swapped");
-        checks.push(Check::new(changes, move || each_byte(text, actions)));
+        checks.push(Check::new(changes, move || each_byte(text)));
     }
     for piece in 0..PIECES {
         let name = |what: &str| format!("text: recogniser and reader on {what}, piece {piece}");
@@ -43,8 +41,8 @@ pub fn checks() -> Vec<Check> {
     checks
 }
 
-fn prefixes(text: &[u8], actions: &'static [Element]) -> Found {
-    let mut recogniser = Recogniser::knowing(actions);
+fn prefixes(text: &[u8]) -> Found {
+    let mut recogniser = Recogniser::default();
     ensure(recogniser.fault(text).is_none(), "the whole text is of the grammar")?;
     (0..=text.len()).try_for_each(|length| agrees(&mut recogniser, &text[..length]))
 }
@@ -56,8 +54,8 @@ struct Stops {
 }
 
 impl Stops {
-    fn of(text: &[u8], actions: &'static [Element]) -> Stops {
-        let mut recogniser = Recogniser::knowing(actions);
+    fn of(text: &[u8]) -> Stops {
+        let mut recogniser = Recogniser::default();
         let mut ways = vec![recogniser.start()];
         for &byte in text {
             let next = recogniser.step(&ways[ways.len() - 1], byte);
@@ -69,14 +67,14 @@ impl Stops {
     /// Whether both say the same of a text that is the old one up to a place.
     fn agrees(&mut self, changed: &[u8], from: usize) -> Found {
         let wanted = self.recogniser.fault_from(&self.ways[from], from, changed);
-        let found = scan(changed, self.recogniser.actions).err();
+        let found = scan(changed).err();
         let shown = String::from_utf8_lossy(changed);
         ensure(found == wanted, &format!("{shown:?}: the scanner {found:?}, the recogniser {wanted:?}"))
     }
 }
 
-fn each_byte(text: &[u8], actions: &'static [Element]) -> Found {
-    let mut stops = Stops::of(text, actions);
+fn each_byte(text: &[u8]) -> Found {
+    let mut stops = Stops::of(text);
     for place in 0..text.len() {
         for byte in BYTES {
             let mut changed = text.to_vec();
@@ -132,10 +130,6 @@ fn damaged_spellings(piece: u64) -> Found {
 
 fn random_words(piece: u64) -> Found {
     let random = &mut Random::seeded(1_000 + piece);
-    let (mut today, mut later) = (Recogniser::default(), Recogniser::knowing(ALL));
-    (0..TEXTS_OF_PIECE).try_for_each(|_| {
-        let text = words(random);
-        reads_alike(&mut today, &text)?;
-        agrees(&mut later, &text)
-    })
+    let mut recogniser = Recogniser::default();
+    (0..TEXTS_OF_PIECE).try_for_each(|_| reads_alike(&mut recogniser, &words(random)))
 }

@@ -66,7 +66,7 @@ fn spelt_reads_back(random: &mut Random, recogniser: &mut Recogniser) -> Found {
 }
 
 /// Whether the slots stand in the order in which their names are first used, going by the text alone: a
-/// name is used behind id= and event=, which no comment of the speller holds in a tag.
+/// name is used behind id=, event= and sendid=, which no comment of the speller holds in a tag.
 fn slots_by_first_use(text: &[u8], tables: &Spelt) -> bool {
     let text = String::from_utf8_lossy(text);
     let mut names: Vec<String> = Vec::new();
@@ -84,7 +84,7 @@ fn slots_by_first_use(text: &[u8], tables: &Spelt) -> bool {
     slots.eq(names.iter().cloned())
 }
 
-/// The values of id and event in a tag, in their order.
+/// The values of id, event and sendid in a tag, in their order.
 fn attributes_of(tag: &str) -> Vec<&str> {
     let mut values = Vec::new();
     let mut rest = tag;
@@ -93,7 +93,7 @@ fn attributes_of(tag: &str) -> Vec<&str> {
         let behind = behind.trim_start();
         let Some(quote) = behind.chars().next() else { break };
         let Some((value, behind)) = behind[1..].split_once(quote) else { break };
-        if matches!(name, "id" | "event") {
+        if matches!(name, "id" | "event" | "sendid") {
             values.push(value);
         }
         rest = behind;

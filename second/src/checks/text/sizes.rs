@@ -4,7 +4,6 @@
 use super::{answers, Check, MARK};
 use crate::invariants::{ensure, Found};
 use crate::limits::*;
-use crate::text::elements::KNOWN;
 use crate::text::read::{meaning, read, read_into, Refusal};
 use crate::text::recogniser::{Recogniser, MAX_TEXT};
 use crate::text::scan::scan;
@@ -73,7 +72,7 @@ fn long_texts() -> Found {
     let mut recogniser = Recogniser::default();
     let whole = "<scxml><state id=\"a\"/></scxml>";
     let mut expect = |text: &[u8], place: Option<usize>| {
-        let found = (scan(text, KNOWN).err(), recogniser.fault(text));
+        let found = (scan(text).err(), recogniser.fault(text));
         ensure(found == (place, place), &format!("{} bytes: {found:?}, expected {place:?}", text.len()))
     };
     for comment in [false, true] {
@@ -99,7 +98,7 @@ fn long_texts() -> Found {
 fn deep_texts() -> Found {
     let mut recogniser = Recogniser::default();
     let open = format!("<scxml>{}", "<state>".repeat(4_680));
-    let found = (scan(open.as_bytes(), KNOWN).err(), recogniser.fault(open.as_bytes()));
+    let found = (scan(open.as_bytes()).err(), recogniser.fault(open.as_bytes()));
     ensure(found == (Some(open.len()), Some(open.len())), &format!("open to the end: {found:?}"))?;
     let nested = |depth: usize| {
         let starts: String = (0..depth).map(|number| format!("<state id=\"s{number}\">")).collect();

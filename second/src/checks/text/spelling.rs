@@ -72,7 +72,7 @@ fn chart_a_whole() -> Found {
 }
 
 /// A chart in another spelling, and what is written from it.
-const SPELLINGS: [(&str, &str); 7] = [
+const SPELLINGS: [(&str, &str); 9] = [
     ("<scxml><state id='a'></state></scxml>", r#"<state id="a"/>"#),
     (
         "<scxml><state id='a'><onexit/><onentry/><onentry><log label='01'/></onentry></state></scxml>",
@@ -97,6 +97,14 @@ const SPELLINGS: [(&str, &str); 7] = [
     (
         "<scxml><state id='a'><history type='deep' id='h'><transition target='b'><log label='2'/></transition></history><state id='b'/></state></scxml>",
         r#"<state id="a"><history id="h" type="deep"><transition target="b"><log label="2"/></transition></history><state id="b"/></state>"#,
+    ),
+    (
+        "<scxml><state id='a'><onentry><send delay='007' event='e' id='9.t'></send><cancel sendid = '9.t' /></onentry></state></scxml>",
+        r#"<state id="a"><onentry><send id="9.t" event="e" delay="7"/><cancel sendid="9.t"/></onentry></state>"#,
+    ),
+    (
+        "<scxml><state id='a'><onexit><send delay='000' event='e'/><send event='a' id='a'/></onexit></state></scxml>",
+        r#"<state id="a"><onexit><send event="e"/><send id="a" event="a"/></onexit></state>"#,
     ),
 ];
 

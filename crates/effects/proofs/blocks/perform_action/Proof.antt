@@ -1,6 +1,6 @@
 use native.Mathlib.Omega.{arith}
 use borrow.Author.Needs.{needs}
-use Rattle.effects.specs.Kinds.{raise-fits, raise-in, raise-wrote, host-fits, host-in, host-wrote, if-wrote, elseif-wrote, else-wrote, end-wrote}
+use Rattle.effects.specs.Kinds.{raise-fits, raise-in, raise-wrote, host-fits, host-in, host-wrote, send-fits, send-in, send-wrote, cancel-fits, cancel-in, cancel-wrote, if-wrote, elseif-wrote, else-wrote, end-wrote}
 use Rattle.effects.proofs.blocks.perform_action.Statement.{statement}
 use Rattle.effects.proofs.blocks.perform_action.Tie as tie
 
@@ -61,6 +61,48 @@ returns-5 c = else-wrote _ _ _ (c .enum-told3 .given .1)
 returns-6 : tie.Need-returns-6
 returns-6 c = end-wrote _ _ _ (c .enum-told4 .given .1)
 
+enum-known-action-3 : tie.Need-enum-known-action-3
+enum-known-action-3 c = search needs
+
+cast-emit-sent : tie.Need-cast-emit-sent
+cast-emit-sent c = record { fits = let l = send-fits _ _ _ _ (c .before .before .before .action3 .given .1) (c .before .before .before .before .before .before .before .pre .0) .0 in omega arith }
+
+cast-emit-sent-2 : tie.Need-cast-emit-sent-2
+cast-emit-sent-2 c = record { fits = let l = send-fits _ _ _ _ (c .before .before .before .action3 .given .1) (c .before .before .before .before .before .before .before .pre .0) .1 in omega arith }
+
+cast-emit-sent-3 : tie.Need-cast-emit-sent-3
+cast-emit-sent-3 c = record { fits = let l = send-fits _ _ _ _ (c .before .before .before .action3 .given .1) (c .before .before .before .before .before .before .before .pre .0) .2 in omega arith }
+
+emit-sent-requires : tie.Need-emit-sent-requires
+emit-sent-requires c κs = send-in _ _ _ _ _ (c .before .before .before .action3 .given .1) (c .before .before .before .before .before .before .before .pre .0) (c .before .before .before .before .before .before .before .pre .1)
+
+enum-known-action-4 : tie.Need-enum-known-action-4
+enum-known-action-4 c = search needs
+
+cast-emit-cancelled : tie.Need-cast-emit-cancelled
+cast-emit-cancelled c = record { fits = let l = cancel-fits _ _ (c .before .before .before .action4 .given .1) (c .before .before .before .before .before .before .before .pre .0) in omega arith }
+
+emit-cancelled-requires : tie.Need-emit-cancelled-requires
+emit-cancelled-requires c κs = cancel-in _ _ _ (c .before .before .before .action4 .given .1) (c .before .before .before .before .before .before .before .pre .0) (c .before .before .before .before .before .before .before .pre .1)
+
+same-length-4 : tie.Need-same-length-4
+same-length-4 c = search needs
+
+same-length-5 : tie.Need-same-length-5
+same-length-5 c = search needs
+
+returns-7 : tie.Need-returns-7
+returns-7 c = send-wrote _ _ _ _ _ _ _ _ (c .before .before .before .before .before .before .before .before .action3 .given .1) (c .before .before .before .before .emit-sent .ensures)
+
+same-length-6 : tie.Need-same-length-6
+same-length-6 c = search needs
+
+same-length-7 : tie.Need-same-length-7
+same-length-7 c = search needs
+
+returns-8 : tie.Need-returns-8
+returns-8 c = cancel-wrote _ _ _ _ _ _ (c .before .before .before .before .before .before .before .before .action4 .given .1) (c .before .before .before .before .emit-cancelled .ensures)
+
 pub perform-action-spec : {M : Type 1} → statement M
 perform-action-spec =
     tie.close
@@ -75,6 +117,14 @@ perform-action-spec =
     enum-told-2
     enum-told-3
     enum-told-4
+    enum-known-action-3
+    cast-emit-sent
+    cast-emit-sent-2
+    cast-emit-sent-3
+    emit-sent-requires
+    enum-known-action-4
+    cast-emit-cancelled
+    emit-cancelled-requires
     same-length
     same-length-2
     returns
@@ -83,4 +133,10 @@ perform-action-spec =
     returns-3
     returns-4
     returns-5
-    returns-6)
+    returns-6
+    same-length-4
+    same-length-5
+    returns-7
+    same-length-6
+    same-length-7
+    returns-8)

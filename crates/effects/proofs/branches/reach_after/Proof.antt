@@ -1,6 +1,6 @@
 use Rattle.effects.specs.Kinds.{if-low, elseif-low}
 use Rattle.definition.specs.declared.Reach.the-variants.{Live}
-use Rattle.effects.specs.Branches.{after-raise, after-host, after-if, after-elseif, after-else, after-end}
+use Rattle.effects.specs.Branches.{after-raise, after-host, after-send, after-cancel, after-if, after-elseif, after-else, after-end}
 use borrow.Author.Needs.{needs}
 use mathlib.Core.Path.{refl}
 use native.Mathlib.Omega.{arith}
@@ -67,6 +67,18 @@ returns-5 c = after-else _ _ _ _ (c .before .enum-told3 .given .1) (c .at-else2 
 returns-6 : tie.Need-returns-6
 returns-6 c = after-end _ _ _ _ (c .before .enum-told4 .given .1) (c .at-end .ensures)
 
+enum-told-5 : tie.Need-enum-told-5
+enum-told-5 c = search needs
+
+enum-told-6 : tie.Need-enum-told-6
+enum-told-6 c = search needs
+
+returns-7 : tie.Need-returns-7
+returns-7 c = after-send _ _ _ Live _ _ _ (c .enum-told5 .given .1)
+
+returns-8 : tie.Need-returns-8
+returns-8 c = after-cancel _ _ _ Live _ (c .enum-told6 .given .1)
+
 pub reach-after-spec : {M : Type 1} → statement M
 reach-after-spec =
     tie.close
@@ -85,9 +97,13 @@ reach-after-spec =
     at-else-requires-2
     enum-told-4
     at-end-requires
+    enum-told-5
+    enum-told-6
     returns
     returns-2
     returns-3
     returns-4
     returns-5
-    returns-6)
+    returns-6
+    returns-7
+    returns-8)

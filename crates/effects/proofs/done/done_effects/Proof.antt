@@ -10,7 +10,8 @@ use Rattle.definition.specs.Chart.{isFinal, isRoot}
 use Rattle.rowset.specs.Member.{rowsOf}
 use Rattle.laws.specs.Loops.{told}
 use Rattle.effects.specs.Entering.{doneAbove, done-plain, done-closing, done-pieces, above-yes, above-no, final-later, not-root-later}
-use Rattle.effects.specs.Trace.{queues, Wrote, Room, wrote-none, wrote-both, room-first, room-next}
+use Rattle.effects.specs.Trace.{queues, Wrote, Room}
+use Rattle.effects.specs.Writing.{wrote-none, wrote-both, room-first, room-next}
 use Rattle.effects.proofs.done.done_effects.Statement.{statement}
 use Rattle.effects.proofs.done.done_effects.Tie as tie
 

@@ -5,7 +5,8 @@ use borrow.Author.Needs.{needs}
 use Rattle.laws.specs.Loops.{told}
 use Rattle.effects.specs.Entering.{history-later, default-not, default-runs}
 use Rattle.effects.specs.Blocks.{block-asked, block-wrote}
-use Rattle.effects.specs.Trace.{Wrote, Room, wrote-none}
+use Rattle.effects.specs.Trace.{Wrote, Room}
+use Rattle.effects.specs.Writing.{wrote-none}
 use Rattle.effects.proofs.entries.default_block.Statement.{statement}
 use Rattle.effects.proofs.entries.default_block.Tie as tie
 

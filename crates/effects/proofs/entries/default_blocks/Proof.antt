@@ -7,7 +7,8 @@ use Rattle.rowset.specs.Visits.{found-next, rest-at, rest-end, next-less}
 use Rattle.rowset.specs.Search.{restFrom}
 use Rattle.rowset.specs.Member.{rowsOf}
 use Rattle.effects.specs.Entering.{history-row, defaults-none}
-use Rattle.effects.specs.Trace.{places, Wrote, wrote-none}
+use Rattle.effects.specs.Trace.{places, Wrote}
+use Rattle.effects.specs.Writing.{wrote-none}
 use Rattle.effects.specs.Emitting.{Emitting, emitting-room, emitting-turn, emitting-end, emitting-length, emitting-joins, emitting-up}
 use Rattle.effects.proofs.entries.default_blocks.Statement.{statement}
 use Rattle.effects.proofs.entries.default_blocks.Tie as tie

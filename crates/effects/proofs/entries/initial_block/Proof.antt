@@ -3,7 +3,8 @@ use borrow.Author.Tests.{not-true, not-false}
 use borrow.Author.Needs.{needs}
 use Rattle.effects.specs.Entering.{initial-not, initial-runs}
 use Rattle.effects.specs.Blocks.{block-asked, block-wrote}
-use Rattle.effects.specs.Trace.{Wrote, Room, wrote-none}
+use Rattle.effects.specs.Trace.{Wrote, Room}
+use Rattle.effects.specs.Writing.{wrote-none}
 use Rattle.effects.proofs.entries.initial_block.Statement.{statement}
 use Rattle.effects.proofs.entries.initial_block.Tie as tie
 

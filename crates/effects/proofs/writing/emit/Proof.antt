@@ -6,7 +6,7 @@ use Rattle.effects.proofs.writing.emit.Statement.{statement}
 use Rattle.effects.proofs.writing.emit.Tie as tie
 
 returns : tie.Need-returns
-returns c = shown _ _ _ _ _ _ (c .before .before .before .before .before .before .pre .0) (c .before .before .before .put .ensures) refl (c .before .before .before .before .before .before .pre .1) refl
+returns c = shown _ _ _ _ _ _ (c .before .before .before .before .before .before .pre .0) (c .before .before .before .put .ensures) refl (c .before .before .before .before .before .before .pre .1) refl refl
 
 same-length : tie.Need-same-length
 same-length c = returns c .size

@@ -10,7 +10,7 @@ add-t14 : tie.Need-add-t14
 add-t14 c = let e = c .before .before .before .before .before .before .before .before .before .before .before .before .pre .1 in let m = one-fits (c .before .before .before .before .before .before .before .before .before .before .before .before .args .tally) (c .before .before .before .before .before .before .before .before .before .before .before .before .args .kind) (c .before .before .before .before .before .before .before .before .before .before .before .before .args .index) (c .before .before .before .before .before .before .before .before .before .before .before .before .pre .2) .1 in record { fits = omega arith }
 
 returns : tie.Need-returns
-returns c = joined _ _ _ _ _ _ (c .before .before .before .before .before .before .before .before .before .before .before .before .pre .0) (c .before .before .before .before .before .before .before .before .put .ensures) refl _ _ (c .before .before .before .before .put2 .ensures) (c .before .before .before .before .before .before .before .before .before .before .before .before .pre .1) refl
+returns c = joined _ _ _ _ _ _ (c .before .before .before .before .before .before .before .before .before .before .before .before .pre .0) (c .before .before .before .before .before .before .before .before .put .ensures) refl _ _ (c .before .before .before .before .put-join .ensures) (c .before .before .before .before .before .before .before .before .before .before .before .before .pre .1) refl refl
 
 same-length : tie.Need-same-length
 same-length c = wrote-length _ _ _ _ _ (returns c)
@@ -27,18 +27,18 @@ add-number c = search needs
 put-requires : tie.Need-put-requires
 put-requires c κs = search needs
 
-put-requires-2 : tie.Need-put-requires-2
-put-requires-2 c κs = search needs
-
 add-t13 : tie.Need-add-t13
 add-t13 c = search needs
+
+put-join-requires : tie.Need-put-join-requires
+put-join-requires c κs = search needs
 
 pub emit-join-spec : {M : Type 1} → statement M
 emit-join-spec = tie.close (tie.spec
     mul-number
     add-number
     put-requires
-    put-requires-2
+    put-join-requires
     add-t13
     add-t14
     same-length

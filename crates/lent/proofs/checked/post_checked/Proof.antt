@@ -1,7 +1,8 @@
 use borrow.Author.Needs.{needs}
+use mathlib.Core.List.{[]}
 use native.Mathlib.Omega.{arith}
 use Rattle.laws.specs.Loops.{said-not-yes, said-not-no}
-use Rattle.lent.specs.Lent.{known-lengths, slot-inside, post-8, post-9, post-6, post-11, post-7, post-0}
+use Rattle.lent.specs.Posts.{slot-inside, post-lengths, post-8, post-9, post-6, post-11, post-7, post-0}
 use Rattle.lent.proofs.checked.post_checked.Statement.{statement}
 use Rattle.lent.proofs.checked.post_checked.Tie as tie
 
@@ -18,25 +19,25 @@ returns-3 : tie.Need-returns-3
 returns-3 c = post-6 _ _ _ _ _ _ _ (c .before .before .before .before .before .before .before .before .before .before .before .before .pre) (c .before .before .before .before .if1 .left) (c .before .before .if2 .left) (said-not-yes _ _ (c .before .is-name .ensures) (c .if3 .taken))
 
 slice-read-if4 : tie.Need-slice-read-if4
-slice-read-if4 c = let l = known-lengths _ _ _ _ _ _ (c .before .before .before .before .before .before .before .before .before .before .before .before .before .pre) (c .before .before .before .before .before .if1 .left) (c .before .before .before .if2 .left) .numbers in omega arith
+slice-read-if4 c = let l = post-lengths _ _ _ _ _ [] _ (c .before .before .before .before .before .before .before .before .before .before .before .before .before .pre) (c .before .before .before .before .before .if1 .left) (c .before .before .before .if2 .left) .numbers in omega arith
 
 returns-4 : tie.Need-returns-4
 returns-4 c = post-11 _ _ _ _ _ _ _ (c .before .before .before .before .before .before .before .before .before .before .before .before .before .before .pre) (c .before .before .before .before .before .before .if1 .left) (c .before .before .before .before .if2 .left) (said-not-no _ _ (c .before .before .before .is-name .ensures) (c .before .before .if3 .left)) (c .if4 .taken)
 
 slice-read-outer : tie.Need-slice-read-outer
-slice-read-outer c = let l = known-lengths _ _ _ _ _ _ (c .before .before .before .before .before .before .before .before .before .before .before .before .before .before .before .pre) (c .before .before .before .before .before .before .before .if1 .left) (c .before .before .before .before .before .if2 .left) .numbers in omega arith
+slice-read-outer c = let l = post-lengths _ _ _ _ _ [] _ (c .before .before .before .before .before .before .before .before .before .before .before .before .before .before .before .pre) (c .before .before .before .before .before .before .before .if1 .left) (c .before .before .before .before .before .if2 .left) .numbers in omega arith
 
 returns-5 : tie.Need-returns-5
 returns-5 c = post-7 _ _ _ _ _ _ _ (c .before .before .before .before .before .before .before .before .before .before .before .before .before .before .before .before .pre) (c .before .before .before .before .before .before .before .before .if1 .left) (c .before .before .before .before .before .before .if2 .left) (said-not-no _ _ (c .before .before .before .before .before .is-name .ensures) (c .before .before .before .before .if3 .left)) (c .before .before .if4 .left) (c .if5 .taken)
 
 put-last-requires : tie.Need-put-last-requires
-put-last-requires c κs = slot-inside _ _ (known-lengths _ _ _ _ _ _ (c .before .before .before .before .before .before .before .before .before .before .before .before .before .before .before .before .before .pre) (c .before .before .before .before .before .before .before .before .before .if1 .left) (c .before .before .before .before .before .before .before .if2 .left) .external) (c .before .if5 .left)
+put-last-requires c κs = slot-inside _ _ (post-lengths _ _ _ _ _ [] _ (c .before .before .before .before .before .before .before .before .before .before .before .before .before .before .before .before .before .pre) (c .before .before .before .before .before .before .before .before .before .if1 .left) (c .before .before .before .before .before .before .before .if2 .left) .external) (c .before .if5 .left)
 
 add-numbers : tie.Need-add-numbers
 add-numbers c = search needs
 
 slice-write-numbers : tie.Need-slice-write-numbers
-slice-write-numbers c = let l = known-lengths _ _ _ _ _ _ (c .before .before .before .before .before .before .before .before .before .before .before .before .before .before .before .before .before .before .before .before .pre) (c .before .before .before .before .before .before .before .before .before .before .before .before .if1 .left) (c .before .before .before .before .before .before .before .before .before .before .if2 .left) .numbers in omega arith
+slice-write-numbers c = let l = post-lengths _ _ _ _ _ [] _ (c .before .before .before .before .before .before .before .before .before .before .before .before .before .before .before .before .before .before .before .before .pre) (c .before .before .before .before .before .before .before .before .before .before .before .before .if1 .left) (c .before .before .before .before .before .before .before .before .before .before .if2 .left) .numbers in omega arith
 
 same-length : tie.Need-same-length
 same-length c = search needs

@@ -4,7 +4,7 @@ use Rattle.microstep.proofs.planning.closing_effects.Statement.{stateme
 use Rattle.microstep.proofs.planning.closing_effects.Tie as tie
 
 exit-effects-requires : tie.Need-exit-effects-requires
-exit-effects-requires c κs = (c .before .before .before .before .before .pre .0 .tables, c .before .before .before .before .before .pre .1, exiting-room _ (c .before .before .before .before .before .pre .0 .tables) _ _ _ (c .before .before .before .before .before .pre .2 .entries) (c .before .before .before .before .before .pre .2 .names) (c .before .before .before .before .before .pre .1))
+exit-effects-requires c κs = (c .before .before .before .before .before .pre .0 .tables, c .before .before .before .before .before .pre .1, exiting-room _ (c .before .before .before .before .before .pre .0 .tables) _ _ _ (c .before .before .before .before .before .pre .2 .entries) (c .before .before .before .before .before .pre .2 .names) (c .before .before .before .before .before .pre .2 .timers) (c .before .before .before .before .before .pre .1))
 
 same-length : tie.Need-same-length
 same-length c = search needs

@@ -1,5 +1,6 @@
 use borrow.Author.Needs.{needs}
 use mathlib.Core.Path.{refl}
+use Rattle.clock.specs.Spelled.{holds-length}
 use Rattle.state.specs.Numbers.{set-inside}
 use Rattle.state.specs.Places.{numbers-size}
 use Rattle.rounds.specs.Traces.{wrote-filled}
@@ -9,10 +10,10 @@ use Rattle.rounds.proofs.closing.close.Statement.{statement}
 use Rattle.rounds.proofs.closing.close.Tie as tie
 
 set-at-requires : tie.Need-set-at-requires
-set-at-requires c κs = set-inside _ (numbers-size _ _ _ _ (c .before .before .before .before .before .before .pre .1 .spells))
+set-at-requires c κs = set-inside _ (numbers-size _ _ _ _ (c .before .before .before .before .before .before .before .pre .1 .spells))
 
 count-closing-requires : tie.Need-count-closing-requires
-count-closing-requires c κs = (c .before .before .before .before .before .before .before .pre .0, closing-within _ _ _ _ (c .before .before .before .before .before .before .before .pre .0) (c .before .before .before .before .before .before .before .pre .1) _ (c .set-at .ensures))
+count-closing-requires c κs = (c .before .before .before .before .before .before .before .before .pre .0, closing-within _ _ _ _ (c .before .before .before .before .before .before .before .before .pre .0) (c .before .before .before .before .before .before .before .before .pre .1) _ (c .set-at .ensures))
 
 judge-requires : tie.Need-judge-requires
 judge-requires c κs = search needs
@@ -24,13 +25,13 @@ unchanged-requires : tie.Need-unchanged-requires
 unchanged-requires c κs = search needs
 
 returns : tie.Need-returns
-returns c = closed-refused _ _ _ _ (c .before .before .before .before .before .before .before .before .before .before .before .pre .0) (c .before .before .before .before .before .before .before .before .before .before .before .pre .1) _ (c .before .before .before .before .set-at .ensures) (c .before .before .before .before .before .before .before .before .before .before .before .args .trace .now) (c .before .before .before .count-closing .result) (c .before .before .before .count-closing .ensures) _ (c .before .before .judge .ensures) _ (c .unchanged .ensures) (not-did _ (c .before .match .keys2))
+returns c = closed-refused _ _ _ _ (c .before .before .before .before .before .before .before .before .before .before .before .before .pre .0) (c .before .before .before .before .before .before .before .before .before .before .before .before .pre .1) _ (c .before .before .before .before .set-at .ensures) (c .before .before .before .before .before .before .before .before .before .before .before .before .pre .2) _ (c .before .before .before .before .before .before .before .before .before .before .before .before .pre .3) (c .before .before .before .before .before .before .before .before .before .before .before .before .args .trace .now) (c .before .before .before .count-closing .result) (c .before .before .before .count-closing .ensures) _ (c .before .before .judge .ensures) _ (c .unchanged .ensures) (not-did _ (c .before .match .keys2))
 
 slice-aggregate-closing-effects : tie.Need-slice-aggregate-closing-effects
 slice-aggregate-closing-effects c = search needs
 
 closing-effects-requires : tie.Need-closing-effects-requires
-closing-effects-requires c κs = (c .before .before .before .before .before .before .before .before .before .before .before .before .before .pre .0, closing-within _ _ _ _ (c .before .before .before .before .before .before .before .before .before .before .before .before .before .pre .0) (c .before .before .before .before .before .before .before .before .before .before .before .before .before .pre .1) _ (c .before .before .before .before .before .before .set-at .ensures), search needs)
+closing-effects-requires c κs = (c .before .before .before .before .before .before .before .before .before .before .before .before .before .before .pre .0, closing-within _ _ _ _ (c .before .before .before .before .before .before .before .before .before .before .before .before .before .before .pre .0) (c .before .before .before .before .before .before .before .before .before .before .before .before .before .before .pre .1) _ (c .before .before .before .before .before .before .set-at .ensures), search needs)
 
 clear-requires : tie.Need-clear-requires
 clear-requires c κs = search needs
@@ -42,7 +43,7 @@ ended-requires : tie.Need-ended-requires
 ended-requires c κs = search needs
 
 put-state-requires : tie.Need-put-state-requires
-put-state-requires c κs = numbers-size _ _ _ _ (c .before .before .before .before .before .before .before .before .before .before .before .before .before .before .before .before .before .before .before .before .before .before .before .before .before .before .before .pre .1 .spells)
+put-state-requires c κs = numbers-size _ _ _ _ (c .before .before .before .before .before .before .before .before .before .before .before .before .before .before .before .before .before .before .before .before .before .before .before .before .before .before .before .before .before .before .before .before .pre .1 .spells)
 
 same-length : tie.Need-same-length
 same-length c = refl
@@ -51,16 +52,22 @@ same-length-2 : tie.Need-same-length-2
 same-length-2 c = c .before .before .put-state .kept .0
 
 same-length-3 : tie.Need-same-length-3
-same-length-3 c = c .before .before .before .before .before .before .before .before .before .before .before .clear .kept .0
+same-length-3 c = c .before .before .before .before .before .before .before .before .before .before .before .before .before .before .before .clear .kept .0
 
 same-length-4 : tie.Need-same-length-4
-same-length-4 c = c .before .before .before .before .before .before .before .clear2 .kept .0
+same-length-4 c = c .before .before .before .before .before .before .before .before .before .before .before .clear2 .kept .0
 
 returns-2 : tie.Need-returns-2
-returns-2 c = closed-did _ _ (c .before .before .before .before .before .before .before .before .before .before .before .before .before .before .before .before .before .before .before .before .before .before .before .before .before .before .before .before .before .before .args .internal .now) (c .before .before .before .before .before .before .before .before .before .before .before .before .before .before .before .before .before .before .before .before .before .before .before .before .before .before .before .before .before .before .args .external .now) (c .before .before .before .before .before .before .before .before .before .before .before .before .before .before .before .before .before .before .before .before .before .before .before .before .before .before .before .before .before .before .pre .0) (c .before .before .before .before .before .before .before .before .before .before .before .before .before .before .before .before .before .before .before .before .before .before .before .before .before .before .before .before .before .before .pre .1) _ (c .before .before .before .before .before .before .before .before .before .before .before .before .before .before .before .before .before .before .before .before .before .before .before .set-at .ensures) (c .before .before .before .before .before .before .before .before .before .before .before .before .before .before .before .before .before .before .before .before .before .before .before .before .before .before .before .before .before .before .args .trace .now) (c .before .before .before .before .before .before .before .before .before .before .before .before .before .before .before .before .before .before .before .before .before .before .count-closing .result) (c .before .before .before .before .before .before .before .before .before .before .before .before .before .before .before .before .before .before .before .before .before .before .count-closing .ensures) _ (c .before .before .before .before .before .before .before .before .before .before .before .before .before .before .before .before .before .before .before .before .before .judge .ensures) (c .before .before .before .before .before .before .before .before .before .before .before .before .before .before .before .before .before .before .before .enum-told .given .1) _ (c .before .before .before .ended .ensures) _ _ _ _ (c .before .before .before .before .before .before .before .before .before .before .before .before .before .before .before .before .closing-effects .result) (wrote-filled _ _ _ _ (c .before .before .before .before .before .before .before .before .before .before .before .before .before .before .before .before .closing-effects .ensures)) (c .before .before .before .before .before .before .before .before .before .before .before .clear .ensures) (c .before .before .before .before .before .before .before .clear2 .ensures) (c .before .before .put-state .ensures)
+returns-2 c = closed-did _ _ (c .before .before .before .before .before .before .before .before .before .before .before .before .before .before .before .before .before .before .before .before .before .before .before .before .before .before .before .before .before .before .before .before .before .before .before .args .internal .now) (c .before .before .before .before .before .before .before .before .before .before .before .before .before .before .before .before .before .before .before .before .before .before .before .before .before .before .before .before .before .before .before .before .before .before .before .args .external .now) (c .before .before .before .before .before .before .before .before .before .before .before .before .before .before .before .before .before .before .before .before .before .before .before .before .before .before .before .before .before .before .before .before .before .before .before .pre .0) (c .before .before .before .before .before .before .before .before .before .before .before .before .before .before .before .before .before .before .before .before .before .before .before .before .before .before .before .before .before .before .before .before .before .before .before .pre .1) _ (c .before .before .before .before .before .before .before .before .before .before .before .before .before .before .before .before .before .before .before .before .before .before .before .before .before .before .before .set-at .ensures) (c .before .before .before .before .before .before .before .before .before .before .before .before .before .before .before .before .before .before .before .before .before .before .before .before .before .before .before .before .before .before .before .before .before .before .before .pre .2) (c .before .before .before .before .before .before .before .before .before .before .before .before .before .before .before .before .before .before .before .before .before .before .before .before .before .before .before .before .before .before .before .before .before .before .before .args .clock .now) (c .before .before .before .before .before .before .before .before .before .before .before .before .before .before .before .before .before .before .before .before .before .before .before .before .before .before .before .before .before .before .before .before .before .before .before .pre .3) (c .before .before .before .before .before .before .before .before .before .before .before .before .before .before .before .before .before .before .before .before .before .before .before .before .before .before .before .before .before .before .before .before .before .before .before .args .trace .now) (c .before .before .before .before .before .before .before .before .before .before .before .before .before .before .before .before .before .before .before .before .before .before .before .before .before .before .count-closing .result) (c .before .before .before .before .before .before .before .before .before .before .before .before .before .before .before .before .before .before .before .before .before .before .before .before .before .before .count-closing .ensures) _ (c .before .before .before .before .before .before .before .before .before .before .before .before .before .before .before .before .before .before .before .before .before .before .before .before .before .judge .ensures) (c .before .before .before .before .before .before .before .before .before .before .before .before .before .before .before .before .before .before .before .before .before .before .before .enum-told .given .1) _ (c .before .before .before .ended .ensures) _ _ _ _ _ (c .before .before .before .before .before .before .before .before .before .before .before .before .before .before .before .before .before .before .before .before .closing-effects .result) (wrote-filled _ _ _ _ (c .before .before .before .before .before .before .before .before .before .before .before .before .before .before .before .before .before .before .before .before .closing-effects .ensures)) (c .before .before .before .before .before .before .before .before .before .before .before .before .before .before .before .clear .ensures) (c .before .before .before .before .before .before .before .before .before .before .before .clear2 .ensures) (c .before .before .before .before .before .before .before .drop-pending .ensures) (c .before .before .put-state .ensures)
 
 same-length-5 : tie.Need-same-length-5
-same-length-5 c = c .before .before .before .before .before .before .before .before .before .before .before .before .before .before .before .before .closing-effects .kept .1 .1 .0
+same-length-5 c = c .before .before .before .before .before .before .before .drop-pending .kept .0
+
+drop-pending-requires : tie.Need-drop-pending-requires
+drop-pending-requires c κs = holds-length _ _ (c .before .before .before .before .before .before .before .before .before .before .before .before .before .before .before .before .before .before .before .before .before .before .before .before .before .before .before .pre .3)
+
+same-length-6 : tie.Need-same-length-6
+same-length-6 c = c .before .before .before .before .before .before .before .before .before .before .before .before .before .before .before .before .before .before .before .before .closing-effects .kept .1 .1 .0
 
 pub close-spec : {M : Type 1} → statement M
 close-spec =
@@ -77,10 +84,12 @@ close-spec =
     closing-effects-requires
     clear-requires
     clear-requires-2
+    drop-pending-requires
     ended-requires
     put-state-requires
     same-length-2
     same-length-3
     same-length-4
     same-length-5
+    same-length-6
     returns-2)

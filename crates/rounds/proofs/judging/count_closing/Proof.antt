@@ -1,11 +1,10 @@
-use mathlib.Core.Path.{refl}
 use borrow.Author.Needs.{needs}
 use Rattle.rounds.specs.Judging.{wrote-counted}
 use Rattle.rounds.proofs.judging.count_closing.Statement.{statement}
 use Rattle.rounds.proofs.judging.count_closing.Tie as tie
 
 returns : tie.Need-returns
-returns c = wrote-counted _ _ _ _ _ refl refl (c .before .before .closing-effects .ensures)
+returns c = wrote-counted _ _ _ _ (c .before .before .closing-effects .ensures)
 
 slice-aggregate-closing-effects : tie.Need-slice-aggregate-closing-effects
 slice-aggregate-closing-effects c = search needs

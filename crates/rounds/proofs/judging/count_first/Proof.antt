@@ -1,12 +1,11 @@
-use mathlib.Core.Path.{refl}
 use borrow.Author.Needs.{needs}
 use Rattle.rounds.specs.Judging.{wrote-counted}
-use Rattle.rounds.specs.Traces.{wrote-joined}
+use Rattle.rounds.specs.Traces.{wrote-noted}
 use Rattle.rounds.proofs.judging.count_first.Statement.{statement}
 use Rattle.rounds.proofs.judging.count_first.Tie as tie
 
 returns : tie.Need-returns
-returns c = (wrote-counted _ _ _ _ _ refl refl (c .before .before .before .first-effects .ensures), wrote-joined _ _ _ _ (c .before .before .before .first-effects .ensures) (c .before .before .before .before .before .before .before .before .pre .1))
+returns c = (wrote-counted _ _ _ _ (c .before .before .before .first-effects .ensures), wrote-noted _ _ _ _ (c .before .before .before .first-effects .ensures) (c .before .before .before .before .before .before .before .before .pre .1))
 
 slice-aggregate-first-effects : tie.Need-slice-aggregate-first-effects
 slice-aggregate-first-effects c = search needs

@@ -1,4 +1,4 @@
-use Rattle.rules.specs.Nesting.{at-raise, at-host, at-if, at-fifth, at-elseif, at-else, at-end}
+use Rattle.rules.specs.Nesting.{at-raise, at-host, at-if, at-fifth, at-elseif, at-else, at-end, at-send, at-cancel}
 use borrow.Author.Needs.{needs}
 use Rattle.rules.proofs.branches.step.Statement.{statement}
 use Rattle.rules.proofs.branches.step.Tie as tie
@@ -27,6 +27,12 @@ add-result c = search needs
 enum-told-6 : tie.Need-enum-told-6
 enum-told-6 c = search needs
 
+enum-told-7 : tie.Need-enum-told-7
+enum-told-7 c = search needs
+
+enum-told-8 : tie.Need-enum-told-8
+enum-told-8 c = search needs
+
 returns : tie.Need-returns
 returns c = at-raise _ _ _ (c .enum-told .given .1)
 
@@ -54,6 +60,12 @@ returns-8 c = at-else _ _ _ (c .before .enum-told5 .given .1) (c .if3 .left)
 returns-9 : tie.Need-returns-9
 returns-9 c = at-end _ _ (c .enum-told6 .given .1)
 
+returns-10 : tie.Need-returns-10
+returns-10 c = at-send _ _ _ _ _ (c .enum-told7 .given .1)
+
+returns-11 : tie.Need-returns-11
+returns-11 c = at-cancel _ _ _ (c .enum-told8 .given .1)
+
 pub step-spec : {M : Type 1} → statement M
 step-spec =
     tie.close
@@ -66,6 +78,8 @@ step-spec =
     enum-told-5
     add-result
     enum-told-6
+    enum-told-7
+    enum-told-8
     returns
     returns-2
     returns-3
@@ -74,4 +88,6 @@ step-spec =
     returns-6
     returns-7
     returns-8
-    returns-9)
+    returns-9
+    returns-10
+    returns-11)

@@ -1,7 +1,7 @@
 use mathlib.Core.Path.{refl}
 use native.Mathlib.Omega.{arith}
 use borrow.Author.Needs.{needs}
-use Rattle.rules.specs.Branches.{if-row, elseif-row, test-raise, test-host, test-if, test-elseif, test-else, test-end}
+use Rattle.rules.specs.Branches.{if-row, elseif-row, test-raise, test-host, test-if, test-elseif, test-else, test-end, test-send, test-cancel}
 use Rattle.rules.proofs.branches.test_fits.Statement.{statement}
 use Rattle.rules.proofs.branches.test_fits.Tie as tie
 
@@ -35,6 +35,12 @@ enum-told-3 c = search needs
 enum-told-4 : tie.Need-enum-told-4
 enum-told-4 c = search needs
 
+enum-told-5 : tie.Need-enum-told-5
+enum-told-5 c = search needs
+
+enum-told-6 : tie.Need-enum-told-6
+enum-told-6 c = search needs
+
 returns : tie.Need-returns
 returns c = test-raise _ _ _ (c .enum-told .given .1)
 
@@ -53,6 +59,12 @@ returns-5 c = test-else _ _ (c .enum-told3 .given .1)
 returns-6 : tie.Need-returns-6
 returns-6 c = test-end _ _ (c .enum-told4 .given .1)
 
+returns-7 : tie.Need-returns-7
+returns-7 c = test-send _ _ _ _ _ (c .enum-told5 .given .1)
+
+returns-8 : tie.Need-returns-8
+returns-8 c = test-cancel _ _ _ (c .enum-told6 .given .1)
+
 pub test-fits-spec : {M : Type 1} → statement M
 test-fits-spec =
     tie.close
@@ -67,9 +79,13 @@ test-fits-spec =
     may-be-asked-requires-2
     enum-told-3
     enum-told-4
+    enum-told-5
+    enum-told-6
     returns
     returns-2
     returns-3
     returns-4
     returns-5
-    returns-6)
+    returns-6
+    returns-7
+    returns-8)

@@ -1,5 +1,5 @@
 use borrow.Author.Needs.{needs}
-use Rattle.spell.specs.Actions.{raise-ready, raise-laid, host-laid, if-ready, if-laid, else-if-ready, else-if-laid, else-laid, end-laid}
+use Rattle.spell.specs.Actions.{raise-ready, raise-laid, host-laid, if-ready, if-laid, else-if-ready, else-if-laid, else-laid, end-laid, send-ready, send-laid, cancel-ready, cancel-laid}
 use Rattle.spell.proofs.actions.lay_action.Statement.{statement}
 use Rattle.spell.proofs.actions.lay_action.Tie as tie
 
@@ -63,6 +63,30 @@ same-length-6 c = search needs
 returns-6 : tie.Need-returns-6
 returns-6 c = search (needs, end-laid)
 
+action-cell-requires-3 : tie.Need-action-cell-requires-3
+action-cell-requires-3 c κs = search needs
+
+action-cell-requires-4 : tie.Need-action-cell-requires-4
+action-cell-requires-4 c κs = search needs
+
+lay-send-requires : tie.Need-lay-send-requires
+lay-send-requires c κs = search (needs, send-ready)
+
+same-length-7 : tie.Need-same-length-7
+same-length-7 c = search needs
+
+returns-7 : tie.Need-returns-7
+returns-7 c = search (needs, send-laid)
+
+lay-cancel-requires : tie.Need-lay-cancel-requires
+lay-cancel-requires c κs = search (needs, cancel-ready)
+
+same-length-8 : tie.Need-same-length-8
+same-length-8 c = search needs
+
+returns-8 : tie.Need-returns-8
+returns-8 c = search (needs, cancel-laid)
+
 pub lay-action-spec : {M : Type 1} → statement M
 lay-action-spec =
     tie.close
@@ -86,4 +110,12 @@ lay-action-spec =
     returns-5
     lay-end-requires
     same-length-6
-    returns-6)
+    returns-6
+    action-cell-requires-3
+    action-cell-requires-4
+    lay-send-requires
+    same-length-7
+    returns-7
+    lay-cancel-requires
+    same-length-8
+    returns-8)

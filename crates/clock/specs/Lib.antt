@@ -1,0 +1,15 @@
+pub mod Records
+pub mod Numbers
+pub mod Parts
+pub mod Spelled
+pub mod Tabled
+pub mod Left
+pub mod Closing
+pub mod Putting
+pub mod Sending
+pub mod Removing
+pub mod Cancelling
+pub mod Applying
+pub mod Joining
+pub mod Judging
+pub mod Judged

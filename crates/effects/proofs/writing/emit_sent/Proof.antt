@@ -1,0 +1,54 @@
+use borrow.Author.Needs.{needs}
+use mathlib.Core.Path.{refl}
+use native.Mathlib.Omega.{arith}
+use Rattle.effects.specs.Trace.{wrote-length, wrote-joins}
+use Rattle.effects.specs.Kinds.{sent-wrote}
+use Rattle.effects.proofs.writing.emit_sent.Statement.{statement}
+use Rattle.effects.proofs.writing.emit_sent.Tie as tie
+
+returns : tie.Need-returns
+returns c = sent-wrote _ _ _ _ _ _ refl refl refl _ _ _ (c .before .before .before .before .before .before .before .before .put .ensures) (c .before .before .before .before .put-timer .ensures)
+
+same-length : tie.Need-same-length
+same-length c = wrote-length _ _ _ _ _ (returns c)
+
+same-length-2 : tie.Need-same-length-2
+same-length-2 c = wrote-joins _ _ _ _ _ (returns c)
+
+mul-put : tie.Need-mul-put
+mul-put c = search needs
+
+add-put : tie.Need-add-put
+add-put c = search needs
+
+put-requires : tie.Need-put-requires
+put-requires c κs = search needs
+
+mul-put-timer : tie.Need-mul-put-timer
+mul-put-timer c = search needs
+
+add-put-timer : tie.Need-add-put-timer
+add-put-timer c = search needs
+
+put-timer-requires : tie.Need-put-timer-requires
+put-timer-requires c κs = let m = c .before .before .before .before .before .before .before .pre .1 .timers in search needs
+
+add-t14 : tie.Need-add-t14
+add-t14 c = search needs
+
+add-t15 : tie.Need-add-t15
+add-t15 c = search needs
+
+pub emit-sent-spec : {M : Type 1} → statement M
+emit-sent-spec = tie.close (tie.spec
+    mul-put
+    add-put
+    put-requires
+    mul-put-timer
+    add-put-timer
+    put-timer-requires
+    add-t14
+    add-t15
+    same-length
+    same-length-2
+    returns)
