@@ -170,8 +170,9 @@ int main(void)
         void (*call)(void);
     } all[] = {{"read", read_text}, {"read_with", read_with}, {"write", write_back}, {"sizes", sizes}, {"compile", compile}, {"check", check_chart}, {"room", room}, {"fingerprint", fingerprint}, {"start", start},
                {"post", post}, {"run", run}, {"advance", advance}, {"step", step}, {"perform", perform}};
-    /* A page more than the calls may take, for what the process takes at the top of its stack and for the linker. A read works on its stack. */
-    const size_t enough = MOST_STACK + PAGE;
+    /* Two pages more than the calls may take, for what the process takes at the top of its stack, for the linker, and for a read with a scratch, which takes more than the others. A read without one works on its
+     * stack. */
+    const size_t enough = MOST_STACK + 2 * PAGE;
     size_t i, stack;
     int is_left, how;
     below = (uint8_t *)mmap(NULL, BELOW + PAGE + LARGEST_STACK, PROT_READ | PROT_WRITE, MAP_SHARED | MAP_ANONYMOUS, -1, 0);
