@@ -21,6 +21,9 @@ pub fn answer_number(a: Answer) -> u32
         Answer::NoRoom => 10,
         Answer::SessionEnded => 11,
         Answer::ClockBack => 14,
+        Answer::JournalFull => 15,
+        Answer::TooMany => 16,
+        Answer::HasHistory => 17,
     }
 }
 

@@ -10,7 +10,7 @@ use lib.ListN.{length, take, length-append}
 use lib.Seq.{take-take}
 use borrow.Author.Tests.{eqb-true}
 use Rattle.definition.specs.declared.Answer.{Answer}
-use Rattle.definition.specs.declared.Answer.the-variants.{Done, Size, Names, Tree, Lists, Transitions, NotAName, Full, BadChart, BadSession, NoRoom, SessionEnded, ClockBack}
+use Rattle.definition.specs.declared.Answer.the-variants.{Done}
 use Rattle.definition.specs.Rows.{union}
 use Rattle.definition.specs.Chart.{Chart}
 use Rattle.definition.specs.Tables.{slotSize, rowCount, transitionCount, nameCount, tablesSize, chartOf}
@@ -22,6 +22,7 @@ use Rattle.laws.specs.Bools.{and-left, and-right, and4, and7}
 use Rattle.laws.specs.Sets.{ascends-those, ascends-union}
 use Rattle.laws.specs.Lists.{same-eq}
 use Rattle.laws.specs.Orders.{union-none}
+use Rattle.laws.specs.Answers.{answer-done}
 use Rattle.accepted.specs.Sound.{Sound, verdict-rule1, verdict-rule2, verdict-sound}
 use Rattle.tables.specs.Ranges.{InTables, rule1-tables}
 use Rattle.rowset.specs.Member.{rowsOf}
@@ -123,23 +124,6 @@ rule1-sizes numbers names room nameRoom h =
     let p = and4 (eqb (length numbers) (tablesSize numbers)) (eqb (length names) (nameCount numbers * slotSize)) (eqb room (compiledSize numbers)) (eqb nameRoom (length names))
     (and7 (countsFit numbers) (sizesFit numbers names room nameRoom) _ _ _ _ _ h .1) in
     record { tables = eqb-true _ _ (p .0); slots = eqb-true _ _ (p .1); place = eqb-true _ _ (p .2); namePlace = eqb-true _ _ (p .3) }
-
--- 0 is the number of one answer alone
-pub answer-done : (a : Answer) → answerNo a ≡ 0 → a ≡ Done
-unfolding answerNo
-answer-done Done h = refl
-answer-done Size h = absurd (omega arith)
-answer-done Names h = absurd (omega arith)
-answer-done Tree h = absurd (omega arith)
-answer-done Lists h = absurd (omega arith)
-answer-done Transitions h = absurd (omega arith)
-answer-done NotAName h = absurd (omega arith)
-answer-done Full h = absurd (omega arith)
-answer-done BadChart h = absurd (omega arith)
-answer-done BadSession h = absurd (omega arith)
-answer-done NoRoom h = absurd (omega arith)
-answer-done SessionEnded h = absurd (omega arith)
-answer-done ClockBack h = absurd (omega arith)
 
 module _ (place names : List ℕ) (h : isCompiled place names ≡ true) where
   kept : verdict (ownNumbers place) names (length place) (length names) ≡ Done

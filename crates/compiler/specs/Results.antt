@@ -20,12 +20,13 @@ use Rattle.laws.specs.Bools.{clash, not-so, and-left}
 use Rattle.laws.specs.Sets.{mem-union}
 use Rattle.laws.specs.Passes.{drop-end}
 use Rattle.laws.specs.Parts.{part-end}
+use Rattle.laws.specs.Answers.{answer-done}
 use Rattle.accepted.specs.Sound.{verdict-rule1, verdict-rule2, verdict-sound}
 use Rattle.tables.specs.Ranges.{InTables, rule1-tables}
 use Rattle.rules3.specs.Parents.{tree-kept, tree-of}
 use Rattle.rules3.specs.Ancestry.{setOf, Climbed}
 use Rattle.rules.specs.Verdict.{firstThree, three-3, three-parts, unbroken}
-use Rattle.chart.specs.Own.{Sizes, rule1-sizes, answer-done, compiled-ready}
+use Rattle.chart.specs.Own.{Sizes, rule1-sizes, compiled-ready}
 use Rattle.chart.specs.Readers.{counts-fit}
 use Rattle.compiler.specs.Compilable.{Compilable, ColumnsRoom}
 use Rattle.compiler.specs.Whole.{lent, back, lent-is, back-is}

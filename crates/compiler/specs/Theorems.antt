@@ -19,9 +19,10 @@ use Rattle.definition.specs.Answers.{answerNo}
 use Rattle.definition.specs.Compiled.{columns, compiled, ownNumbers, isCompiled}
 use Rattle.laws.specs.Bools.{and-left, and-right}
 use Rattle.laws.specs.Lists.{same-eq, same-self}
+use Rattle.laws.specs.Answers.{answer-done}
 use Rattle.chart.specs.Agree.{agree-size}
 use Rattle.chart.specs.Columns.{length-column}
-use Rattle.chart.specs.Own.{answer-done, own-chart, compiled-ready}
+use Rattle.chart.specs.Own.{own-chart, compiled-ready}
 use Rattle.compiler.specs.Results.{Compiles, verdict-sizes}
 
 -- ---- from a lent chart to the place

@@ -3,7 +3,7 @@ use Prim.Native.Nat.{ℕ}
 use Rattle.definition.specs.declared.Mode.{Mode}
 use Rattle.definition.specs.declared.Mode.the-variants.{Running, Closing, Ended}
 use Rattle.definition.specs.declared.Answer.{Answer}
-use Rattle.definition.specs.declared.Answer.the-variants.{Done, Size, Names, Tree, Lists, Transitions, NotAName, Full, BadChart, BadSession, NoRoom, SessionEnded, ClockBack}
+use Rattle.definition.specs.declared.Answer.the-variants.{Done, Size, Names, Tree, Lists, Transitions, NotAName, Full, BadChart, BadSession, NoRoom, SessionEnded, ClockBack, JournalFull, TooMany, HasHistory}
 use Rattle.definition.specs.declared.Status.{Status}
 use Rattle.definition.specs.declared.Status.the-variants.{More, Idle, Ended as HasEnded, Refused}
 
@@ -14,7 +14,7 @@ modeNo Ended = 0
 modeNo Running = 1
 modeNo Closing = 2
 
--- the table of answers (74 to 82); 14 is R-9's; 12 is given by the reader of texts, 13 by the writer
+-- the table of answers (74 to 82); 14 is R-9's, 15 R-10's, 16 and 17 are R-11's; 12 is given by the reader of texts, 13 by the writer
 unfoldable pub answerNo : Answer → ℕ
 answerNo Done = 0
 answerNo Size = 1
@@ -29,6 +29,9 @@ answerNo BadSession = 9
 answerNo NoRoom = 10
 answerNo SessionEnded = 11
 answerNo ClockBack = 14
+answerNo JournalFull = 15
+answerNo TooMany = 16
+answerNo HasHistory = 17
 
 -- the statuses that the paper names by a word stand clear of its numbers
 unfoldable pub statusNo : Status → ℕ

@@ -18,9 +18,10 @@ use Rattle.follower.specs.Calls.{Call, starts, Outcome, startedOutcome, follow,
 use Rattle.follower.specs.Legal.{WellFormed, WellTimed}
 use Rattle.definition.specs.Compiled.{ownNumbers, isCompiled}
 use Rattle.laws.specs.Simulation.{Every, every-first}
+use Rattle.laws.specs.Answers.{answer-done}
 use Rattle.theory.specs.Shown.{takenIn, DisjointExits}
 use Rattle.theory.specs.Theorems.{EveryAfter, start-keeps, calls-keep, all-calls-keep, round-keeps, round-disjoint}
-use Rattle.chart.specs.Own.{answer-done, compiled-ready}
+use Rattle.chart.specs.Own.{compiled-ready}
 use Rattle.compiler.specs.Results.{Compiles, verdict-sizes}
 use Rattle.compiler.specs.Theorems.{names-written, place-written, check-compiled}
 use Rattle.session.specs.declared.Session.{Session}

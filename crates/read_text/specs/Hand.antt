@@ -9,9 +9,10 @@ use lib.ListN.{length, take, drop, length-append}
 use lib.Seq.{take-at}
 use borrow.Author.Tests.{lt-leb, le-leb}
 use Rattle.definition.specs.declared.Answer.{Answer}
-use Rattle.definition.specs.declared.Answer.the-variants.{Done, Size, Names, Tree, Lists, Transitions, NotAName, Full, BadChart, BadSession, NoRoom, SessionEnded, ClockBack}
+use Rattle.definition.specs.declared.Answer.the-variants.{Done}
 use Rattle.definition.specs.Rules.{keepsRules}
 use Rattle.definition.specs.Answers.{answerNo}
+use Rattle.laws.specs.Answers.{answer-done}
 use Rattle.reading.specs.Tags.{tagsOf}
 use Rattle.reading.specs.Content.{contentOf, slotsOf}
 use Rattle.reading.specs.Layout.{numbersOf, namesOf}
@@ -113,28 +114,12 @@ module _ (text slots : List ℕ) (m : ℕ) (work : List ℕ) (size : ℕ) (names
                   ap (λ (x : Read). outcomeOf x place namePlace) d ∙
                   sym (call-refused text place namePlace (h .well .levels) (h .well .ids) (h .well .count) (h .well .is) k has-room (sym (q ∙ ap answerNo verdict)))
 
-          done : (b : Answer) → answerNo b ≡ 0 → b ≡ Done
-          unfolding answerNo
-          done Done q = refl
-          done Size q = absurd (omega arith)
-          done Names q = absurd (omega arith)
-          done Tree q = absurd (omega arith)
-          done Lists q = absurd (omega arith)
-          done Transitions q = absurd (omega arith)
-          done NotAName q = absurd (omega arith)
-          done Full q = absurd (omega arith)
-          done BadChart q = absurd (omega arith)
-          done BadSession q = absurd (omega arith)
-          done NoRoom q = absurd (omega arith)
-          done SessionEnded q = absurd (omega arith)
-          done ClockBack q = absurd (omega arith)
-
           pub hand-tables : n ≡ 0 → (place' namePlace' : List ℕ) → place' ≡ take size work ++ drop size place → namePlace' ≡ take (m * 64) names' ++ drop (m * 64) namePlace →
               outcomeOf (record { answer = 0; offset = 0; cells = size; bytes = m * 64 }) place' namePlace' ≡ callOf text place namePlace
           hand-tables z place' namePlace' p q =
               outcome (h .size-is) (sym hand-bytes) (p ∙ ap₂ (λ (x : List ℕ) (k : ℕ). x ++ drop k place) (h .tables-are) (h .size-is))
               (q ∙ ap₂ (λ (x : List ℕ) (k : ℕ). x ++ drop k namePlace) names-are (sym hand-bytes)) ∙
-              sym (call-tables text place namePlace (h .well .levels) (h .well .ids) (h .well .count) (h .well .is) has-room (sym verdict ∙ done a (sym number ∙ z)))
+              sym (call-tables text place namePlace (h .well .levels) (h .well .ids) (h .well .count) (h .well .is) has-room (sym verdict ∙ answer-done a (sym number ∙ z)))
             where
               outcome : {c c' b b' : ℕ} {u u' v v' : List ℕ} → c ≡ c' → b ≡ b' → u ≡ u' → v ≡ v' →
                   _≡_ {A = Outcome} (record { answer = 0; offset = 0; cells = c; bytes = b; numbers = u; names = v }) (record { answer = 0; offset = 0; cells = c'; bytes = b'; numbers = u'; names = v' })

@@ -12,7 +12,7 @@ use Rattle.definition.specs.declared.Answer.the-variants.{Done}
 use Rattle.definition.specs.Answers.{answerNo}
 use Rattle.definition.specs.Rules.{keepsRules}
 use Rattle.laws.specs.Bools.{and-true, and-left, and-right}
-use Rattle.chart.specs.Own.{answer-done}
+use Rattle.laws.specs.Answers.{answer-done}
 use Rattle.reading.specs.Layout.{tables, readOf, content}
 use Rattle.reading.specs.Print.{print}
 use Rattle.writing.specs.Calls.{Outcome, longest, textOf, outcome, judged, callOf}

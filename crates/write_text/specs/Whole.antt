@@ -10,7 +10,7 @@ use lib.ListN.{length, drop, set, length-set}
 use lib.Seq.{sets, sets-eq}
 use borrow.Author.Tests.{leb-true, leb-false, le-leb, lt-leb, lt-ltb}
 use Rattle.laws.specs.Bools.{bool-case}
-use Rattle.chart.specs.Own.{answer-done}
+use Rattle.laws.specs.Answers.{answer-done}
 use Rattle.definition.specs.declared.Answer.{Answer}
 use Rattle.definition.specs.Rules.{keepsRules}
 use Rattle.definition.specs.Answers.{answerNo}

@@ -6,7 +6,7 @@ use mathlib.Core.Option.{Option, none, some}
 use Prim.Native.Nat.{ℕ, zero, suc}
 use native.Mathlib.Omega.{arith}
 use Rattle.definition.specs.declared.Answer.{Answer}
-use Rattle.definition.specs.declared.Answer.the-variants.{Done, Size, Names, Tree, Lists, Transitions, NotAName, Full, BadChart, BadSession, NoRoom, SessionEnded, ClockBack}
+use Rattle.definition.specs.declared.Answer.the-variants.{Done}
 use Rattle.definition.specs.Answers.{answerNo}
 use Rattle.definition.specs.Rules.{keepsRules}
 use Rattle.grammar.specs.Grammar.{inGrammar, grammarFault}
@@ -16,6 +16,7 @@ use Rattle.reading.specs.Content.{contentOf, slotsOf}
 use Rattle.reading.specs.Layout.{numbersOf, namesOf, Reading, faulty, refused, tables, judged, meaning, searched, readOf, content}
 use Rattle.reading.specs.Print.{print}
 use Rattle.laws.specs.Bools.{no}
+use Rattle.laws.specs.Answers.{answer-done}
 use Rattle.written.specs.Accepted.{alike}
 
 -- ---- tables that are read keep the rules
@@ -34,22 +35,6 @@ namesIn : Reading → List ℕ
 namesIn (faulty at) = []
 namesIn (refused n) = []
 namesIn (tables numbers names) = names
-
-answer-done : (a : Answer) → answerNo a ≡ 0 → a ≡ Done
-unfolding answerNo
-answer-done Done h = refl
-answer-done Size h = absurd (omega arith)
-answer-done Names h = absurd (omega arith)
-answer-done Tree h = absurd (omega arith)
-answer-done Lists h = absurd (omega arith)
-answer-done Transitions h = absurd (omega arith)
-answer-done NotAName h = absurd (omega arith)
-answer-done Full h = absurd (omega arith)
-answer-done BadChart h = absurd (omega arith)
-answer-done BadSession h = absurd (omega arith)
-answer-done NoRoom h = absurd (omega arith)
-answer-done SessionEnded h = absurd (omega arith)
-answer-done ClockBack h = absurd (omega arith)
 
 judged-tables : (k : ℕ) (a b numbers names : List ℕ) → judged k a b ≡ tables numbers names → (k ≡ 0) × (a ≡ numbers) × (b ≡ names)
 unfolding isTables numbersIn namesIn

@@ -96,6 +96,27 @@ returns-13 : tie.Need-returns-13
 unfolding answerNo
 returns-13 c = sym (ap answerNo (c .enum-told13 .given .1))
 
+enum-told-14 : tie.Need-enum-told-14
+enum-told-14 c = search needs
+
+returns-14 : tie.Need-returns-14
+unfolding answerNo
+returns-14 c = sym (ap answerNo (c .enum-told14 .given .1))
+
+enum-told-15 : tie.Need-enum-told-15
+enum-told-15 c = search needs
+
+returns-15 : tie.Need-returns-15
+unfolding answerNo
+returns-15 c = sym (ap answerNo (c .enum-told15 .given .1))
+
+enum-told-16 : tie.Need-enum-told-16
+enum-told-16 c = search needs
+
+returns-16 : tie.Need-returns-16
+unfolding answerNo
+returns-16 c = sym (ap answerNo (c .enum-told16 .given .1))
+
 pub answer-number-spec : {M : Type 1} → statement M
 answer-number-spec =
     tie.close
@@ -113,6 +134,9 @@ answer-number-spec =
     enum-told-11
     enum-told-12
     enum-told-13
+    enum-told-14
+    enum-told-15
+    enum-told-16
     returns
     returns-2
     returns-3
@@ -125,4 +149,7 @@ answer-number-spec =
     returns-10
     returns-11
     returns-12
-    returns-13)
+    returns-13
+    returns-14
+    returns-15
+    returns-16)

@@ -1,0 +1,3 @@
+pub mod Journal
+pub mod Recorded
+pub mod Open
