@@ -4,17 +4,25 @@
 use crate::agreement;
 use crate::coverage::Coverage;
 use crate::invariants::Found;
+use crate::journal_agreement;
 use crate::show;
 
 mod answers;
 mod by_hand;
 mod cases;
 mod clocks;
+mod cuts;
+mod damaged_journals;
+mod desk;
 mod input;
+mod journals;
+mod lent_lists;
 mod names;
 mod near_misses;
 mod readings;
+mod replays;
 mod runs;
+mod step_backs;
 mod text;
 mod worked;
 
@@ -33,6 +41,7 @@ impl Check {
 /// The first seed of the agreement run, its charts and how many of them are one check.
 pub const FIRST_SEED: u64 = 1;
 pub const CHARTS: u64 = 20_000;
+pub const JOURNALS: u64 = 3_000;
 pub const CHARTS_OF_CHECK: u64 = 100;
 
 /// All small checks.
@@ -42,6 +51,12 @@ pub fn small() -> Vec<Check> {
     checks.extend(input::checks());
     checks.extend(answers::checks());
     checks.extend(clocks::checks());
+    checks.extend(journals::checks());
+    checks.extend(replays::checks());
+    checks.extend(step_backs::checks());
+    checks.extend(lent_lists::checks());
+    checks.extend(damaged_journals::checks());
+    checks.extend(cuts::checks());
     checks.extend(runs::checks());
     checks.extend(readings::checks());
     checks.extend(near_misses::checks());
@@ -52,19 +67,32 @@ pub fn small() -> Vec<Check> {
     checks
 }
 
-/// The agreement of generated charts, in pieces.
+/// The agreement of generated charts, and of those with journals, in pieces.
 pub fn agreement() -> Vec<Check> {
-    (0..CHARTS / CHARTS_OF_CHECK)
+    let charts = pieces("agreement", CHARTS, agree_on);
+    let journals = pieces("journals", JOURNALS, |seed, coverage| journal_agreement::try_seed(seed, coverage));
+    [journals, charts].into_iter().flatten().collect()
+}
+
+fn pieces(
+    name: &str,
+    seeds: u64,
+    try_seed: impl Fn(u64, &mut Coverage) -> Found + Copy + Send + Sync + 'static,
+) -> Vec<Check> {
+    (0..seeds / CHARTS_OF_CHECK)
         .map(|piece| {
             let first = FIRST_SEED + piece * CHARTS_OF_CHECK;
-            let name = format!("agreement: seeds {first} to {}", first + CHARTS_OF_CHECK - 1);
-            Check { name, run: Box::new(move |coverage| agree_on(first, coverage)) }
+            let last = first + CHARTS_OF_CHECK - 1;
+            let name = format!("{name}: seeds {first} to {last}");
+            let run =
+                move |coverage: &mut Coverage| (first..=last).try_for_each(|seed| try_seed(seed, coverage));
+            Check { name, run: Box::new(run) }
         })
         .collect()
 }
 
 /// What a great run must have met, lest it prove little.
-const MUST_HAPPEN: [&str; 50] = [
+const MUST_HAPPEN: [&str; 77] = [
     "blocks that no active row would decide otherwise",
     "blocks that the configuration after the round would decide otherwise",
     "blocks that the configuration before the round would decide otherwise",
@@ -72,14 +100,17 @@ const MUST_HAPPEN: [&str; 50] = [
     "candidates removed by conflicts",
     "charts of more rows than a word has bits",
     "clock calls at 2^62",
+    "clock calls entered",
     "clock calls refused with 11",
     "clock calls refused with 14",
+    "clock calls refused with 15",
     "clock calls that join out of order of sending",
     "clock calls that leave due sends pending",
     "clock calls that stand still and join",
     "clock calls with equal due times",
     "closing rounds",
     "closing rounds with sends or cancels",
+    "cuts whose second run finds the journal full",
     "damaged records",
     "deep histories restored",
     "default blocks not run, parent not entered",
@@ -94,9 +125,14 @@ const MUST_HAPPEN: [&str; 50] = [
     "listed histories that fell, of a row below",
     "listed histories that fell, of the owner",
     "listed histories that the same round stored",
+    "posts entered",
     "posts refused with 11",
+    "posts refused with 15",
     "posts refused with 6",
     "posts refused with 7",
+    "replays",
+    "replays of 0 where no start can be",
+    "replays refused with 10",
     "rounds or starts refused with 10",
     "rounds or starts refused with 7",
     "rounds or starts refused with 7 for the table alone",
@@ -104,11 +140,30 @@ const MUST_HAPPEN: [&str; 50] = [
     "rounds where selection order is not number order",
     "rounds whose entry reads history of the same round",
     "rounds with several transitions",
+    "runs cut behind their last round",
+    "runs cut in two",
+    "runs cut in two that say 7",
+    "runs entered that end the session",
+    "runs entered that say 10",
+    "runs entered that say 7",
+    "runs entered with no round",
+    "runs of an ended session, not entered",
+    "runs that say 15",
     "sends that a later round cancels",
     "sends that their own round cancels",
     "sessions that end with pending sends",
     "shallow histories restored",
     "small charts compared with brute force",
+    "starts that empty a journal",
+    "step backs at 0",
+    "step backs from a full journal",
+    "step backs over a clock call",
+    "step backs over a post",
+    "step backs over a run",
+    "step backs over the end of a session",
+    "step backs over the first entry",
+    "step backs refused with 10",
+    "step backs to a run that wrote",
     "stored sets found right",
     "stored sets found wrong",
     "transitions chosen by several",
@@ -127,16 +182,13 @@ pub fn enough_happened(coverage: &Coverage) -> Found {
     Ok(())
 }
 
-fn agree_on(first: u64, coverage: &mut Coverage) -> Found {
-    for seed in first..first + CHARTS_OF_CHECK {
-        agreement::try_seed(seed, coverage).map_err(|failure| {
-            format!(
-                "seed {seed}: {}: chart {{{}}} calls {{{}}}",
-                failure.what,
-                show::chart(&failure.chart),
-                show::calls(&failure.calls)
-            )
-        })?;
-    }
-    Ok(())
+fn agree_on(seed: u64, coverage: &mut Coverage) -> Found {
+    agreement::try_seed(seed, coverage).map_err(|failure| {
+        format!(
+            "seed {seed}: {}: chart {{{}}} calls {{{}}}",
+            failure.what,
+            show::chart(&failure.chart),
+            show::calls(&failure.calls)
+        )
+    })
 }

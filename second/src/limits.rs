@@ -1,5 +1,6 @@
 //! Every limit, in one place, so that a larger chart is a change of this file. Document 01 has them but
-//! for the first three, which are request R-8's, those of blocks, which are R-5's, and the clock's, which are R-9's.
+//! for the first three, which are request R-8's, those of blocks, which are R-5's, the clock's, which are R-9's, the
+//! journal's, which is R-10's, and the flat table's, which are R-11's.
 
 /// "Raise rows to 256, transitions to 512 and name slots to 768."
 pub const MAX_ROWS: u64 = 256;
@@ -71,5 +72,13 @@ pub const QUEUE_NAMES: usize = 32;
 pub const MAX_PENDING: usize = 32;
 /// "The host gives the clock, ticks up to 2^62".
 pub const MAX_TICKS: u64 = 1 << 62;
+/// "A run is given a number of rounds from 0 to 4,294,967,295".
+pub const MAX_ROUNDS: u64 = 4_294_967_295;
+/// "Keep a journal of at most 512 accepted posts, clock calls and runs".
+pub const MAX_ENTRIES: usize = 512;
+/// "a caller's list of at most 32 event names".
+pub const MAX_LISTED_NAMES: usize = 32;
+/// "New refusal 16 is given exactly when more than 256 are reachable so".
+pub const MAX_CONFIGURATIONS: usize = 256;
 /// A session keeps a place for stored history for as many rows as a row set can hold.
 pub const HISTORY_PLACES: usize = ROW_SET_ROWS;

@@ -22,6 +22,9 @@ pub const BAD_SESSION: u64 = 9;
 pub const NO_TRACE_ROOM: u64 = 10;
 pub const SESSION_ENDED: u64 = 11;
 pub const BAD_TICKS: u64 = 14;
+pub const JOURNAL_FULL: u64 = 15;
+pub const TOO_MANY_CONFIGURATIONS: u64 = 16;
+pub const HAS_HISTORY: u64 = 17;
 
 pub const STATUS_MORE: u64 = 100;
 pub const STATUS_IDLE: u64 = 101;

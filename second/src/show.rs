@@ -2,6 +2,7 @@
 
 use crate::calls::Call;
 use crate::numbers::RowNumber;
+use crate::recorded_calls::RecordedCall;
 use crate::tables::{Action, Chart, Row, Transition};
 
 fn text(bytes: &[u8]) -> String {
@@ -74,12 +75,23 @@ pub fn chart(chart: &Chart) -> String {
     rows.chain(transitions).collect::<Vec<_>>().join("; ")
 }
 
-pub fn calls(calls: &[Call]) -> String {
-    let one = |call: &Call| match call {
+fn call(call: &Call) -> String {
+    match call {
         Call::Start { room } => format!("start in {room}"),
         Call::Post { name } => format!("post {:?}", text(name)),
         Call::Clock { ticks } => format!("clock {ticks}"),
         Call::Run { rounds, room } => format!("run {rounds} in {room}"),
+    }
+}
+
+pub fn calls(calls: &[Call]) -> String {
+    calls.iter().map(call).collect::<Vec<_>>().join("; ")
+}
+
+pub fn recorded_calls(calls: &[RecordedCall]) -> String {
+    let one = |recorded: &RecordedCall| match recorded {
+        RecordedCall::Call(one) => call(one),
+        RecordedCall::StepBack { room } => format!("step back in {room}"),
     };
     calls.iter().map(one).collect::<Vec<_>>().join("; ")
 }
