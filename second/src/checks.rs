@@ -3,6 +3,7 @@
 
 use crate::agreement;
 use crate::coverage::Coverage;
+use crate::flat_agreement;
 use crate::invariants::Found;
 use crate::journal_agreement;
 use crate::show;
@@ -14,6 +15,7 @@ mod clocks;
 mod cuts;
 mod damaged_journals;
 mod desk;
+mod flats;
 mod input;
 mod journals;
 mod lent_lists;
@@ -42,6 +44,7 @@ impl Check {
 pub const FIRST_SEED: u64 = 1;
 pub const CHARTS: u64 = 20_000;
 pub const JOURNALS: u64 = 3_000;
+pub const FLAT_TABLES: u64 = 4_000;
 pub const CHARTS_OF_CHECK: u64 = 100;
 
 /// All small checks.
@@ -57,6 +60,7 @@ pub fn small() -> Vec<Check> {
     checks.extend(lent_lists::checks());
     checks.extend(damaged_journals::checks());
     checks.extend(cuts::checks());
+    checks.extend(flats::checks());
     checks.extend(runs::checks());
     checks.extend(readings::checks());
     checks.extend(near_misses::checks());
@@ -67,11 +71,12 @@ pub fn small() -> Vec<Check> {
     checks
 }
 
-/// The agreement of generated charts, and of those with journals, in pieces.
+/// The agreement of generated charts, of those with journals and of flat tables, in pieces.
 pub fn agreement() -> Vec<Check> {
     let charts = pieces("agreement", CHARTS, agree_on);
     let journals = pieces("journals", JOURNALS, |seed, coverage| journal_agreement::try_seed(seed, coverage));
-    [journals, charts].into_iter().flatten().collect()
+    let flats = pieces("flat tables", FLAT_TABLES, |seed, coverage| flat_agreement::try_seed(seed, coverage));
+    [journals, charts, flats].into_iter().flatten().collect()
 }
 
 fn pieces(
@@ -92,13 +97,16 @@ fn pieces(
 }
 
 /// What a great run must have met, lest it prove little.
-const MUST_HAPPEN: [&str; 77] = [
+const MUST_HAPPEN: [&str; 83] = [
     "blocks that no active row would decide otherwise",
     "blocks that the configuration after the round would decide otherwise",
     "blocks that the configuration before the round would decide otherwise",
     "cancels",
     "candidates removed by conflicts",
+    "charts flattened",
     "charts of more rows than a word has bits",
+    "charts of more than 256 configurations",
+    "charts with a history, not flattened",
     "clock calls at 2^62",
     "clock calls entered",
     "clock calls refused with 11",
@@ -110,6 +118,7 @@ const MUST_HAPPEN: [&str; 77] = [
     "clock calls with equal due times",
     "closing rounds",
     "closing rounds with sends or cancels",
+    "configurations with a final under root",
     "cuts whose second run finds the journal full",
     "damaged records",
     "deep histories restored",
@@ -117,6 +126,8 @@ const MUST_HAPPEN: [&str; 77] = [
     "default blocks run",
     "done events of parallels",
     "done events of states",
+    "eventless entries beside names that lead elsewhere",
+    "flat tables of more than 20 configurations",
     "full tables that a later cancel would empty",
     "histories that fell to their default lists",
     "internal transitions that stay inside",

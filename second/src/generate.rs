@@ -16,11 +16,13 @@ use crate::tables::{Action, Chart, Kind, Transition, TransitionType};
 use crate::tree::Tree;
 
 mod journals;
+mod regions;
 mod timers;
 
 pub use journals::{
     absurd_journal, calls_at_full_journal, flavour_for_journals, recorded_calls, unasked_journal,
 };
+pub use regions::regions;
 pub use timers::{clock, has_sends, later, timed};
 
 /// What a chart shall be like. The percentages say how often.

@@ -20,6 +20,8 @@ pub mod damage;
 pub mod encode;
 pub mod examples;
 pub mod faults;
+pub mod flat;
+pub mod flat_agreement;
 pub mod follower;
 pub mod generate;
 pub mod invariants;
