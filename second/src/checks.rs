@@ -21,6 +21,7 @@ mod journals;
 mod lent_lists;
 mod names;
 mod near_misses;
+mod plain_cases;
 mod readings;
 mod replays;
 mod runs;
@@ -61,6 +62,7 @@ pub fn small() -> Vec<Check> {
     checks.extend(damaged_journals::checks());
     checks.extend(cuts::checks());
     checks.extend(flats::checks());
+    checks.extend(plain_cases::checks());
     checks.extend(runs::checks());
     checks.extend(readings::checks());
     checks.extend(near_misses::checks());
