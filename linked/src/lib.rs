@@ -3,9 +3,15 @@
 pub mod calls;
 pub mod compare;
 pub mod exports;
+#[cfg(feature = "flat")]
+pub mod flats;
 pub mod library;
 pub mod lists;
 pub mod posts;
+#[cfg(any(feature = "journal", feature = "flat"))]
+pub mod proposed;
+#[cfg(feature = "journal")]
+pub mod recorded;
 pub mod seeds;
 pub mod sessions;
 pub mod story;

@@ -3,8 +3,12 @@
 
 use linked::calls;
 use linked::compare::{self, Counts, Kinds};
+#[cfg(feature = "flat")]
+use linked::flats;
 use linked::library;
 use linked::posts;
+#[cfg(feature = "journal")]
+use linked::recorded;
 use linked::seeds::{try_all, Tally};
 use linked::story;
 use linked::texts;
@@ -55,7 +59,11 @@ fn main() -> ExitCode {
     compare_posts(seeds.clone(), &mut outcome);
     compare_calls(seeds.clone(), &mut outcome);
     compare_texts(seeds.clone(), &mut outcome);
-    compare_written(seeds, &mut outcome);
+    compare_written(seeds.clone(), &mut outcome);
+    #[cfg(feature = "journal")]
+    compare_recorded(seeds.clone(), &mut outcome);
+    #[cfg(feature = "flat")]
+    compare_flats(seeds, &mut outcome);
     outcome.add(1, story::play().err().into_iter().collect(), Vec::new());
     outcome.add(1, is_of_this_number().err().into_iter().collect(), Vec::new());
     let Outcome { passed, mut failures } = outcome;
@@ -200,6 +208,53 @@ fn compare_written(seeds: Range<u64>, outcome: &mut Outcome) {
     for (what, count) in kinds.iter().zip(counts.kinds) {
         println!("{count:>10}  charts written that have {what}");
         demands.push((format!("a written chart that has {what}"), count >= OFTEN));
+    }
+    outcome.add(count, failures, Vec::new());
+    outcome.demand(seeds.end - seeds.start >= ENOUGH, demands);
+}
+
+/// Lists of calls with a journal and replays, a tenth of the seeds: every answer and status that each can have.
+#[cfg(feature = "journal")]
+fn compare_recorded(seeds: Range<u64>, outcome: &mut Outcome) {
+    let count = (seeds.end - seeds.start).div_ceil(10);
+    let none = recorded::Counts::none();
+    let (counts, failures) = try_all(seeds.start..seeds.start + count, none, recorded::try_seed);
+    let mut demands = Vec::new();
+    let kinds: [(&str, &[usize]); recorded::KINDS] = [
+        ("starts", &[0, 7, 8, 10]),
+        ("posts", &[0, 6, 7, 8, 9, 11, 15]),
+        ("runs", &[100, 101, 102, 7, 8, 9, 10, 15]),
+        ("clock calls", &[0, 8, 9, 11, 14, 15]),
+        ("step backs", &[0, 8, 9, 10]),
+    ];
+    for ((what, answers), counts) in kinds.iter().zip(&counts.calls) {
+        for &answer in *answers {
+            println!("{:>10}  {what} beside a journal with {answer}", counts[answer]);
+            demands.push((format!("{what} beside a journal with {answer}"), counts[answer] >= OFTEN));
+        }
+    }
+    for answer in [0, 8, 9, 10] {
+        println!("{:>10}  replays with answer {answer}", counts.replays[answer]);
+        demands.push((format!("a replay with answer {answer}"), counts.replays[answer] >= OFTEN));
+    }
+    let [whole, part] = counts.lists;
+    println!("{whole:>10}  lists with a journal to their end\n{part:>10}  lists that end before it");
+    demands
+        .push(("whole lists with a journal, and such that end early".to_string(), whole.min(part) >= OFTEN));
+    outcome.add(count, failures, Vec::new());
+    outcome.demand(seeds.end - seeds.start >= ENOUGH, demands);
+}
+
+/// Flat tables, a tenth of the seeds: every answer that flattening can have.
+#[cfg(feature = "flat")]
+fn compare_flats(seeds: Range<u64>, outcome: &mut Outcome) {
+    let count = (seeds.end - seeds.start).div_ceil(10);
+    let (counts, failures) =
+        try_all(seeds.start..seeds.start + count, flats::Counts::default(), flats::try_seed);
+    let mut demands = Vec::new();
+    for answer in [0, 1, 6, 8, 16, 17] {
+        println!("{:>10}  flat tables with answer {answer}", counts.answers[answer]);
+        demands.push((format!("a flat table with answer {answer}"), counts.answers[answer] >= OFTEN));
     }
     outcome.add(count, failures, Vec::new());
     outcome.demand(seeds.end - seeds.start >= ENOUGH, demands);

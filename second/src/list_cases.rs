@@ -6,12 +6,13 @@ use crate::damage;
 use crate::encode::Layout;
 use crate::generate;
 use crate::journal::Journal;
-use crate::limits::MAX_ENTRIES;
+use crate::limits::{MAX_ENTRIES, QUEUE_NAMES};
 use crate::near_misses::Lent;
 use crate::random::Random;
 use crate::recorded::Recorded;
 use crate::recorded_calls::{perform, read, spell, RecordedCall, CALL_CELLS, GIVEN_CELLS};
 use crate::replay::rounds_of;
+use crate::session::{Queue, Session};
 use crate::session_damage;
 use crate::session_places::SessionPlaces;
 use crate::tables::Chart;
@@ -137,6 +138,7 @@ fn sessions(stage: &Stage, random: &mut Random) -> Vec<(&'static str, Recorded)>
             Recorded { timed: made.clone(), journal: absurd },
         ),
         ("ended, beside entries at will", Recorded { timed: Timed::ended(), journal: other }),
+        ("a full queue", Recorded { timed: with_full_queue(&made), journal: Journal::empty() }),
         ("a count over 512", Recorded { journal: reached.journal.clone().counting(over), ..reached.clone() }),
     ];
     let part = session_damage::all()[random.below(session_damage::all().len())];
@@ -150,6 +152,11 @@ fn sessions(stage: &Stage, random: &mut Random) -> Vec<(&'static str, Recorded)>
         sessions.push(("a damaged record", Recorded { timed, journal: Journal::empty() }));
     }
     sessions
+}
+
+fn with_full_queue(made: &Timed) -> Timed {
+    let external = Queue::of(&vec![b"e".to_vec(); QUEUE_NAMES]).expect("no more than fit");
+    Timed { session: Session { external, ..made.session.clone() }, clock: made.clock.clone() }
 }
 
 fn some_calls(chart: &Chart, random: &mut Random) -> Vec<RecordedCall> {

@@ -1,7 +1,10 @@
-//! agree [first seed] [count]: compares generated charts and prints what was covered.
+//! agree [first seed] [count]: compares generated charts, charts with journals and flat tables, and prints what was
+//! covered.
 
-use second::agreement::try_seed;
+use second::agreement;
 use second::coverage::Coverage;
+use second::flat_agreement;
+use second::journal_agreement;
 use std::process::ExitCode;
 use std::thread;
 
@@ -34,9 +37,16 @@ fn work(first: u64, count: u64, worker: u64) -> (Coverage, u64) {
     let mut failed = 0;
     for seed in (first..first + count).filter(|seed| seed % THREADS == worker) {
         if let Err(failure) = try_seed(seed, &mut coverage) {
-            println!("seed {seed}: {failure:?}");
+            println!("{failure}");
             failed += 1;
         }
     }
     (coverage, failed)
+}
+
+/// All that is compared on one seed.
+fn try_seed(seed: u64, coverage: &mut Coverage) -> Result<(), String> {
+    agreement::try_seed(seed, coverage).map_err(|failure| format!("seed {seed}: {failure:?}"))?;
+    journal_agreement::try_seed(seed, coverage)?;
+    flat_agreement::try_seed(seed, coverage)
 }
