@@ -99,7 +99,7 @@ fn pieces(
 }
 
 /// What a great run must have met, lest it prove little.
-const MUST_HAPPEN: [&str; 83] = [
+const MUST_HAPPEN: [&str; 84] = [
     "blocks that no active row would decide otherwise",
     "blocks that the configuration after the round would decide otherwise",
     "blocks that the configuration before the round would decide otherwise",
@@ -129,6 +129,7 @@ const MUST_HAPPEN: [&str; 83] = [
     "done events of parallels",
     "done events of states",
     "eventless entries beside names that lead elsewhere",
+    "flat tables of charts of more rows than a word has bits",
     "flat tables of more than 20 configurations",
     "full tables that a later cancel would empty",
     "histories that fell to their default lists",

@@ -5,9 +5,9 @@ use crate::compiled::CompiledChart;
 use crate::coverage::Coverage;
 use crate::encode::encode_plainly;
 use crate::flat::{flat_cells, flatten};
-use crate::generate::{self, Flavour};
+use crate::generate::{self, Flavour, LARGE};
 use crate::invariants::{ensure, Found};
-use crate::limits::{MAX_CONFIGURATIONS, MAX_LISTED_NAMES, NONE};
+use crate::limits::{MAX_CONFIGURATIONS, MAX_LISTED_NAMES, MAX_ROWS, NONE};
 use crate::names::done_name;
 use crate::numbers::RowNumber;
 use crate::random::Random;
@@ -50,7 +50,11 @@ impl Trial {
 
 /// A chart of 1 to 12 rows below its root, or a greater one.
 fn any_chart(random: &mut Random, greater: bool, histories: usize) -> Chart {
-    let rows = if greater { random.between(14, 60) } else { random.between(2, 13) };
+    let rows = match random.below(3) {
+        0 if greater => random.between(LARGE, MAX_ROWS as usize),
+        _ if greater => random.between(14, 60),
+        _ => random.between(2, 13),
+    };
     let flavour = Flavour {
         histories,
         spins: random.chance(30),
@@ -200,6 +204,7 @@ fn count(chart: &Chart, stepped: &Stepped, coverage: &mut Coverage) {
     coverage.note("charts flattened");
     coverage.add("configurations of flat tables", stepped.configurations() as u64);
     coverage.note_if("flat tables of more than 20 configurations", stepped.configurations() > 20);
+    coverage.note_if("flat tables of charts of more rows than a word has bits", chart.rows.len() >= LARGE);
     let is_last = |set: &RowSet| {
         set.rows().any(|row| {
             chart.kind(row) == Kind::Final && chart.row(row).parent.is_some_and(|above| above.0 == 0)

@@ -252,7 +252,7 @@ pub enum Verdict {
     Left,
     NotLeft,
     Unknown,
-    /// The journal has no such field.
+    /// The journal has no such field, or no start was accepted.
     NoSuchField,
 }
 
@@ -262,10 +262,10 @@ pub fn try_damage(seed: u64, part: JournalPart) -> Result<Verdict, String> {
     let mut trial = Trial::of_seed(DAMAGED_SEED + seed);
     let compiled = trial.compiled();
     trial.calls.truncate(16);
-    let (recorded, _) = follow(&compiled, &trial.calls, Journal::empty(), &mut Coverage::default())?;
-    let Some((changed, place)) = damaged(&recorded.journal, part, &mut trial.random) else {
-        return Ok(Verdict::NoSuchField);
-    };
+    let (recorded, follower) = follow(&compiled, &trial.calls, Journal::empty(), &mut Coverage::default())?;
+    let started = !follower.kept.is_empty();
+    let field = damaged(&recorded.journal, part, &mut trial.random).filter(|_| started);
+    let Some((changed, place)) = field else { return Ok(Verdict::NoSuchField) };
     let k = match trial.random.chance(50) {
         true => changed.count(),
         false => changed.count().min(place as u64 + 1),
