@@ -76,8 +76,8 @@ pub fn small() -> Vec<Check> {
 /// The agreement of generated charts, of those with journals and of flat tables, in pieces.
 pub fn agreement() -> Vec<Check> {
     let charts = pieces("agreement", CHARTS, agree_on);
-    let journals = pieces("journals", JOURNALS, |seed, coverage| journal_agreement::try_seed(seed, coverage));
-    let flats = pieces("flat tables", FLAT_TABLES, |seed, coverage| flat_agreement::try_seed(seed, coverage));
+    let journals = pieces("journals", JOURNALS, journal_agreement::try_seed);
+    let flats = pieces("flat tables", FLAT_TABLES, flat_agreement::try_seed);
     [journals, charts, flats].into_iter().flatten().collect()
 }
 

@@ -3,7 +3,7 @@
 use crate::compiled::CompiledChart;
 use crate::journal::{Entry, Journal};
 use crate::limits::MAX_ENTRIES;
-use crate::replay::replay;
+use crate::replay::{replay, Replayed};
 use crate::session::*;
 use crate::timed::{watch_nothing, Timed};
 
@@ -99,11 +99,9 @@ impl Recorded {
             return self.answer(if lent.is_some() { ACCEPTED } else { BAD_COMPILED_CHART });
         };
         match replay(lent, &self.journal, before, room) {
-            Ok(replayed) => {
-                let journal = self.journal.counting(before);
-                let RecordedAnswer { answer, journal } =
-                    Recorded { timed: replayed.timed, journal }.answer(ACCEPTED);
-                RecordedAnswer { answer: Answer { trace: replayed.trace, ..answer }, journal }
+            Ok(Replayed { timed, trace }) => {
+                let left = Recorded { timed, journal: self.journal.counting(before) }.answer(ACCEPTED);
+                RecordedAnswer { answer: Answer { trace, ..left.answer }, ..left }
             }
             Err(refusal) => self.answer(refusal),
         }

@@ -23,7 +23,7 @@ enum Writer {
     /// A post or a clock call.
     Nothing,
     Run {
-        before: Timed,
+        before: Box<Timed>,
         rounds: u64,
     },
 }
@@ -84,7 +84,7 @@ impl Stand {
             Entry::Run(asked) => {
                 let lap = Lap::of(compiled, self.timed.clone(), asked);
                 *rounds += lap.done;
-                let writer = Writer::Run { before: self.timed, rounds: asked };
+                let writer = Writer::Run { before: Box::new(self.timed), rounds: asked };
                 (lap.done == asked).then_some(Stand { timed: lap.timed, writer, written: lap.written })
             }
         }

@@ -122,7 +122,7 @@ fn two_entries() -> Found {
     };
     let entered = |given: &RecordedAnswer| given.journal.entries();
     let (post, run) = (Entry::Post(b"go".to_vec()), Entry::Run);
-    let one = Journal::of(&[post.clone()]);
+    let one = Journal::of(std::slice::from_ref(&post));
     ensure(entered(&ends(one.clone(), 1, 1)) == Some(vec![post.clone(), run(1), run(1)]), "two entries")?;
     ensure(entered(&ends(one, 2, 7)) == Some(vec![post, run(2)]), "one, where the first run ends it")?;
     let nearly = Journal::of(&vec![run(0); 511]);

@@ -1,5 +1,5 @@
 //! The journal, clause by clause: what is entered, what empties it, and what a full one refuses. Each
-//! check is named by the clause's words.
+//! check is named by the clause's number, counted through the request, and its words.
 
 use super::desk::{entry_post, no_start, step_back, timer, Desk};
 use super::Check;
@@ -30,7 +30,7 @@ pub fn checks() -> Vec<Check> {
     ]
 }
 
-/// 1. One for each post and clock call that answers 0, and for each run of a session that has not ended: of no
+/// Clause 1. One for each post and clock call that answers 0, and for each run of a session that has not ended: of no
 /// rounds, of an idle session, and one that ends it.
 fn what_is_entered() -> Found {
     let mut desk = Desk::new(&timer());
@@ -57,7 +57,7 @@ fn what_is_entered() -> Found {
     desk.gives(clock(0), "11; ended; post go, run 2")
 }
 
-/// 1. The round of e writes five entries and is done, the one behind it has no room for its four, or would hold 33
+/// Clause 1. The round of e writes five entries and is done, the one behind it has no room for its four, or would hold 33
 /// internal names. A post that finds 32 names is refused and leaves no entry.
 fn stopped() -> Found {
     let mut desk = Desk::new(&timer());
@@ -81,7 +81,7 @@ fn stopped() -> Found {
     desk.refuses(post("e"), QUEUE_FULL)
 }
 
-/// 2. Accepted, and refused with 10, 8 and 7; with any count before.
+/// Clause 2. Accepted, and refused with 10, 8 and 7; with any count before.
 fn start_empties() -> Found {
     let mut desk = Desk::new(&timer());
     for again in [start(), Call::Start { room: 0 }, start()] {
@@ -122,7 +122,7 @@ fn start_keeps_bytes() -> Found {
     )
 }
 
-/// 7. In posts, clock calls, runs and step backs, before all but 8; of a run of an ended session too.
+/// Clause 7. In posts, clock calls, runs and step backs, before all but 8; of a run of an ended session too.
 fn count_over_512() -> Found {
     for count in [513, 514, 1 << 32, 1 << 63, u64::MAX] {
         let mut desk = Desk::with_entries(&timer(), &[entry_post("e")]);
@@ -151,7 +151,7 @@ fn desk_with(count: usize) -> Desk {
     desk
 }
 
-/// 12. With 511 entries one more fits; then 15 leaves all. A start empties it, a step back makes room for one.
+/// Clause 12. With 511 entries one more fits; then 15 leaves all. A start empties it, a step back makes room for one.
 fn full_journal() -> Found {
     let last = |desk: &Desk| Entry::read(desk.now.journal.entry(511));
     for (call, entry) in [(post("e"), entry_post("e")), (clock(7), Entry::Clock(7)), (run(4), Entry::Run(0))]
@@ -172,7 +172,7 @@ fn full_journal() -> Found {
     Ok(())
 }
 
-/// 12. Each refusal beside a full journal: those before 15 are told, those behind it are not.
+/// Clause 12. Each refusal beside a full journal: those before 15 are told, those behind it are not.
 fn order() -> Found {
     let full = desk_with(512);
     let at_full = |change: &dyn Fn(&mut Recorded)| {
@@ -209,7 +209,7 @@ fn order() -> Found {
     queued.refuses(run_in(1, 0), JOURNAL_FULL)
 }
 
-/// 12. Their status is ended, with a full journal and with one that has room.
+/// Clause 12. Their status is ended, with a full journal and with one that has room.
 fn runs_of_ended() -> Found {
     let mut desk = desk_with(510);
     desk.call(post("go"));
@@ -226,7 +226,7 @@ fn runs_of_ended() -> Found {
     ensure(desk.now.timed.session.external.names() == [b"go".to_vec()], "to where it was not yet run")
 }
 
-/// 13. Bytes at will, with a count of at most 512.
+/// Clause 13. Bytes at will, with a count of at most 512.
 fn absurd_is_appended_to() -> Found {
     let mut desk = Desk::with_entries(&timer(), &[]);
     desk.now.journal = absurd_journal(&mut Random::seeded(2), 509);
@@ -245,7 +245,7 @@ fn absurd_is_appended_to() -> Found {
     desk.refuses(step_back(), BAD_SESSION)
 }
 
-/// 14. A name that the chart has nowhere, and one of 63 bytes.
+/// Clause 14. A name that the chart has nowhere, and one of 63 bytes.
 fn name_as_bytes() -> Found {
     let long = "n".repeat(63);
     let mut desk = Desk::new(&timer());

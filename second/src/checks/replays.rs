@@ -36,7 +36,7 @@ pub fn clocked() -> Desk {
     desk
 }
 
-/// 3. 0 is the accepted start; a post and a clock call wrote nothing.
+/// Clause 3. 0 is the accepted start; a post and a clock call wrote nothing.
 fn every_k() -> Found {
     let desk = clocked();
     let journal = desk.now.journal.clone();
@@ -70,7 +70,7 @@ pub const EACH: [&str; 6] = [
     "0 (1,2) (2,4) (7,2) (3,1); rows 1, clock 7",
 ];
 
-/// 4. Three rounds could be done, one was: with any room replay does one.
+/// Clause 4. Three rounds could be done, one was: with any room replay does one.
 fn completed_rounds() -> Found {
     let mut desk = Desk::new(&timer());
     for call in [start(), post("e"), post("e"), post("e"), run_in(3, 5)] {
@@ -82,7 +82,7 @@ fn completed_rounds() -> Found {
     desk.replays(3, 9, "0 (1,1) (2,0) (7,1) (3,2) (8,4) (1,2) (2,3) (7,2) (3,1); rows 1, x at 5")
 }
 
-/// 5. Lists of entries, and how many of them a started session leaves.
+/// Clause 5. Lists of entries, and how many of them a started session leaves.
 fn what_is_left() -> Found {
     let post = entry_post;
     let (run, clock) = (Entry::Run, Entry::Clock);
@@ -122,7 +122,7 @@ fn what_is_left() -> Found {
     Ok(())
 }
 
-/// 5. Unknown kinds, a number in a post, bytes in a run or a clock call, no zeros behind a name, no name.
+/// Clause 5. Unknown kinds, a number in a post, bytes in a run or a clock call, no zeros behind a name, no name.
 fn what_is_no_entry() -> Found {
     let good = [entry_post("e"), Entry::Run(0), Entry::Clock(0)];
     let spoilt: [(usize, usize, u8); 20] = [
@@ -161,7 +161,7 @@ fn what_is_no_entry() -> Found {
     desk.replays(1, 0, "9")
 }
 
-/// 5. An eventless ring of three states: any permitted number of rounds is left, each writing four entries.
+/// Clause 5. An eventless ring of three states: any permitted number of rounds is left, each writing four entries.
 fn come_round() -> Found {
     let mut b = Builder::new();
     b.state("", "a").state("", "b").state("", "c").on("a", "", "b").on("b", "", "c").on("c", "", "a");
@@ -181,7 +181,7 @@ fn come_round() -> Found {
     desk.replays(1, 3_999, "10")
 }
 
-/// 6. For every k, 0 too; at 0 a step back changes nothing all the same.
+/// Clause 6. For every k, 0 too; at 0 a step back changes nothing all the same.
 fn start_gives_7() -> Found {
     let mut desk = Desk::new(&no_start());
     desk.gives(start(), "7; ended; none")?;
@@ -212,7 +212,7 @@ fn too_large_a_k() -> Found {
     desk.replays(0, 200, "9")
 }
 
-/// 8. Only entry k needs room, and a fault of it comes before 10.
+/// Clause 8. Only entry k needs room, and a fault of it comes before 10.
 fn room() -> Found {
     let mut desk = clocked();
     for (k, needed) in [(0, 1), (1, 0), (2, 0), (3, 5), (4, 0), (5, 4), (6, 0)] {

@@ -23,7 +23,7 @@ pub fn checks() -> Vec<Check> {
     ]
 }
 
-/// 9. A session and a record that are none, and an ended session: neither 9 nor 11.
+/// Clause 9. A session and a record that are none, and an ended session: neither 9 nor 11.
 fn check_no_session() -> Found {
     let mut desk = clocked();
     for mode in [3, ENDED] {
@@ -35,7 +35,7 @@ fn check_no_session() -> Found {
     Ok(())
 }
 
-/// 10. The trace is that of the entry stepped back to.
+/// Clause 10. The trace is that of the entry stepped back to.
 fn steps_back() -> Found {
     let mut desk = clocked();
     desk.gives(step_back(), &format!("{}; post e, clock 2, run 1, clock 7, run 1", EACH[5]))?;
@@ -47,7 +47,7 @@ fn steps_back() -> Found {
     desk.gives(step_back(), "0; rows 1; none")
 }
 
-/// 10. The last entry alone is impossible, or none: it is dropped. One before it is judged.
+/// Clause 10. The last entry alone is impossible, or none: it is dropped. One before it is judged.
 fn dropped_is_not_judged() -> Found {
     let mut desk = Desk::with_entries(&timer(), &[entry_post("e"), Entry::Run(9)]);
     desk.replays(2, 200, "9")?;
@@ -59,7 +59,7 @@ fn dropped_is_not_judged() -> Found {
     desk.refuses(step_back(), BAD_SESSION)
 }
 
-/// 10. 8 if the chart is none, else 0 with any room, whatever the session is.
+/// Clause 10. 8 if the chart is none, else 0 with any room, whatever the session is.
 fn nothing_at_0() -> Found {
     let mut desk = Desk::new(&timer());
     desk.gives(RecordedCall::StepBack { room: 0 }, "0; ended; none")?;
@@ -73,7 +73,7 @@ fn nothing_at_0() -> Found {
     ensure(eight.answer.number == BAD_COMPILED_CHART && eight.recorded() == before, "8 leaves all")
 }
 
-/// 11. What was stepped back over is as if it had not been.
+/// Clause 11. What was stepped back over is as if it had not been.
 fn goes_on() -> Found {
     let mut desk = clocked();
     (0..6).for_each(|_| drop(desk.call(step_back())));
