@@ -93,7 +93,7 @@ module _ (chart names numbers internal external clock : List ℕ) (k : Checks) (
 
   -- what is left in the places is what the run hands back
   pub run-left : (rounds : ℕ) (old numbers₁ internal₁ external₁ clock₁ trace : List ℕ) (d : Progress) →
-      RunDone (run (chartOf chart) (nameAt names) rounds (timedAt chart numbers internal external clock) (length old)) d numbers₁ internal₁ external₁ clock₁ old trace →
+      RunDone false (run (chartOf chart) (nameAt names) rounds (timedAt chart numbers internal external clock) (length old)) d numbers₁ internal₁ external₁ clock₁ old trace →
       (ranIn (sessionIn numbers₁ internal₁ external₁) (recordIn clock₁) (record { status = d .status; rounds = d .rounds; count = d .count }) ≡ runOf s₀ y₀ chart names rounds (length old)) ×
       (trace ≡ traceWith old (runEffects s₀ y₀ chart names rounds (length old)))
   run-left rounds old numbers₁ internal₁ external₁ clock₁ trace d f = (

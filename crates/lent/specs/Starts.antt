@@ -59,7 +59,7 @@ module _ (chart names numbers internal external clock : List ℕ) (good : Bool) 
     start-asks = (compiled-ready chart names chart-made, blank-numbers, blank-internal, blank-clock)
 
     pub start-left : (numbers₁ internal₁ clock₁ trace : List ℕ) (b : Begun) →
-        StartDone (start (chartOf chart) (nameAt names) (length old)) b numbers₁ internal₁ (replicate 2048 0) clock₁ old trace →
+        StartDone false (start (chartOf chart) (nameAt names) (length old)) b numbers₁ internal₁ (replicate 2048 0) clock₁ old trace →
         (record { session = sessionIn numbers₁ internal₁ external₀; clock = recordIn clock₁; answer = b .answer; count = b .count } ≡ startOf chart names (length old)) ×
         (trace ≡ traceWith old (startEffects chart names (length old)))
     start-left numbers₁ internal₁ clock₁ trace b d =

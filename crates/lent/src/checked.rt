@@ -38,7 +38,7 @@ pub fn start_checked(
             count: 0,
         };
     }
-    let begun = rounds::start(chart, names, numbers, internal, clock, trace);
+    let begun = rounds::start(chart, names, numbers, internal, clock, trace, false);
     let answer = begun.answer;
     let count = begun.count;
     StartedIn {
@@ -151,6 +151,7 @@ pub fn run_checked(
         clock,
         rounds,
         trace,
+        false,
     );
     let status = done.status;
     let number = done.rounds;

@@ -1,10 +1,12 @@
 -- What is worked out of a chart once, for all rounds of a run.
 use mathlib.Core.Path.{_≡_, sym, ap, subst, _∙_}
+use mathlib.Core.Bool.{Bool}
 use mathlib.Core.List.{List, _++_, append-assoc}
 use Prim.Native.Nat.{ℕ}
 use native.Mathlib.Omega.{arith}
-use lib.ListN.{length, take, drop, length-append, length-drop}
-use lib.Seq.{take-at, drop-at}
+use lib.Dec.{ltb}
+use lib.ListN.{length, getD, take, drop, length-append, length-drop}
+use lib.Seq.{take-at, drop-at, getD-drop, drop-drop}
 use Rattle.definition.specs.Chart.{Chart}
 use Rattle.definition.specs.Tables.{chartOf}
 use Rattle.rowset.specs.declared.RowSet.{RowSet}
@@ -34,8 +36,12 @@ eventlessIn index = rowsIn index 785
 abbrev pub historiesIn : List ℕ → RowSet
 historiesIn index = rowsIn index 801
 
+-- whether the rounds of a run are not to be shown (R-10)
+abbrev pub quietIn : List ℕ → Bool
+quietIn index = ltb 0 (getD index 817 0)
+
 pub record IndexOf (c : Chart) (index : List ℕ) : Type 0 where
-  pub size : length index ≡ 817
+  pub size : length index ≡ 818
   pub starts : Indexed c (startsIn index)
   pub domains : DomainsFixed c (domainsIn index)
   pub atomic : rowsOf (atomicIn index) ≡ atomicRows c
@@ -52,7 +58,7 @@ prepared chart names index h = record { compiled = h .compiled; indexed = h .ind
 
 -- ---- the parts put in, one behind the other
 
-module _ (c : Chart) (starts domains a e h index : List ℕ) (size : length index ≡ 817) (s : Indexed c starts) (d : DomainsFixed c domains)
+module _ (c : Chart) (starts domains a e h index : List ℕ) (size : length index ≡ 818) (s : Indexed c starts) (d : DomainsFixed c domains)
     (atomic eventless histories : RowSet) (p : (length a ≡ 16) × (rowsIn a 0 ≡ atomic)) (q : (length e ≡ 16) × (rowsIn e 0 ≡ eventless)) (r : (length h ≡ 16) × (rowsIn h 0 ≡ histories)) where
   abbrev back : List ℕ
   back = drop 257 index
@@ -95,7 +101,7 @@ module _ (c : Chart) (starts domains a e h index : List ℕ) (size : length inde
   domains-at : whole ≡ starts ++ (domains ++ (a ++ (e ++ (h ++ last))))
   domains-at = atomic-at ∙ append-assoc starts domains (a ++ (e ++ (h ++ last)))
 
-  whole-length : length whole ≡ 817
+  whole-length : length whole ≡ 818
   whole-length =
       let x = eventless-length in
       let y = r .0 in
@@ -116,12 +122,26 @@ module _ (c : Chart) (starts domains a e h index : List ℕ) (size : length inde
   histories-back : historiesIn whole ≡ rowsIn h 0
   histories-back = rows-behind whole h _ 801 (ap (drop 801) histories-at ∙ drop-at (front ++ a ++ e) _ 801 eventless-length) (r .0)
 
-  pub index-put : rowsOf atomic ≡ atomicRows c → rowsOf eventless ≡ eventlessRows c → rowsOf histories ≡ historyRows c → IndexOf c whole
-  index-put x y z = record {
-    size = whole-length;
-    starts = subst (Indexed c) (sym starts-back) s;
-    domains = subst (DomainsFixed c) (sym domains-back) d;
-    atomic = ap rowsOf (atomic-back ∙ p .1) ∙ x;
-    eventless = ap rowsOf (eventless-back ∙ q .1) ∙ y;
-    histories = ap rowsOf (histories-back ∙ r .1) ∙ z;
-  }
+  histories-length : length (front ++ a ++ e ++ h) ≡ 817
+  histories-length = let x = eventless-length in let y = r .0 in omega (arith, length-append (front ++ a ++ e) h)
+
+  last-is : last ≡ drop 817 index
+  last-is = rw (drop-drop 16 16 (drop 16 (drop 512 back)), drop-drop 32 16 (drop 512 back), drop-drop 48 512 back, drop-drop 560 257 index)
+
+  quiet-stays : quietIn whole ≡ quietIn index
+  quiet-stays =
+      ap (ltb 0)
+      (sym (getD-drop 817 whole 0 0) ∙ ap (λ (xs : List ℕ). getD xs 0 0) (ap (drop 817) whole-is ∙ drop-at (front ++ a ++ e ++ h) last 817 histories-length ∙ last-is) ∙ getD-drop 817 index 0 0)
+
+  pub index-put : rowsOf atomic ≡ atomicRows c → rowsOf eventless ≡ eventlessRows c → rowsOf histories ≡ historyRows c → IndexOf c whole × (quietIn whole ≡ quietIn index)
+  index-put x y z = (
+    record {
+      size = whole-length;
+      starts = subst (Indexed c) (sym starts-back) s;
+      domains = subst (DomainsFixed c) (sym domains-back) d;
+      atomic = ap rowsOf (atomic-back ∙ p .1) ∙ x;
+      eventless = ap rowsOf (eventless-back ∙ q .1) ∙ y;
+      histories = ap rowsOf (histories-back ∙ r .1) ∙ z;
+    },
+    quiet-stays,
+  )

@@ -6,12 +6,12 @@ ghost use lib.ListN.{length};
 ghost use Rattle.definition.specs.Tables.{chartOf};
 ghost use Rattle.chart.specs.Ready.{Ready};
 ghost use Rattle.lookup.specs.Words.{wordIn, rowsIn};
-ghost use Rattle.lookup.specs.Lookup.{IndexOf};
+ghost use Rattle.lookup.specs.Lookup.{quietIn, IndexOf};
 use places::copy_u16;
 use rowset::RowSet;
 
 // The index of a chart: 257 starts, then 512 fixed domains, then three sets of rows, of 16 numbers each: the atomic rows, those at or
-// below the source of an eventless transition, and the histories.
+// below the source of an eventless transition, and the histories. Behind them a run keeps whether its rounds are to be shown: 0 where they are.
 pub const STARTS: usize = 257;
 
 pub const ATOMIC: usize = 769;
@@ -20,7 +20,9 @@ pub const EVENTLESS: usize = 785;
 
 pub const HISTORIES: usize = 801;
 
-pub const INDEX: usize = 817;
+pub const QUIET: usize = 817;
+
+pub const INDEX: usize = 818;
 
 // ---- a set of rows among the numbers of an index: four to a word, the lowest first
 
@@ -68,9 +70,10 @@ fn put_rows(place: &mut [u16], set: RowSet)
 
 // ---- the index
 
+// Whether the rounds are to be shown stays as it is.
 pub fn put_index(chart: &[u64], index: &mut [u16])
-    requires { ⌜ Ready (now chart) × (length (now index) ≡ 817) ⌝ }
-    ensures { λ _. ⌜ IndexOf (chartOf (now (chart .entry))) (now (index .exit)) ⌝ }
+    requires { ⌜ Ready (now chart) × (length (now index) ≡ 818) ⌝ }
+    ensures { λ _. ⌜ IndexOf (chartOf (now (chart .entry))) (now (index .exit)) × (quietIn (now (index .exit)) ≡ quietIn (now (index .entry))) ⌝ }
 {
     let by_source = matching::index_of(chart);
     let fixed = selection::fixed_domains(chart);
@@ -81,5 +84,5 @@ pub fn put_index(chart: &[u64], index: &mut [u16])
     copy_u16(&fixed.domains, &mut index[STARTS..ATOMIC]);
     put_rows(&mut index[ATOMIC..EVENTLESS], atomic);
     put_rows(&mut index[EVENTLESS..HISTORIES], eventless);
-    put_rows(&mut index[HISTORIES..INDEX], histories);
+    put_rows(&mut index[HISTORIES..QUIET], histories);
 }

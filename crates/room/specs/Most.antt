@@ -41,7 +41,7 @@ module _ (numbers : List ℕ) (h : InTables numbers) where
   unfolding transitionRoom transitionBlockAt
   transition-most t l = let a = block-most _ _ (transition-fits numbers t (record { tables = h; below = l }) .block) in omega arith
 
-  tables-most : roomFor (chartOf numbers) ≤ mostRoom
+  pub tables-most : roomFor (chartOf numbers) ≤ mostRoom
   unfolding roomFor rowsRoom transitionsRoom addRow addTransition
   tables-most =
       let a = fold-total (addRow (chartOf numbers)) (rowRoom (chartOf numbers)) (λ s i. refl) 0 (from (rowCount numbers) 0) in

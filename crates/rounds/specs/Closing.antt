@@ -1,12 +1,13 @@
 -- The round of a closing session, and a round of any.
 use mathlib.Core.Path.{_≡_, refl, sym, ap, subst, _∙_}
-use mathlib.Core.Bool.{false}
-use mathlib.Core.List.{List, []}
+use mathlib.Core.Bool.{Bool, false}
+use mathlib.Core.List.{List, [], _++_}
 use mathlib.Core.Option.{none}
 use Prim.Native.Nat.{ℕ, _+_, _≤_}
+use native.Mathlib.Nat.{zero-add}
 use native.Mathlib.Omega.{arith}
 use lib.Dec.{ltb}
-use lib.ListN.{length, replicate}
+use lib.ListN.{length, take, drop, replicate}
 use Rattle.definition.specs.declared.Mode.{Mode}
 use Rattle.definition.specs.declared.Mode.the-variants.{Running, Closing, Ended}
 use Rattle.definition.specs.Rows.{mem}
@@ -34,9 +35,9 @@ use Rattle.state.specs.Places.{internal-size, external-size, reads-history, rea
 use Rattle.rounds.specs.declared.Outcome.{Outcome}
 use Rattle.rounds.specs.declared.Outcome.the-variants.{Over, Did}
 use Rattle.rounds.specs.declared.Turn.{Turn}
-use Rattle.rounds.specs.Calls.{timedAt, SpellsTimed}
+use Rattle.rounds.specs.Calls.{timedAt, SpellsTimed, roomIn, shownCount}
 use Rattle.rounds.specs.Turns.{judged, judged-none, untouched, Turned, turned-over, turned-refused, turned-did}
-use Rattle.rounds.specs.Traces.{Filled, wrote-entries, wrote-trace}
+use Rattle.rounds.specs.Traces.{Filled, part-shown, shown-count}
 use Rattle.rounds.specs.Judging.{Counted}
 
 -- the state of an ended session
@@ -47,9 +48,9 @@ pub record IsEnded (s : State) : Type 0 where
   pub mode : s .mode ≡ Ended
 
 -- the round of a closing session came to turn t, whatever the names are: its sends and cancels are shown alone
-pub record Closed (chart numbers internal external clock : List ℕ) (t : Turn) (numbersNow internalNow externalNow clockNow old new : List ℕ) : Type 0 where
+pub record Closed (quiet : Bool) (chart numbers internal external clock : List ℕ) (t : Turn) (numbersNow internalNow externalNow clockNow old new : List ℕ) : Type 0 where
   pub turned : (names : Names) →
-      Turned (chartOf chart) names (closingRound (chartOf chart) (stateAt chart numbers internal external)) (timedAt chart numbers internal external clock) t numbersNow internalNow externalNow clockNow old new
+      Turned (chartOf chart) names quiet (roomIn quiet (length old)) (closingRound (chartOf chart) (stateAt chart numbers internal external)) (timedAt chart numbers internal external clock) t numbersNow internalNow externalNow clockNow old new
 
 abbrev closedBy : Follower → Follower
 closedBy f = record { configuration = []; history = f .history; internal = []; external = []; mode = Ended }
@@ -100,20 +101,23 @@ module _ (chart numbers internal external : List ℕ) (r : Ready chart) (h : Hol
       unfolding tableIn
       table-is names = ap (λ (m : Mode). tableIn m names (clockIn clock) es) mode-is
 
-      module _ (old : List ℕ) (t : Tally) (n : Counted t (exiting (chartOf chart) (rowsOf conf) (rowsOf conf))) (o : Outcome)
-          (j : o ≡ judged (refusalIf (ltb 32 (0 + 0)) (ltb (length old) (t .entries)))) where
-        refused-is : (names : Names) → refusal (length old) (closedBy f) false es ≡ refusedBy (chartOf chart) names (length old) s (closedBy f) es
-        unfolding refusedBy
-        refused-is names = ap (λ (x : Table). refusal (length old) (closedBy f) (x .full) es) (sym (table-is names))
+      module _ (quiet : Bool) (old : List ℕ) (t : Tally) (n : Counted t (exiting (chartOf chart) (rowsOf conf) (rowsOf conf))) (o : Outcome)
+          (j : o ≡ judged (refusalIf (ltb 32 (0 + 0)) (ltb (roomIn quiet (length old)) (t .entries)))) where
+        abbrev room : ℕ
+        room = roomIn quiet (length old)
 
-        closing-judged : (names : Names) → o ≡ judged (refusedBy (chartOf chart) names (length old) s (closedBy f) es)
+        refused-is : (names : Names) → refusal room (closedBy f) false es ≡ refusedBy (chartOf chart) names room s (closedBy f) es
+        unfolding refusedBy
+        refused-is names = ap (λ (x : Table). refusal room (closedBy f) (x .full) es) (sym (table-is names))
+
+        closing-judged : (names : Names) → o ≡ judged (refusedBy (chartOf chart) names room s (closedBy f) es)
         unfolding refusal
         closing-judged names = j ∙ rw (n .entries, rows-are) (ap judged (refused-is names))
 
-        pub closed-refused : (u : Turn) → u ≡ untouched o → (o ≡ Did → ⊥) → Closed chart numbers internal external clock u numbers internal external clock old old
+        pub closed-refused : (u : Turn) → u ≡ untouched o → (o ≡ Did → ⊥) → Closed quiet chart numbers internal external clock u numbers internal external clock old old
         closed-refused u y z = record {
           turned = λ names.
-              turned-refused (chartOf chart) names (closingRound (chartOf chart) f) s u numbers internal external clock old (h .spells, k .spells) o y (closedBy f) es (unfold closingRound in refl) (closing-judged names) z;
+              turned-refused (chartOf chart) names quiet room (closingRound (chartOf chart) f) s u numbers internal external clock old (h .spells, k .spells) o y (closedBy f) es (unfold closingRound in refl) (closing-judged names) z;
         }
 
         spells-next : (names : Names) (cells inner outer clockNow : List ℕ) → Spells (closedBy f) cells inner outer → clockNow ≡ emptiedBytes clock →
@@ -122,20 +126,20 @@ module _ (chart numbers internal external : List ℕ) (r : Ready chart) (h : Hol
         spells-next names cells inner outer clockNow a b =
             (a, b ∙ ap (λ (x : Table). clockBytes (record { ticks = (clockIn clock) .ticks; pending = x .pending })) (sym (table-is names)))
 
-        pub closed-did : o ≡ Did → (e : State) → IsEnded e → (cells inner outer clockNow new : List ℕ) (w : Tally) → Filled old new w (exiting (chartOf chart) (rowsOf conf) (rowsOf conf)) →
+        pub closed-did : o ≡ Did → (e : State) → IsEnded e → (cells inner outer clockNow part : List ℕ) (w : Tally) (end shown : ℕ) → end ≡ shownCount quiet (length old) → shown ≡ shownCount quiet (w .entries) → Filled (take end old) part w (exiting (chartOf chart) (rowsOf conf) (rowsOf conf)) →
             inner ≡ replicate (length internal) 0 → outer ≡ replicate (length external) 0 → clockNow ≡ emptiedBytes clock →
             cells ≡ numbersOf (words (rowsOf (e .configuration))) (historyIn numbers) (e .internal) (e .external) (modeNo (e .mode)) →
-            Closed chart numbers internal external clock (record { outcome = Did; count = w .entries }) cells inner outer clockNow old new
-        closed-did q e i cells inner outer clockNow new w v x y z n = record { turned = λ names. go names }
+            Closed quiet chart numbers internal external clock (record { outcome = Did; count = shown; entries = w .entries }) cells inner outer clockNow old (part ++ drop end old)
+        closed-did q e i cells inner outer clockNow part w end shown en sn v x y z n = record { turned = λ names. go names }
           where
-            u : Filled old new w es
+            u : Filled (take end old) part w es
             u = rw rows-are at v
 
-            go : (names : Names) → Turned (chartOf chart) names (closingRound (chartOf chart) f) s (record { outcome = Did; count = w .entries }) cells inner outer clockNow old new
+            go : (names : Names) → Turned (chartOf chart) names quiet room (closingRound (chartOf chart) f) s (record { outcome = Did; count = shown; entries = w .entries }) cells inner outer clockNow old (part ++ drop end old)
             go names =
-                let goes : refusedBy (chartOf chart) names (length old) s (closedBy f) es ≡ none = judged-none _ (sym (closing-judged names) ∙ q) in
-                let roomy : length es ≤ length old = not-refused (length old) (closedBy f) false es (refused-is names ∙ goes) .roomy in
-                turned-did (chartOf chart) names (closingRound (chartOf chart) f) s (record { outcome = Did; count = w .entries }) cells inner outer clockNow old new (closedBy f) es
+                let goes : refusedBy (chartOf chart) names room s (closedBy f) es ≡ none = judged-none _ (sym (closing-judged names) ∙ q) in
+                let roomy : length es ≤ room = not-refused room (closedBy f) false es (refused-is names ∙ goes) .roomy in
+                turned-did (chartOf chart) names quiet room (closingRound (chartOf chart) f) s (record { outcome = Did; count = shown; entries = w .entries }) cells inner outer clockNow old (part ++ drop end old) (closedBy f) es
                 (unfold closingRound in refl) goes refl
                 (spells-next names cells inner outer clockNow
                 (record {
@@ -143,7 +147,7 @@ module _ (chart numbers internal external : List ℕ) (r : Ready chart) (h : Hol
                   internalIs = no-names internal inner x (internal-size f numbers internal external (h .spells));
                   externalIs = no-names external outer y (external-size f numbers internal external (h .spells));
                 }) z)
-                (wrote-entries old new w es roomy u) (wrote-trace old new w es roomy u)
+                (u .entries ∙ zero-add (length es)) (sn ∙ ap (shownCount quiet) (u .entries ∙ zero-add (length es)) ∙ sym (shown-count quiet es)) (part-shown quiet old part w es end en roomy u)
 
 -- ---- a round, by the mode
 
@@ -163,18 +167,18 @@ module _ (chart names numbers internal external : List ℕ) (h : HoldsAt chart n
     pub record-holds : (m : Mode) → mode ≡ m → ClockHolds (modeIn numbers) clock → ClockHolds m clock
     record-holds m e = subst (λ (x : Mode). ClockHolds x clock) (sym at ∙ e)
 
-    module _ (t : Turn) (cells inner outer clockNow old new : List ℕ) where
-      pub round-running : mode ≡ Running → Turned (chartOf chart) (nameAt names) (roundIn Running (chartOf chart) (nameAt names) this) here t cells inner outer clockNow old new →
-          Turned (chartOf chart) (nameAt names) (round (chartOf chart) (nameAt names) this) here t cells inner outer clockNow old new
-      round-running e = subst (λ (r : Round). Turned (chartOf chart) (nameAt names) r here t cells inner outer clockNow old new) (round-mode Running (sym at ∙ e))
+    module _ (quiet : Bool) (t : Turn) (cells inner outer clockNow old new : List ℕ) where
+      pub round-running : mode ≡ Running → Turned (chartOf chart) (nameAt names) quiet (roomIn quiet (length old)) (roundIn Running (chartOf chart) (nameAt names) this) here t cells inner outer clockNow old new →
+          Turned (chartOf chart) (nameAt names) quiet (roomIn quiet (length old)) (round (chartOf chart) (nameAt names) this) here t cells inner outer clockNow old new
+      round-running e = subst (λ (r : Round). Turned (chartOf chart) (nameAt names) quiet (roomIn quiet (length old)) r here t cells inner outer clockNow old new) (round-mode Running (sym at ∙ e))
 
-      pub round-closing : mode ≡ Closing → Closed chart numbers internal external clock t cells inner outer clockNow old new →
-          Turned (chartOf chart) (nameAt names) (round (chartOf chart) (nameAt names) this) here t cells inner outer clockNow old new
+      pub round-closing : mode ≡ Closing → (b : Bool) → b ≡ quiet → Closed b chart numbers internal external clock t cells inner outer clockNow old new →
+          Turned (chartOf chart) (nameAt names) quiet (roomIn quiet (length old)) (round (chartOf chart) (nameAt names) this) here t cells inner outer clockNow old new
       unfolding roundIn
-      round-closing e c = subst (λ (r : Round). Turned (chartOf chart) (nameAt names) r here t cells inner outer clockNow old new) (round-mode Closing (sym at ∙ e)) (c .turned (nameAt names))
+      round-closing e b q c = subst (λ (r : Round). Turned (chartOf chart) (nameAt names) quiet (roomIn quiet (length old)) r here t cells inner outer clockNow old new) (round-mode Closing (sym at ∙ e)) ((subst (λ (x : Bool). Closed x chart numbers internal external clock t cells inner outer clockNow old new) q c) .turned (nameAt names))
 
-    pub round-over : (u : Turn) (old : List ℕ) → ClockHolds (modeIn numbers) clock → u ≡ untouched Over → mode ≡ Ended →
-        Turned (chartOf chart) (nameAt names) (round (chartOf chart) (nameAt names) this) here u numbers internal external clock old old
+    pub round-over : (quiet : Bool) (room : ℕ) (u : Turn) (old : List ℕ) → ClockHolds (modeIn numbers) clock → u ≡ untouched Over → mode ≡ Ended →
+        Turned (chartOf chart) (nameAt names) quiet room (round (chartOf chart) (nameAt names) this) here u numbers internal external clock old old
     unfolding roundIn
-    round-over u old k y e =
-        turned-over (chartOf chart) (nameAt names) (round (chartOf chart) (nameAt names) this) here u numbers internal external clock old (h .spells, k .spells) y (sym (round-mode Ended (sym at ∙ e)))
+    round-over quiet room u old k y e =
+        turned-over (chartOf chart) (nameAt names) quiet room (round (chartOf chart) (nameAt names) this) here u numbers internal external clock old (h .spells, k .spells) y (sym (round-mode Ended (sym at ∙ e)))

@@ -39,9 +39,9 @@ use Rattle.rounds.specs.declared.Outcome.the-variants.{Idle, Did}
 use Rattle.rounds.specs.declared.Turn.{Turn}
 use Rattle.rounds.specs.declared.Step.{Step}
 use Rattle.rounds.specs.declared.Shown.{Shown}
-use Rattle.rounds.specs.Calls.{timedAt, SpellsTimed}
+use Rattle.rounds.specs.Calls.{timedAt, SpellsTimed, roomIn}
 use Rattle.rounds.specs.Turns.{judged, judged-none, untouched, Turned, turned-idle, turned-refused, turned-did}
-use Rattle.rounds.specs.Traces.{joined-all, joined-in, joined-size, wrote-entries, wrote-trace}
+use Rattle.rounds.specs.Traces.{joined-all, joined-in, joined-size}
 use Rattle.rounds.specs.Judging.{refusal-judged}
 use Rattle.rounds.specs.Windows.{tableLeft}
 use Rattle.rounds.specs.Timing.{stepEffects, Shows}
@@ -61,11 +61,11 @@ module _ (chart names index numbers internal external : List ℕ) (g : Lookup ch
   ts = listOf items (choice .selected .len)
 
   -- nothing is left to choose
-  pub taken-idle : (clock : List ℕ) → ClockHolds Running clock → (t : Turn) (old : List ℕ) → t ≡ untouched Idle → choice .source ≡ Nothing →
-      Turned (chartOf chart) (nameAt names) (roundIn Running (chartOf chart) (nameAt names) f) (timedAt chart numbers internal external clock) t numbers internal external clock old old
+  pub taken-idle : (quiet : Bool) (room : ℕ) (clock : List ℕ) → ClockHolds Running clock → (t : Turn) (old : List ℕ) → t ≡ untouched Idle → choice .source ≡ Nothing →
+      Turned (chartOf chart) (nameAt names) quiet room (roundIn Running (chartOf chart) (nameAt names) f) (timedAt chart numbers internal external clock) t numbers internal external clock old old
   unfolding roundBy
-  taken-idle clock k t old q e =
-      turned-idle (chartOf chart) (nameAt names) (roundIn Running (chartOf chart) (nameAt names) f) (timedAt chart numbers internal external clock) t numbers internal external clock old (h .spells, k .spells) q
+  taken-idle quiet room clock k t old q e =
+      turned-idle (chartOf chart) (nameAt names) quiet room (roundIn Running (chartOf chart) (nameAt names) f) (timedAt chart numbers internal external clock) t numbers internal external clock old (h .spells, k .spells) q
       (ch .is ∙ ap (λ (source : Source). roundBy source (chartOf chart) (nameAt names) f (byIn items) ts) e)
 
   pub plan-asks : IndexOf (chartOf chart) index × (length numbers ≡ 1031) × RoundReady chart (historyIn numbers) (atomicIn index) (configurationIn numbers) ×
@@ -124,45 +124,48 @@ module _ (chart names index numbers internal external : List ℕ) (step : Step) 
   pub step-sent : TimersStand names (stepEffects chart items step)
   step-sent = subst (TimersStand names) (sym (shown chart names index numbers internal external step items g)) (sent chart names index numbers internal external step items g)
 
-  module _ (clock : List ℕ) (k : ClockHolds Running clock) (running : modeIn numbers ≡ Running) (clockNow old new notes : List ℕ) (sh : Shown)
-      (v : Shows names (stepEffects chart items step) kept clock clockNow old new notes sh) where
+  module _ (clock : List ℕ) (k : ClockHolds Running clock) (running : modeIn numbers ≡ Running) (quiet : Bool) (clockNow old new notes : List ℕ) (sh : Shown)
+      (v : Shows names (stepEffects chart items step) kept quiet clock clockNow old new notes sh) where
     abbrev here : Timed
     here = timedAt chart numbers internal external clock
 
     abbrev t : Tally
     t = sh .tally
 
+    abbrev room : ℕ
+    room = roomIn quiet (length old)
+
     abbrev full : Bool
     full = (tableLeft names clock es) .full
 
-    shows : Shows names es kept clock clockNow old new notes sh
-    shows = subst (λ (xs : List Effect). Shows names xs kept clock clockNow old new notes sh) (shown chart names index numbers internal external step items g) v
+    shows : Shows names es kept quiet clock clockNow old new notes sh
+    shows = subst (λ (xs : List Effect). Shows names xs kept quiet clock clockNow old new notes sh) (shown chart names index numbers internal external step items g) v
 
     mode-is : from .mode ≡ Running
     mode-is = sym (reads-mode from numbers internal external (g .holds .spells)) ∙ running
 
-    refused-is : refusal (length old) next full es ≡ refusedBy (chartOf chart) (nameAt names) (length old) here next es
+    refused-is : refusal room next full es ≡ refusedBy (chartOf chart) (nameAt names) room here next es
     unfolding refusedBy
-    refused-is = ap (λ (m : Mode). refusal (length old) next ((tableIn m (nameAt names) (clockIn clock) es) .full) es) (sym mode-is)
+    refused-is = ap (λ (m : Mode). refusal room next ((tableIn m (nameAt names) (clockIn clock) es) .full) es) (sym mode-is)
 
-    is-judged : sh .outcome ≡ judged (refusedBy (chartOf chart) (nameAt names) (length old) here next es)
+    is-judged : sh .outcome ≡ judged (refusedBy (chartOf chart) (nameAt names) room here next es)
     unfolding nextBy
     is-judged =
         shows .judges .judges ∙
-        ap judged (refusal-judged (chartOf chart) (nameAt names) (length old) kept t full (internalAfter (step .source) from) next es (shows .counted) (waiting .count) refl ∙ refused-is)
+        ap judged (refusal-judged (chartOf chart) (nameAt names) room kept t full (internalAfter (step .source) from) next es (shows .counted) (waiting .count) refl ∙ refused-is)
 
     pub taken-refused : (u : Turn) → u ≡ untouched (sh .outcome) → (sh .outcome ≡ Did → ⊥) →
-        Turned (chartOf chart) (nameAt names) (roundIn Running (chartOf chart) (nameAt names) from) here u numbers internal external clockNow old new
+        Turned (chartOf chart) (nameAt names) quiet room (roundIn Running (chartOf chart) (nameAt names) from) here u numbers internal external clockNow old new
     taken-refused u y z =
         rw (shows .stays z, shows .judges .stays z)
-        (turned-refused (chartOf chart) (nameAt names) (roundIn Running (chartOf chart) (nameAt names) from) here u numbers internal external clock old (g .holds .spells, k .spells) (sh .outcome) y next es is-round is-judged z)
+        (turned-refused (chartOf chart) (nameAt names) quiet room (roundIn Running (chartOf chart) (nameAt names) from) here u numbers internal external clock old (g .holds .spells, k .spells) (sh .outcome) y next es is-round is-judged z)
 
     module _ (e : sh .outcome ≡ Did) where
-      goes : refusedBy (chartOf chart) (nameAt names) (length old) here next es ≡ none
-      goes = judged-none (refusedBy (chartOf chart) (nameAt names) (length old) here next es) (sym is-judged ∙ e)
+      goes : refusedBy (chartOf chart) (nameAt names) room here next es ≡ none
+      goes = judged-none (refusedBy (chartOf chart) (nameAt names) room here next es) (sym is-judged ∙ e)
 
-      fits : Fits (length old) next full es
-      fits = not-refused (length old) next full es (refused-is ∙ goes)
+      fits : Fits room next full es
+      fits = not-refused room next full es (refused-is ∙ goes)
 
       -- no more join than are kept
       pub few-join : t .names ≤ 32
@@ -192,8 +195,8 @@ module _ (chart names index numbers internal external : List ℕ) (step : Step) 
 
       -- shown and kept, it is done
       pub taken-did : (numbersNow internalNow externalNow : List ℕ) → Commits chart names index numbers internal external step (take (t .names) notes) numbersNow internalNow externalNow →
-          Turned (chartOf chart) (nameAt names) (roundIn Running (chartOf chart) (nameAt names) from) here (record { outcome = Did; count = t .entries }) numbersNow internalNow externalNow clockNow old new
+          Turned (chartOf chart) (nameAt names) quiet room (roundIn Running (chartOf chart) (nameAt names) from) here (record { outcome = Did; count = sh .count; entries = t .entries }) numbersNow internalNow externalNow clockNow old new
       unfolding is-decided
       taken-did numbersNow internalNow externalNow c =
-          turned-did (chartOf chart) (nameAt names) (roundIn Running (chartOf chart) (nameAt names) from) here (record { outcome = Did; count = t .entries }) numbersNow internalNow externalNow clockNow old new
-          next es is-round goes refl (spells-next numbersNow internalNow externalNow (c .next is-decided)) (wrote-entries old new t es (fits .roomy) (shows .filled e)) (wrote-trace old new t es (fits .roomy) (shows .filled e))
+          turned-did (chartOf chart) (nameAt names) quiet room (roundIn Running (chartOf chart) (nameAt names) from) here (record { outcome = Did; count = sh .count; entries = t .entries }) numbersNow internalNow externalNow clockNow old new
+          next es is-round goes refl (spells-next numbersNow internalNow externalNow (c .next is-decided)) (shows .counted .entries) (shows .count e) (shows .written e)

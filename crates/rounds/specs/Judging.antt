@@ -60,6 +60,10 @@ roomy-if false false e = refl
 pub did-roomy : (o : Outcome) (full : Bool) (room : ℕ) (t : Tally) → o ≡ judged (refusalIf full (ltb room (t .entries))) → o ≡ Did → t .entries ≤ room
 did-roomy o full room t j e = ltb-false _ _ (roomy-if full (ltb room (t .entries)) (judged-none (refusalIf full (ltb room (t .entries))) (sym j ∙ e)))
 
+-- by a room that is equal
+pub judged-by : (o : Outcome) (full : Bool) (room other n : ℕ) → room ≡ other → o ≡ judged (refusalIf full (ltb room n)) → o ≡ judged (refusalIf full (ltb other n))
+judged-by o full room other n e j = j ∙ ap (λ (k : ℕ). judged (refusalIf full (ltb k n))) e
+
 -- what was judged is what the definition refuses
 pub refusal-judged : (c : Chart) (names : Names) (room kept : ℕ) (t : Tally) (full : Bool) (waiting : List Name) (next : Follower) (es : List Effect) → Counted t es → kept ≡ length waiting →
     next .internal ≡ waiting ++ flat (queued c names) es → refusalIf (ltb 32 (kept + t .names) || full) (ltb room (t .entries)) ≡ refusal room next full es

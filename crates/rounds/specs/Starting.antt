@@ -1,11 +1,12 @@
 -- A start: what is judged and written is the definition's.
 use mathlib.Core.Path.{_≡_, refl, sym, ap, ap₂, subst, _∙_}
+use mathlib.Core.Bool.{Bool}
 use mathlib.Core.List.{List, [], _∷_, _++_}
 use mathlib.Core.Option.{Option, none, some}
 use Prim.Native.Nat.{ℕ, _+_, _≤_}
 use native.Mathlib.Nat.{zero-add}
 use native.Mathlib.Omega.{arith}
-use lib.ListN.{length, take, replicate, length-replicate}
+use lib.ListN.{length, take, replicate, length-replicate, drop}
 use Rattle.definition.specs.declared.Answer.{Answer}
 use Rattle.definition.specs.declared.Answer.the-variants.{Done}
 use Rattle.definition.specs.declared.Mode.{Mode}
@@ -40,9 +41,9 @@ use Rattle.events.specs.Timers.{TimersStand, start-timers}
 use Rattle.rounds.specs.declared.Outcome.{Outcome}
 use Rattle.rounds.specs.declared.Outcome.the-variants.{Refused, Did}
 use Rattle.rounds.specs.declared.Step.{Step}
-use Rattle.rounds.specs.Calls.{StartDone}
-use Rattle.rounds.specs.Turns.{judged, judged-some}
-use Rattle.rounds.specs.Traces.{nothing, Filled, Noted, filled-again, joined-all, joined-in, joined-size, wrote-entries, wrote-trace}
+use Rattle.rounds.specs.Calls.{roomIn, shownCount, StartDone}
+use Rattle.rounds.specs.Turns.{judged, judged-some, trace-stays}
+use Rattle.rounds.specs.Traces.{nothing, Filled, Noted, filled-again, joined-all, joined-in, joined-size, part-shown}
 use Rattle.rounds.specs.Judging.{Counted, refusal-judged}
 use Rattle.rounds.specs.Windows.{tableLeft}
 use Rattle.rounds.specs.Timing.{stepEffects, TimersReady, JudgesTimed}
@@ -121,29 +122,32 @@ module _ (chart names : List ℕ) (k : CompiledWith chart names) (numbers intern
   unfolding tableIn firstTable
   table-is = ap (λ (r : Clock). tableIn Running (nameAt names) r es) clock-new
 
-  module _ (t : Tally) (n : Counted t (startEffects (chartOf chart) e)) (clockNow : List ℕ) (o : Outcome)
-      (j : JudgesTimed names (startEffects (chartOf chart) e) 0 t clock clockNow (length old) o) where
-    judges : JudgesTimed names es 0 t clock clockNow (length old) o
-    judges = subst (λ (xs : List Effect). JudgesTimed names xs 0 t clock clockNow (length old) o) shown j
+  module _ (quiet : Bool) (t : Tally) (n : Counted t (startEffects (chartOf chart) e)) (clockNow : List ℕ) (o : Outcome)
+      (j : JudgesTimed names (startEffects (chartOf chart) e) 0 t clock clockNow (roomIn quiet (length old)) o) where
+    abbrev room : ℕ
+    room = roomIn quiet (length old)
 
-    is-judged : o ≡ judged (refusal (length old) first (table .full) es)
+    judges : JudgesTimed names es 0 t clock clockNow room o
+    judges = subst (λ (xs : List Effect). JudgesTimed names xs 0 t clock clockNow room o) shown j
+
+    is-judged : o ≡ judged (refusal room first (table .full) es)
     unfolding firstFollower
     is-judged =
         judges .judges ∙
-        ap judged (refusal-judged (chartOf chart) (nameAt names) (length old) 0 t ((tableLeft names clock es) .full) [] first es (subst (Counted t) shown n) refl refl ∙
-        ap (λ (r : Table). refusal (length old) first (r .full) es) table-is)
+        ap judged (refusal-judged (chartOf chart) (nameAt names) room 0 t ((tableLeft names clock es) .full) [] first es (subst (Counted t) shown n) refl refl ∙
+        ap (λ (r : Table). refusal room first (r .full) es) table-is)
 
     -- refused: an ended session with a new clock record, and nothing changed
-    pub start-refused : (a : Answer) → o ≡ Refused a → StartDone (start (chartOf chart) (nameAt names) (length old)) (record { answer = a; count = 0 }) numbers internal (replicate 2048 0) clockNow old old
-    unfolding start startOr endedFollower traceWith
+    pub start-refused : (a : Answer) → o ≡ Refused a → StartDone quiet (start (chartOf chart) (nameAt names) room) (record { answer = a; count = 0 }) numbers internal (replicate 2048 0) clockNow old old
+    unfolding start startOr endedFollower
     start-refused a r =
-        let w : refusal (length old) first (table .full) es ≡ some a = judged-some (refusal (length old) first (table .full) es) a (sym is-judged ∙ r) in
+        let w : refusal room first (table .full) es ≡ some a = judged-some (refusal room first (table .full) es) a (sym is-judged ∙ r) in
         let same : clockNow ≡ clock = judges .stays (λ d. let c : Refused a ≡ Did = sym r ∙ d in let z : _≡_ {A = ℕ} 0 1 = cc in omega arith) in
         rw w (record {
           answer = refl;
           count = refl;
           state = (record { numbersAre = y ∙ zeros-ended (chartOf chart); internalIs = z ∙ sym queue-none; externalIs = sym queue-none }, same ∙ x ∙ sym zeros-are-new);
-          written = refl;
+          written = trace-stays quiet old;
         })
 
     pub zeros-size : length numbers ≡ 1031
@@ -153,10 +157,10 @@ module _ (chart names : List ℕ) (k : CompiledWith chart names) (numbers intern
     first-ready = record { ready = k .ready; inside = q .1 .set .at }
 
     module _ (some-other : (a : Answer) → o ≡ Refused a → ⊥) where
-      goes : refusal (length old) first (table .full) es ≡ none
-      goes = go (refusal (length old) first (table .full) es) refl
+      goes : refusal room first (table .full) es ≡ none
+      goes = go (refusal room first (table .full) es) refl
         where
-          go : (x : Option Answer) → refusal (length old) first (table .full) es ≡ x → refusal (length old) first (table .full) es ≡ none
+          go : (x : Option Answer) → refusal room first (table .full) es ≡ x → refusal room first (table .full) es ≡ none
           go none h = h
           go (some a) h = absurd (some-other a (is-judged ∙ ap judged h ∙ unfold judged in refl))
 
@@ -164,8 +168,8 @@ module _ (chart names : List ℕ) (k : CompiledWith chart names) (numbers intern
       unfolding judged
       is-done = is-judged ∙ ap judged goes
 
-      fits : Fits (length old) first (table .full) es
-      fits = not-refused (length old) first (table .full) es goes
+      fits : Fits room first (table .full) es
+      fits = not-refused room first (table .full) es goes
 
       entered : JoinsStand chart names es
       entered = start-joins chart names k
@@ -176,10 +180,10 @@ module _ (chart names : List ℕ) (k : CompiledWith chart names) (numbers intern
           let b = table-is in
           judges .left is-done ∙ (λ i. clockBytes (record { ticks = (a i) .ticks; pending = (b i) .pending }))
 
-      module _ (before after : Places) (r : Tally) (same : before .trace ≡ old) (w : Wrote before after nothing r (startEffects (chartOf chart) e)) (notes : List ℕ)
+      module _ (end : ℕ) (en : end ≡ shownCount quiet (length old)) (before after : Places) (r : Tally) (same : before .trace ≡ take end old) (w : Wrote before after nothing r (startEffects (chartOf chart) e)) (notes : List ℕ)
           (v : Noted notes t (startEffects (chartOf chart) e)) where
-        wrote : Filled old (after .trace) t es
-        wrote = subst (Filled old (after .trace) t) shown (rw (← same) (filled-again before after t r (startEffects (chartOf chart) e) w (n .entries ∙ sym (zero-add _))))
+        wrote : Filled (take end old) (after .trace) t es
+        wrote = subst (Filled (take end old) (after .trace) t) shown (rw (← same) (filled-again before after t r (startEffects (chartOf chart) e) w (n .entries ∙ sym (zero-add _))))
 
         noted-es : Noted notes t es
         noted-es = subst (Noted notes t) shown v
@@ -215,7 +219,7 @@ module _ (chart names : List ℕ) (k : CompiledWith chart names) (numbers intern
         pub start-done : (inner : List ℕ) (waiting : ℕ) (mode : Mode) (cells : List ℕ) →
             (inner ≡ queueBytes (queueOf internal 0 ++ queuedNames (chartOf chart) (nameAt names) (take (t .names) notes))) × (waiting ≡ 0 + length (queuedNames (chartOf chart) (nameAt names) (take (t .names) notes))) →
             mode ≡ modeOf (chartOf chart) (rowsOf (e .set)) → cells ≡ numbersOf (words (rowsOf (e .set))) (historyIn numbers) waiting 0 (modeNo mode) →
-            StartDone (start (chartOf chart) (nameAt names) (length old)) (record { answer = Done; count = t .entries }) cells inner (replicate 2048 0) clockNow old (after .trace)
+            StartDone quiet (start (chartOf chart) (nameAt names) room) (record { answer = Done; count = t .entries }) cells inner (replicate 2048 0) clockNow old (after .trace ++ drop end old)
         unfolding start startOr firstFollower timed
         start-done inner waiting mode cells joined m w =
             let conf : rowsOf (e .set) ≡ (firstEntry (chartOf chart)) .set = ap (λ (i : Entry). i .set) (q .0 .entry) in
@@ -224,7 +228,7 @@ module _ (chart names : List ℕ) (k : CompiledWith chart names) (numbers intern
             let mode-is = m ∙ ap (modeOf (chartOf chart)) conf in
             rw goes (record {
               answer = refl;
-              count = wrote-entries old (after .trace) t es (fits .roomy) wrote;
+              count = wrote .entries ∙ zero-add (length es);
               state = (
                 record {
                   numbersAre = w ∙ (λ j. numbersOf (words (conf j)) (hist j) (count j) 0 (modeNo (mode-is j)));
@@ -233,5 +237,5 @@ module _ (chart names : List ℕ) (k : CompiledWith chart names) (numbers intern
                 },
                 clock-after,
               );
-              written = wrote-trace old (after .trace) t es (fits .roomy) wrote;
+              written = part-shown quiet old (after .trace) t es end en (fits .roomy) wrote;
             })

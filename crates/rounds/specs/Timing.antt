@@ -1,12 +1,13 @@
 -- A step that sends or cancels: what its sends and cancels leave of the clock record, and how it is judged with it (R-9). And how any step is shown.
 use mathlib.Core.Path.{_≡_, refl, sym, ap, subst, _∙_}
 use mathlib.Core.Bool.{Bool, true, false, _||_}
-use mathlib.Core.List.{List, _++_, append-nil}
+use mathlib.Core.List.{List, [], _∷_, _++_, append-nil}
 use Prim.Native.Nat.{ℕ, _+_, _-_, _*_, _≤_, _<_, min}
 use native.Mathlib.Omega.{arith}
 use lib.Dec.{ltb}
 use lib.ListN.{length, getD, take, drop, set, length-set}
 use lib.Seq.{drop-length, length-take-le, getD-set-same}
+use borrow.Author.Tests.{le-ltb}
 use Rattle.definition.specs.declared.Mode.the-variants.{Running}
 use Rattle.definition.specs.declared.Answer.the-variants.{Full}
 use Rattle.definition.specs.Rows.{all}
@@ -23,13 +24,15 @@ use Rattle.effects.specs.declared.Tally.{Tally}
 use Rattle.effects.specs.Trace.{times-few, Places, places, Wrote, wrote-length, wrote-joins}
 use Rattle.effects.specs.Notes.{window-noted}
 use Rattle.microstep.specs.Plan.{PlanReady, planEffects, plan-few}
+use Rattle.state.specs.State.{traceWith}
 use Rattle.events.specs.Timers.{TimersStand}
 use Rattle.rounds.specs.declared.Outcome.{Outcome}
 use Rattle.rounds.specs.declared.Outcome.the-variants.{Refused, Did}
 use Rattle.rounds.specs.declared.Shown.{Shown}
 use Rattle.rounds.specs.declared.Step.{Step}
-use Rattle.rounds.specs.Turns.{judged}
-use Rattle.rounds.specs.Traces.{nothing, Filled, Unskipped, Noted, wrote-noted, wrote-drafted, draft-copied}
+use Rattle.rounds.specs.Turns.{judged, Hushed}
+use Rattle.rounds.specs.Calls.{quietRoom, roomIn, shownOf}
+use Rattle.rounds.specs.Traces.{nothing, Filled, Unskipped, Noted, wrote-trace, wrote-noted, wrote-drafted, draft-copied}
 use Rattle.rounds.specs.Judging.{Counted, wrote-counted, did-roomy}
 use Rattle.rounds.specs.Taking.{stepTakes, byIn, lent-taken}
 use Rattle.rounds.specs.Windows.{tableLeft, clockLeft, table-none, Reaches, reaches-none, reaches-all, window-known, reaches-full, reaches-next}
@@ -169,9 +172,9 @@ pub draft-length : (names : List ℕ) (es : List Effect) (clock : List ℕ) → 
 draft-length names es clock h draft b a e = ap {B = ℕ} length (a .left e) ∙ clock-length (clockLeft names clock es) ∙ sym (holds-length Running clock h)
 
 -- the same of what is equal
-pub judged-as : (names : List ℕ) (es : List Effect) (kept : ℕ) (t : Tally) (clock clockThen clockNow : List ℕ) (room : ℕ) (o p : Outcome) → clockNow ≡ clockThen → p ≡ o →
-    JudgesTimed names es kept t clock clockThen room o → JudgesTimed names es kept t clock clockNow room p
-judged-as names es kept t clock clockThen clockNow room o p a b j = rw (a, b) j
+pub judged-as : (names : List ℕ) (es : List Effect) (kept : ℕ) (t : Tally) (clock clockThen clockNow : List ℕ) (room other : ℕ) (o p : Outcome) → clockNow ≡ clockThen → p ≡ o → room ≡ other →
+    JudgesTimed names es kept t clock clockThen room o → JudgesTimed names es kept t clock clockNow other p
+judged-as names es kept t clock clockThen clockNow room other o p a b e j = rw (a, b, ← e) j
 
 module _ (names : List ℕ) (es : List Effect) (kept : ℕ) (t : Tally) (clock : List ℕ) (h : ClockHolds Running clock) (room : ℕ) where
   abbrev seven : Bool
@@ -213,54 +216,106 @@ module _ (names : List ℕ) (es : List Effect) (kept : ℕ) (t : Tally) (clock :
         left = λ z. copied draft clock new (draft-length names es clock h draft b a e) q ∙ a .left e;
       }
 
--- ---- a step that was drafted and judged, and is shown unless it is refused
+-- ---- a step that was drafted and judged, and is shown unless it is refused or quiet
 
-pub record Shows (names : List ℕ) (es : List Effect) (kept : ℕ) (clock clockNow old new notes : List ℕ) (s : Shown) : Type 0 where
+pub record Shows (names : List ℕ) (es : List Effect) (kept : ℕ) (quiet : Bool) (clock clockNow old new notes : List ℕ) (s : Shown) : Type 0 where
   pub counted : Counted (s .tally) es
   pub noted : Noted notes (s .tally) es
-  pub judges : JudgesTimed names es kept (s .tally) clock clockNow (length old) (s .outcome)
+  pub judges : JudgesTimed names es kept (s .tally) clock clockNow (roomIn quiet (length old)) (s .outcome)
   pub stays : (s .outcome ≡ Did → ⊥) → new ≡ old
-  pub filled : s .outcome ≡ Did → Filled old new (s .tally) es
+  pub count : s .outcome ≡ Did → s .count ≡ length (shownOf quiet es)
+  pub written : s .outcome ≡ Did → new ≡ traceWith old (shownOf quiet es)
 
-module _ (names : List ℕ) (es : List Effect) (kept : ℕ) (clock clockNow old : List ℕ) (before after : Places) (t : Tally) (u : Unskipped (before .joins)) (w : Wrote before after nothing t es)
-    (o : Outcome) (j : JudgesTimed names es kept t clock clockNow (length old) o) where
-  pub shows-refused : (o ≡ Did → ⊥) → Shows names es kept clock clockNow old old (after .joins) (record { outcome = o; tally = t })
-  shows-refused z = record {
-    counted = wrote-counted before after t es w;
-    noted = wrote-noted before after t es w u;
-    judges = j;
-    stays = λ e. refl;
-    filled = λ e. absurd (z e);
-  }
+-- where a quiet one has none, all effects are shown
+all-shown : (quiet : Bool) (es : List Effect) → (quiet ≡ true → length es ≡ 0) → shownOf quiet es ≡ es
+all-shown false es h = refl
+all-shown true [] h = refl
+all-shown true (e ∷ es) h = absurd (let n = h refl in omega arith)
 
-  pub shows-did : o ≡ Did → (new : List ℕ) → Filled old new t es → Shows names es kept clock clockNow old new (after .joins) (record { outcome = Did; tally = t })
-  shows-did e new f = record {
-    counted = wrote-counted before after t es w;
-    noted = wrote-noted before after t es w u;
-    judges = subst (JudgesTimed names es kept t clock clockNow (length old)) e j;
-    stays = λ z. absurd (z refl);
-    filled = λ d. f;
-  }
+-- what fits the room also fits that of a quiet one
+fits-quiet : (quiet : Bool) (n room : ℕ) → n ≤ room → (quiet ≡ true → room ≡ 0) → n ≤ roomIn quiet room
+fits-quiet true n room l h = let z = h refl in omega arith
+fits-quiet false n room l h = l
 
-  -- where the draft is whole, it is copied
-  module _ (e : o ≡ Did) (l : t .entries ≤ length (before .trace)) where
-    draft-whole : t .entries ≤ length (after .trace)
-    draft-whole = let n = wrote-length before after nothing t es w in omega arith
+-- what is done in this room is done in every room that its entries fit
+judged-roomy : (names : List ℕ) (es : List Effect) (kept : ℕ) (t : Tally) (clock clockNow : List ℕ) (room other : ℕ) → t .entries ≤ room → t .entries ≤ other →
+    JudgesTimed names es kept t clock clockNow room Did → JudgesTimed names es kept t clock clockNow other Did
+judged-roomy names es kept t clock clockNow room other l m j = record {
+  judges = j .judges ∙ ap (λ (b : Bool). judged (refusalIf (ltb 32 (kept + t .names) || (tableLeft names clock es) .full) b)) (le-ltb room (t .entries) l ∙ sym (le-ltb other (t .entries) m));
+  stays = j .stays;
+  left = j .left;
+}
 
-    draft-part : length (take (t .entries) (after .trace)) ≡ t .entries
-    draft-part = length-take-le (t .entries) (after .trace) draft-whole
+module _ (names : List ℕ) (es : List Effect) (kept : ℕ) (quiet : Bool) (clock clockNow old : List ℕ) (before after : Places) (t : Tally) (u : Unskipped (before .joins)) (w : Wrote before after nothing t es)
+    (o : Outcome) where
+  -- a quiet one, refused or done: nothing is shown
+  pub shows-quiet : quiet ≡ true → JudgesTimed names es kept t clock clockNow quietRoom o → (s : Shown) → s ≡ record { outcome = o; count = 0; tally = t } →
+      Shows names es kept quiet clock clockNow old old (after .joins) s
+  unfolding traceWith
+  shows-quiet q j s e =
+      rw (e, q) (record {
+        counted = wrote-counted before after t es w;
+        noted = wrote-noted before after t es w u;
+        judges = j;
+        stays = λ z. refl;
+        count = λ d. refl;
+        written = λ d. refl;
+      })
 
-    roomy : t .entries ≤ length old
-    roomy = did-roomy o (ltb 32 (kept + t .names) || (tableLeft names clock es) .full) (length old) t (j .judges) e
+  -- the room of those that are shown
+  module _ (j : JudgesTimed names es kept t clock clockNow (length old) o) where
+    pub shows-refused : quiet ≡ false → (o ≡ Did → ⊥) → (s : Shown) → s ≡ record { outcome = o; count = 0; tally = t } → Shows names es kept quiet clock clockNow old old (after .joins) s
+    shows-refused q z s e =
+        rw (e, q) (record {
+          counted = wrote-counted before after t es w;
+          noted = wrote-noted before after t es w u;
+          judges = j;
+          stays = λ d. refl;
+          count = λ d. absurd (z d);
+          written = λ d. absurd (z d);
+        })
 
-    pub part-fits : length (take (t .entries) (after .trace)) ≤ length old
-    part-fits = rw draft-part roomy
+    module _ (e : o ≡ Did) (h : Hushed quiet old) where
+      roomy : t .entries ≤ length old
+      roomy = did-roomy o (ltb 32 (kept + t .names) || (tableLeft names clock es) .full) (length old) t (j .judges) e
 
-    pub shows-drafted : (new : List ℕ) → new ≡ take (t .entries) (after .trace) ++ drop (length (take (t .entries) (after .trace))) old →
-        Shows names es kept clock clockNow old new (after .joins) (record { outcome = Did; tally = t })
-    shows-drafted new q =
-        shows-did e new
-        (draft-copied (after .trace) old new t es (wrote-drafted before after t es w) draft-whole roomy (q ∙ ap (λ (k : ℕ). take (t .entries) (after .trace) ++ drop k old) draft-part))
+      entries-are : t .entries ≡ length es
+      entries-are = wrote-counted before after t es w .entries
+
+      all-are : shownOf quiet es ≡ es
+      all-are = all-shown quiet es (λ q. let z = h .none q in let l = roomy in let n = entries-are in omega arith)
+
+      pub shows-did : (new : List ℕ) → Filled old new t es → Shows names es kept quiet clock clockNow old new (after .joins) (record { outcome = Did; count = t .entries; tally = t })
+      shows-did new f =
+          let n = entries-are in
+          let l = roomy in
+          record {
+            counted = wrote-counted before after t es w;
+            noted = wrote-noted before after t es w u;
+            judges =
+                judged-roomy names es kept t clock clockNow (length old) (roomIn quiet (length old)) l (fits-quiet quiet (t .entries) (length old) l (h .none))
+                (subst (JudgesTimed names es kept t clock clockNow (length old)) e j);
+            stays = λ z. absurd (z refl);
+            count = λ d. n ∙ sym (ap {B = ℕ} length all-are);
+            written = λ d. wrote-trace old new t es (omega arith) f ∙ sym (ap (traceWith old) all-are);
+          }
+
+      -- where the draft is whole, it is copied
+      module _ (l : t .entries ≤ length (before .trace)) where
+        draft-whole : t .entries ≤ length (after .trace)
+        draft-whole = let n = wrote-length before after nothing t es w in omega arith
+
+        draft-part : length (take (t .entries) (after .trace)) ≡ t .entries
+        draft-part = length-take-le (t .entries) (after .trace) draft-whole
+
+        pub part-fits : length (take (t .entries) (after .trace)) ≤ length old
+        part-fits = rw draft-part roomy
+
+        pub shows-drafted : (new : List ℕ) → new ≡ take (t .entries) (after .trace) ++ drop (length (take (t .entries) (after .trace))) old →
+            Shows names es kept quiet clock clockNow old new (after .joins) (record { outcome = Did; count = t .entries; tally = t })
+        shows-drafted new p =
+            shows-did new
+            (draft-copied (after .trace) old new t es (wrote-drafted before after t es w) draft-whole roomy (p ∙ ap (λ (k : ℕ). take (t .entries) (after .trace) ++ drop k old) draft-part))
 
 -- ---- a step has few effects
 

@@ -1,6 +1,7 @@
 -- The trace after effects were written: into it from its beginning, or into the part behind the entries that are there.
-use mathlib.Core.Path.{_≡_, sym, ap, _∙_}
-use mathlib.Core.List.{List, _++_, map, map-append, append-assoc, append-nil}
+use mathlib.Core.Path.{_≡_, refl, sym, ap, subst, _∙_}
+use mathlib.Core.Bool.{Bool, true, false}
+use mathlib.Core.List.{List, [], _++_, map, map-append, append-assoc, append-nil}
 use Prim.Native.Nat.{ℕ, _+_, _-_, _*_, _≤_}
 use native.Mathlib.Nat.{zero-add}
 use native.Mathlib.Omega.{arith}
@@ -9,9 +10,10 @@ use lib.Seq.{take-at, take-all, drop-at, drop-drop, drop-length, length-take-le}
 use Rattle.follower.specs.Blocks.{Effect, traceNo}
 use Rattle.effects.specs.declared.Tally.{Tally}
 use Rattle.paths.specs.Timing.{timersOf, allTimes}
-use Rattle.effects.specs.Trace.{allQueues, joinsOf, joins-length, overwrite, overwrite-length, overwrite-inside, Places, Wrote, wrote-joins}
+use Rattle.effects.specs.Trace.{allQueues, joinsOf, joins-length, overwrite, overwrite-length, overwrite-inside, overwrite-empty, Places, Wrote, wrote-joins}
 use Rattle.effects.specs.Notes.{joins-noted, window-noted}
 use Rattle.state.specs.State.{traceWith}
+use Rattle.rounds.specs.Calls.{roomIn, shownOf, shownCount}
 
 -- nothing counted yet
 abbrev pub nothing : Tally
@@ -49,6 +51,26 @@ module _ (old new : List ℕ) (t : Tally) (es : List Effect) (l : length es ≤ 
 
   pub wrote-size : t .entries ≡ length (take (t .entries) new)
   wrote-size = wrote-entries ∙ sym (ap {B = ℕ} length wrote-front ∙ length-map es traceNo)
+
+-- ---- written into the part that is to be shown: all of it, or nothing of it
+
+pub shown-low : (quiet : Bool) (n end : ℕ) → end ≡ shownCount quiet n → end ≤ n
+shown-low true n end e = omega arith
+shown-low false n end e = omega arith
+
+pub shown-count : (quiet : Bool) (es : List Effect) → length (shownOf quiet es) ≡ shownCount quiet (length es)
+shown-count true es = refl
+shown-count false es = refl
+
+pub part-shown : (quiet : Bool) (old part : List ℕ) (t : Tally) (es : List Effect) (end : ℕ) → end ≡ shownCount quiet (length old) → length es ≤ roomIn quiet (length old) → Filled (take end old) part t es →
+    part ++ drop end old ≡ traceWith old (shownOf quiet es)
+unfolding traceWith
+part-shown true old part t es end e l w =
+    let h : Filled [] part t es = subst (λ (k : ℕ). Filled (take k old) part t es) e w in
+    ap (λ (k : ℕ). part ++ drop k old) e ∙ ap (λ (xs : List ℕ). xs ++ old) (h .trace ∙ overwrite-empty 0 (map traceNo es))
+part-shown false old part t es end e l w =
+    let whole : take end old ≡ old = take-all end old (omega arith) in
+    ap (λ (k : ℕ). part ++ drop k old) e ∙ ap (λ (xs : List ℕ). part ++ xs) (drop-length old) ∙ append-nil part ∙ wrote-trace old part t es l (subst (λ (xs : List ℕ). Filled xs part t es) whole w)
 
 -- ---- a draft: these effects were written into a place of its own, as far as it goes
 

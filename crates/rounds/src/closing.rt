@@ -10,6 +10,8 @@ use crate::Outcome;
 use crate::Turn;
 use crate::judging::count_closing;
 use crate::judging::judge;
+use crate::judging::room_of;
+use crate::judging::shown_of;
 use crate::judging::unchanged;
 use definition::Mode;
 use effects::Tally;
@@ -28,7 +30,7 @@ pub fn ended() -> State
 }
 
 // "exits all that is active in exit order and stores no history; queues are emptied, raises are shown but not queued, mode is ended"; "a closing round's sends are
-// only shown", and the table is emptied (R-9).
+// only shown", and the table is emptied (R-9). A quiet one writes no entry.
 pub fn close(
     chart: &[u64],
     numbers: &mut [u64],
@@ -36,9 +38,10 @@ pub fn close(
     external: &mut [u8],
     clock: &mut [u8],
     trace: &mut [u32],
+    quiet: bool,
 ) -> Turn
     requires { ⌜ Ready (now chart) × HoldsAt (now chart) (now numbers) (now internal) (now external) × (modeIn (now numbers) ≡ Closing) × ClockHolds Closing (now clock) ⌝ }
-    ensures { λ r. ⌜ Closed (now (chart .entry)) (now (numbers .entry)) (now (internal .entry)) (now (external .entry)) (now (clock .entry)) r (now (numbers .exit)) (now (internal .exit)) (now (external .exit)) (now (clock .exit)) (now (trace .entry)) (now (trace .exit)) ⌝ }
+    ensures { λ r. ⌜ Closed quiet (now (chart .entry)) (now (numbers .entry)) (now (internal .entry)) (now (external .entry)) (now (clock .entry)) r (now (numbers .exit)) (now (internal .exit)) (now (external .exit)) (now (clock .exit)) (now (trace .entry)) (now (trace .exit)) ⌝ }
 {
     let conf = chart::set_at(numbers, 0);
     let shown = Tally {
@@ -46,18 +49,22 @@ pub fn close(
         names: 0,
         timers: 0,
     };
-    let outcome = judge(0, shown, trace.len());
+    let room = trace.len();
+    let outcome = judge(0, shown, room_of(quiet, room));
     let Outcome::Did = outcome else {
         return unchanged(outcome);
     };
     let mut none = [0u32; 0];
-    let tally = microstep::closing_effects(chart, conf, trace, &mut none, NOTHING);
+    let end = shown_of(quiet, room);
+    let tally = microstep::closing_effects(chart, conf, &mut trace[..end], &mut none, NOTHING);
     queue::clear(internal);
     queue::clear(external);
     clock::drop_pending(clock);
     state::put_state(numbers, ended());
+    let entries = tally.entries as usize;
     Turn {
         outcome: Outcome::Did,
-        count: tally.entries as usize,
+        count: shown_of(quiet, entries),
+        entries: entries,
     }
 }

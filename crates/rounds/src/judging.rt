@@ -1,7 +1,8 @@
-// 7 and 10, judged by what was counted.
+// 7 and 10, judged by what was counted; and what a quiet round is judged with and shows.
 ghost use mathlib.Core.Path.{_≡_};
 ghost use Prim.Native.Nat.{_+_, _≤_};
 ghost use lib.Dec.{ltb};
+ghost use lib.ListN.{length};
 ghost use Rattle.definition.specs.Tables.{rowCount, chartOf};
 ghost use Rattle.follower.specs.Microstep.{exiting};
 ghost use Rattle.follower.specs.Follower.{refusalIf};
@@ -9,11 +10,14 @@ ghost use Rattle.rowset.specs.Member.{rowsOf};
 ghost use Rattle.chart.specs.Ready.{Ready};
 ghost use Rattle.matching.specs.Chosen.{Within};
 ghost use Rattle.microstep.specs.Plan.{PlanReady, startEffects};
+ghost use Rattle.lookup.specs.Lookup.{quietIn};
+ghost use Rattle.rounds.specs.Calls.{roomIn, placeIn, shownCount};
 ghost use Rattle.rounds.specs.Turns.{judged, untouched};
 ghost use Rattle.rounds.specs.Judging.{Counted};
 ghost use Rattle.rounds.specs.Traces.{Unskipped, Noted};
 use crate::NOTHING;
 use crate::Outcome;
+use crate::QUIET_ROOM;
 use crate::Turn;
 use definition::Answer;
 use effects::Tally;
@@ -27,7 +31,45 @@ pub fn unchanged(outcome: Outcome) -> Turn
     Turn {
         outcome: outcome,
         count: 0,
+        entries: 0,
     }
+}
+
+// Whether the run of this index is quiet.
+pub fn is_quiet(index: &[u16]) -> bool
+    requires { ⌜ length (now index) ≡ 818 ⌝ }
+    ensures { λ b. ⌜ b ≡ quietIn (now (index .entry)) ⌝ }
+{
+    0 < index[lookup::QUIET]
+}
+
+// A quiet round has room for all its entries, and shows none of them (R-10).
+pub fn room_of(quiet: bool, room: usize) -> usize
+    ensures { λ n. ⌜ n ≡ roomIn quiet room ⌝ }
+{
+    if quiet {
+        return QUIET_ROOM;
+    }
+    room
+}
+
+// Where a run begins to write: a quiet one at the end of the trace.
+pub fn place_of(quiet: bool, end: usize) -> usize
+    ensures { λ n. ⌜ n ≡ placeIn quiet 0 end ⌝ }
+{
+    if quiet {
+        return end;
+    }
+    0
+}
+
+pub fn shown_of(quiet: bool, n: usize) -> usize
+    ensures { λ k. ⌜ k ≡ shownCount quiet n ⌝ }
+{
+    if quiet {
+        return 0;
+    }
+    n
 }
 
 // 7 for more than 32 internal names, then 10 for entries that do not fit the room; else it is done.

@@ -36,10 +36,11 @@ pub enum Outcome {
     Did,
 }
 
-// How many entries it wrote.
+// How many entries it wrote, and how many it has: a quiet round writes none of them (R-10).
 pub struct Turn {
     pub outcome: Outcome,
     pub count: usize,
+    pub entries: usize,
 }
 
 // What a round of a running session takes: where its event comes from, how many transitions, and what they do.
@@ -49,15 +50,19 @@ pub struct Step {
     pub plan: Plan,
 }
 
-// What became of a step that was shown, and what was counted of it.
+// What became of a step that was shown, how many entries it wrote, and what was counted of it.
 pub struct Shown {
     pub outcome: Outcome,
+    pub count: usize,
     pub tally: Tally,
 }
 
 // What is noted beside the draft: 32 names that join the internal queue, of which more are refused; how many sends and cancels are passed over; and the first
 // eight of these, two numbers each.
 const NOTES: usize = 49;
+
+// More room than all entries of a run take: it has at most 4,294,967,295 rounds, of at most 43,008 entries each.
+const QUIET_ROOM: usize = 9223372036854775808;
 
 // Nothing is counted yet: effects are written from the beginning of what is lent.
 const NOTHING: Tally = Tally {

@@ -1,6 +1,7 @@
 // A round of any session, and a run: rounds one after the other.
 ghost use mathlib.Core.Path.{_≡_};
 ghost use mathlib.Core.Option.{none};
+ghost use lib.Dec.{ltb};
 ghost use lib.ListN.{length};
 ghost use Rattle.definition.specs.Tables.{nameAt, chartOf};
 ghost use Rattle.follower.specs.Selection.{selected};
@@ -10,15 +11,17 @@ ghost use Rattle.chart.specs.Ready.{CompiledWith};
 ghost use Rattle.clock.specs.Records.{ClockHolds};
 ghost use Rattle.selection.specs.History.{storedAt};
 ghost use Rattle.state.specs.State.{configurationIn, historyIn, internalIn, externalIn, modeIn, stateAt, HoldsAt};
-ghost use Rattle.lookup.specs.Lookup.{Lookup};
+ghost use Rattle.lookup.specs.Lookup.{quietIn, Lookup};
 ghost use Rattle.events.specs.Rounds.{EventReady};
-ghost use Rattle.rounds.specs.Calls.{timedAt, RunDone};
-ghost use Rattle.rounds.specs.Turns.{statusOf, Turned};
+ghost use Rattle.rounds.specs.Calls.{timedAt, roomIn, RunDone};
+ghost use Rattle.rounds.specs.Turns.{statusOf, Turned, Hushed};
 ghost use Rattle.rounds.specs.Resting.{restBy};
 use crate::Outcome;
 use crate::Progress;
 use crate::Turn;
 use crate::closing::close;
+use crate::judging::is_quiet;
+use crate::judging::place_of;
 use crate::judging::unchanged;
 use crate::taking::take;
 use definition::Mode;
@@ -35,8 +38,8 @@ fn round(
     trace: &mut [u32],
     clock: &mut [u8],
 ) -> Turn
-    requires { ⌜ Lookup (now chart) (now names) (now index) × HoldsAt (now chart) (now numbers) (now internal) (now external) × (length (now items) ≡ 768) × ClockHolds (modeIn (now numbers)) (now clock) ⌝ }
-    ensures { λ r. ⌜ Turned (chartOf (now (chart .entry))) (nameAt (now (names .entry))) (round (chartOf (now (chart .entry))) (nameAt (now (names .entry))) (stateAt (now (chart .entry)) (now (numbers .entry)) (now (internal .entry)) (now (external .entry)))) (timedAt (now (chart .entry)) (now (numbers .entry)) (now (internal .entry)) (now (external .entry)) (now (clock .entry))) r (now (numbers .exit)) (now (internal .exit)) (now (external .exit)) (now (clock .exit)) (now (trace .entry)) (now (trace .exit)) ⌝ }
+    requires { ⌜ Lookup (now chart) (now names) (now index) × HoldsAt (now chart) (now numbers) (now internal) (now external) × (length (now items) ≡ 768) × ClockHolds (modeIn (now numbers)) (now clock) × Hushed (quietIn (now index)) (now trace) ⌝ }
+    ensures { λ r. ⌜ Turned (chartOf (now (chart .entry))) (nameAt (now (names .entry))) (quietIn (now (index .entry))) (roomIn (quietIn (now (index .entry))) (length (now (trace .entry)))) (round (chartOf (now (chart .entry))) (nameAt (now (names .entry))) (stateAt (now (chart .entry)) (now (numbers .entry)) (now (internal .entry)) (now (external .entry)))) (timedAt (now (chart .entry)) (now (numbers .entry)) (now (internal .entry)) (now (external .entry)) (now (clock .entry))) r (now (numbers .exit)) (now (internal .exit)) (now (external .exit)) (now (clock .exit)) (now (trace .entry)) (now (trace .exit)) ⌝ }
 {
     let mode = state::mode_from(numbers[state::MODE]);
     match mode {
@@ -51,7 +54,10 @@ fn round(
             trace,
             clock,
         ),
-        Mode::Closing => close(chart, numbers, internal, external, clock, trace),
+        Mode::Closing => {
+            let quiet = is_quiet(index);
+            close(chart, numbers, internal, external, clock, trace, quiet)
+        }
         Mode::Ended => unchanged(Outcome::Over),
     }
 }
@@ -107,7 +113,18 @@ fn rest_status(
     }
 }
 
-// At most so many rounds from the state that the places spell.
+// The mark of a quiet run behind its index.
+fn mark_of(quiet: bool) -> u16
+    ensures { λ n. ⌜ ltb 0 n ≡ quiet ⌝ }
+{
+    if quiet {
+        return 1;
+    }
+    0
+}
+
+// At most so many rounds from the state that the places spell. A quiet run leaves the trace as it is and counts its entries; none of its rounds is refused with 10 (R-10): each is lent the end of
+// the trace, where nothing can be written.
 pub fn run(
     chart: &[u64],
     names: &[u8],
@@ -117,17 +134,20 @@ pub fn run(
     clock: &mut [u8],
     rounds: u32,
     trace: &mut [u32],
+    quiet: bool,
 ) -> Progress
     requires { ⌜ CompiledWith (now chart) (now names) × HoldsAt (now chart) (now numbers) (now internal) (now external) × ClockHolds (modeIn (now numbers)) (now clock) ⌝ }
-    ensures { λ r. ⌜ RunDone (run (chartOf (now (chart .entry))) (nameAt (now (names .entry))) rounds (timedAt (now (chart .entry)) (now (numbers .entry)) (now (internal .entry)) (now (external .entry)) (now (clock .entry))) (length (now (trace .entry)))) r (now (numbers .exit)) (now (internal .exit)) (now (external .exit)) (now (clock .exit)) (now (trace .entry)) (now (trace .exit)) ⌝ }
+    ensures { λ r. ⌜ RunDone quiet (run (chartOf (now (chart .entry))) (nameAt (now (names .entry))) rounds (timedAt (now (chart .entry)) (now (numbers .entry)) (now (internal .entry)) (now (external .entry)) (now (clock .entry))) (roomIn quiet (length (now (trace .entry))))) r (now (numbers .exit)) (now (internal .exit)) (now (external .exit)) (now (clock .exit)) (now (trace .entry)) (now (trace .exit)) ⌝ }
 {
     let mut index = [0u16; lookup::INDEX];
+    index[lookup::QUIET] = mark_of(quiet);
     lookup::put_index(chart, &mut index);
     let mut items = [0u16; matching::ITEMS];
     let mut done: u32 = 0;
     let mut count: usize = 0;
+    let mut at = place_of(quiet, trace.len());
     while done < rounds {
-        let rest = &mut trace[count..];
+        let rest = &mut trace[at..];
         let turn = round(
             chart,
             names,
@@ -139,7 +159,8 @@ pub fn run(
             rest,
             clock,
         );
-        count += turn.count;
+        at += turn.count;
+        count += turn.entries;
         let outcome = turn.outcome;
         let Outcome::Did = outcome else {
             return stopped(outcome, done, count);

@@ -5,7 +5,7 @@ ghost use Rattle.definition.specs.Tables.{nameAt, chartOf};
 ghost use Rattle.follower.specs.Follower.{start};
 ghost use Rattle.chart.specs.Ready.{Ready, CompiledWith};
 ghost use Rattle.microstep.specs.Plan.{PlanReady, StartPlanned, startEffects};
-ghost use Rattle.rounds.specs.Calls.{StartDone};
+ghost use Rattle.rounds.specs.Calls.{roomIn, StartDone};
 ghost use Rattle.rounds.specs.Timing.{TimersReady, JudgesTimed};
 ghost use Rattle.rounds.specs.Starting.{FirstStep};
 use crate::Begun;
@@ -15,6 +15,8 @@ use crate::Outcome;
 use crate::Step;
 use crate::judging::count_first;
 use crate::judging::judge;
+use crate::judging::room_of;
+use crate::judging::shown_of;
 use crate::taking::mode_of;
 use crate::timing::judge_timed;
 use definition::Answer;
@@ -77,7 +79,7 @@ fn judge_first(
     judge_timed(chart, names, step, &items, 0, tally, notes, clock, room)
 }
 
-// "Start enters the root's initial targets", from empty queues and no stored history; refused with 7 or 10 it changes nothing.
+// "Start enters the root's initial targets", from empty queues and no stored history; refused with 7 or 10 it changes nothing. A quiet one leaves the trace as it is, and is not refused with 10 (R-10).
 pub fn start(
     chart: &[u64],
     names: &[u8],
@@ -85,15 +87,25 @@ pub fn start(
     internal: &mut [u8],
     clock: &mut [u8],
     trace: &mut [u32],
+    quiet: bool,
 ) -> Begun
     requires { ⌜ CompiledWith (now chart) (now names) × (now numbers ≡ replicate 1031 0) × (now internal ≡ replicate 2048 0) × (now clock ≡ replicate 4368 0) ⌝ }
-    ensures { λ r. ⌜ StartDone (start (chartOf (now (chart .entry))) (nameAt (now (names .entry))) (length (now (trace .entry)))) r (now (numbers .exit)) (now (internal .exit)) (replicate 2048 0) (now (clock .exit)) (now (trace .entry)) (now (trace .exit)) ⌝ }
+    ensures { λ r. ⌜ StartDone quiet (start (chartOf (now (chart .entry))) (nameAt (now (names .entry))) (roomIn quiet (length (now (trace .entry))))) r (now (numbers .exit)) (now (internal .exit)) (replicate 2048 0) (now (clock .exit)) (now (trace .entry)) (now (trace .exit)) ⌝ }
 {
     let first = plan_first(chart, numbers);
     let conf = first.set;
     let mut notes = [0u32; NOTES];
     let tally = count_first(chart, first, &mut notes);
-    let outcome = judge_first(chart, names, first, tally, &notes, clock, trace.len());
+    let room = trace.len();
+    let outcome = judge_first(
+        chart,
+        names,
+        first,
+        tally,
+        &notes,
+        clock,
+        room_of(quiet, room),
+    );
     if let Outcome::Refused(answer) = outcome {
         return Begun {
             answer: answer,
@@ -101,7 +113,8 @@ pub fn start(
         };
     }
     let mut none = [0u32; 0];
-    microstep::first_effects(chart, first, trace, &mut none, NOTHING);
+    let end = shown_of(quiet, room);
+    microstep::first_effects(chart, first, &mut trace[..end], &mut none, NOTHING);
     let n = tally.names as usize;
     let waiting = events::queue_names(chart, names, &notes[..n], internal, 0);
     let after = State {

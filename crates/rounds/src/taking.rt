@@ -15,11 +15,11 @@ ghost use Rattle.microstep.specs.Plan.{Planned, PlanReady};
 ghost use Rattle.legality.specs.Rows.{RowsReady};
 ghost use Rattle.clock.specs.Records.{ClockHolds};
 ghost use Rattle.state.specs.State.{configurationIn, historyIn, modeIn, stateAt, HoldsAt};
-ghost use Rattle.lookup.specs.Lookup.{atomicIn, IndexOf, Lookup};
+ghost use Rattle.lookup.specs.Lookup.{quietIn, atomicIn, IndexOf, Lookup};
 ghost use Rattle.events.specs.Left.{internalLeft, externalLeft};
 ghost use Rattle.events.specs.Timers.{TimersStand};
-ghost use Rattle.rounds.specs.Calls.{timedAt};
-ghost use Rattle.rounds.specs.Turns.{Turned};
+ghost use Rattle.rounds.specs.Calls.{timedAt, roomIn};
+ghost use Rattle.rounds.specs.Turns.{Turned, Hushed};
 ghost use Rattle.rounds.specs.Judging.{LeavesInternal, LeavesExternal};
 ghost use Rattle.rounds.specs.Timing.{stepEffects, Shows};
 ghost use Rattle.rounds.specs.Taking.{Decided, Commits};
@@ -27,10 +27,13 @@ ghost use Rattle.rounds.specs.Traces.{nothing, Unskipped};
 use crate::NOTES;
 use crate::NOTHING;
 use crate::Outcome;
+use crate::QUIET_ROOM;
 use crate::Shown;
 use crate::Step;
 use crate::Turn;
+use crate::judging::is_quiet;
 use crate::judging::judge;
+use crate::judging::room_of;
 use crate::judging::unchanged;
 use crate::timing::judge_timed;
 use definition::Mode;
@@ -95,11 +98,23 @@ pub fn step_effects(
     microstep::plan_effects(chart, plan, chosen, by, trace, notes, NOTHING)
 }
 
+// Nothing of it is written.
+fn hidden(outcome: Outcome, tally: Tally) -> Shown
+    ensures { λ s. ⌜ s ≡ record { outcome = outcome; count = 0; tally = tally } ⌝ }
+{
+    Shown {
+        outcome: outcome,
+        count: 0,
+        tally: tally,
+    }
+}
+
 // It is drafted first; the effects of one with more entries than this are worked out twice.
 const DRAFT: usize = 168;
 
-// The step is drafted, judged with so many names that wait and with the clock record where it sends or cancels, and written into the trace unless it is refused.
-// Where the draft was too short all is worked out again. The step is handed on in these cases alone, so that no other round copies it.
+// The step is drafted, judged with so many names that wait and with the clock record where it sends or cancels, and written into the trace unless it is refused or quiet. A quiet one is lent no
+// place to write into, so it comes to the places below alone where it has entries or sends (R-10): no other round asks whether it is quiet. Where the draft was too short all is worked out again.
+// The step is handed on in these cases alone, so that no other round copies it.
 fn show(
     chart: &[u64],
     names: &[u8],
@@ -109,36 +124,44 @@ fn show(
     notes: &mut [u32],
     clock: &mut [u8],
     trace: &mut [u32],
+    index: &[u16],
 ) -> Shown
-    requires { ⌜ PlanReady (now chart) (step .plan) × ChosenIn (transitionCount (now chart)) (now items) (step .len) × (kept ≤ 32) × Unskipped (now notes) × TimersStand (now names) (stepEffects (now chart) (now items) step) × ClockHolds Running (now clock) ⌝ }
-    ensures { λ s. ⌜ Shows (now (names .entry)) (stepEffects (now (chart .entry)) (now (items .entry)) step) kept (now (clock .entry)) (now (clock .exit)) (now (trace .entry)) (now (trace .exit)) (now (notes .exit)) s ⌝ }
+    requires { ⌜ PlanReady (now chart) (step .plan) × ChosenIn (transitionCount (now chart)) (now items) (step .len) × (kept ≤ 32) × Unskipped (now notes) × TimersStand (now names) (stepEffects (now chart) (now items) step) × ClockHolds Running (now clock) × (length (now index) ≡ 818) × Hushed (quietIn (now index)) (now trace) ⌝ }
+    ensures { λ s. ⌜ Shows (now (names .entry)) (stepEffects (now (chart .entry)) (now (items .entry)) step) kept (quietIn (now (index .entry))) (now (clock .entry)) (now (clock .exit)) (now (trace .entry)) (now (trace .exit)) (now (notes .exit)) s ⌝ }
 {
     let mut draft = [0u32; DRAFT];
     let tally = step_effects(chart, step, items, &mut draft, notes);
     let room = trace.len();
     let mut outcome = judge(kept, tally, room);
     if 0 < tally.timers {
-        outcome = judge_timed(chart, names, step, items, kept, tally, notes, clock, room);
+        let quiet = is_quiet(index);
+        let most = room_of(quiet, room);
+        outcome = judge_timed(chart, names, step, items, kept, tally, notes, clock, most);
+        if quiet {
+            return hidden(outcome, tally);
+        }
     }
     let Outcome::Did = outcome else {
-        return Shown {
-            outcome: outcome,
-            tally: tally,
-        };
+        if is_quiet(index) {
+            return hidden(judge(kept, tally, QUIET_ROOM), tally);
+        }
+        return hidden(outcome, tally);
     };
     let n = tally.entries;
+    let end = n as usize;
     if (DRAFT as u64) < n {
         let mut none = [0u32; 0];
         step_effects(chart, step, items, trace, &mut none);
         return Shown {
             outcome: Outcome::Did,
+            count: end,
             tally: tally,
         };
     }
-    let end = n as usize;
     copy_u32(&draft[..end], trace);
     Shown {
         outcome: Outcome::Did,
+        count: end,
         tally: tally,
     }
 }
@@ -217,8 +240,8 @@ pub fn take(
     trace: &mut [u32],
     clock: &mut [u8],
 ) -> Turn
-    requires { ⌜ Lookup (now chart) (now names) (now index) × HoldsAt (now chart) (now numbers) (now internal) (now external) × (length (now items) ≡ 768) × (modeIn (now numbers) ≡ Running) × ClockHolds Running (now clock) ⌝ }
-    ensures { λ r. ⌜ Turned (chartOf (now (chart .entry))) (nameAt (now (names .entry))) (roundIn Running (chartOf (now (chart .entry))) (nameAt (now (names .entry))) (stateAt (now (chart .entry)) (now (numbers .entry)) (now (internal .entry)) (now (external .entry)))) (timedAt (now (chart .entry)) (now (numbers .entry)) (now (internal .entry)) (now (external .entry)) (now (clock .entry))) r (now (numbers .exit)) (now (internal .exit)) (now (external .exit)) (now (clock .exit)) (now (trace .entry)) (now (trace .exit)) ⌝ }
+    requires { ⌜ Lookup (now chart) (now names) (now index) × HoldsAt (now chart) (now numbers) (now internal) (now external) × (length (now items) ≡ 768) × (modeIn (now numbers) ≡ Running) × ClockHolds Running (now clock) × Hushed (quietIn (now index)) (now trace) ⌝ }
+    ensures { λ r. ⌜ Turned (chartOf (now (chart .entry))) (nameAt (now (names .entry))) (quietIn (now (index .entry))) (roomIn (quietIn (now (index .entry))) (length (now (trace .entry)))) (roundIn Running (chartOf (now (chart .entry))) (nameAt (now (names .entry))) (stateAt (now (chart .entry)) (now (numbers .entry)) (now (internal .entry)) (now (external .entry)))) (timedAt (now (chart .entry)) (now (numbers .entry)) (now (internal .entry)) (now (external .entry)) (now (clock .entry))) r (now (numbers .exit)) (now (internal .exit)) (now (external .exit)) (now (clock .exit)) (now (trace .entry)) (now (trace .exit)) ⌝ }
 {
     let choice = events::choose(chart, names, index, numbers, internal, external, items);
     let source = choice.source;
@@ -229,7 +252,17 @@ pub fn take(
     let from = step.source;
     let kept = internal_left(from, numbers[state::INTERNAL]);
     let mut notes = [0u32; NOTES];
-    let shown = show(chart, names, step, items, kept, &mut notes, clock, trace);
+    let shown = show(
+        chart,
+        names,
+        step,
+        items,
+        kept,
+        &mut notes,
+        clock,
+        trace,
+        index,
+    );
     let outcome = shown.outcome;
     let Outcome::Did = outcome else {
         return unchanged(outcome);
@@ -248,6 +281,7 @@ pub fn take(
     );
     Turn {
         outcome: Outcome::Did,
-        count: tally.entries as usize,
+        count: shown.count,
+        entries: tally.entries as usize,
     }
 }

@@ -246,7 +246,15 @@ impl Session {
         let mut numbers = [0u64; state::NUMBERS];
         let mut internal = [0u8; 2048];
         let mut bytes = [0u8; 4368];
-        let begun = rounds::start(chart, names, &mut numbers, &mut internal, &mut bytes, trace);
+        let begun = rounds::start(
+            chart,
+            names,
+            &mut numbers,
+            &mut internal,
+            &mut bytes,
+            trace,
+            false,
+        );
         let answer = begun.answer;
         let count = begun.count;
         Started {
@@ -287,6 +295,7 @@ impl Session {
             &mut bytes,
             rounds,
             trace,
+            false,
         );
         let status = done.status;
         let number = done.rounds;

@@ -17,13 +17,13 @@ enum-told : tie.Need-enum-told
 enum-told c = search needs
 
 take-requires : tie.Need-take-requires
-take-requires c κs = (c .before .before .before .before .before .before .before .before .before .before .before .before .before .before .before .before .before .before .before .pre .0, c .before .before .before .before .before .before .before .before .before .before .before .before .before .before .before .before .before .before .before .pre .1, c .before .before .before .before .before .before .before .before .before .before .before .before .before .before .before .before .before .before .before .pre .2, sym (c .before .before .before .before .before .before .before .before .mode-from .ensures) ∙ c .before .before .before .before .before .before .enum-told .given .1, record-holds _ (c .before .before .before .before .before .before .before .before .before .before .before .before .before .before .before .before .before .before .before .args .names .now) _ _ _ (c .before .before .before .before .before .before .before .before .before .before .before .before .before .before .before .before .before .before .before .pre .1) _ _ (c .before .before .before .before .before .before .before .before .mode-from .ensures) Running (c .before .before .before .before .before .before .enum-told .given .1) (c .before .before .before .before .before .before .before .before .before .before .before .before .before .before .before .before .before .before .before .pre .3))
+take-requires c κs = (c .before .before .before .before .before .before .before .before .before .before .before .before .before .before .before .before .before .before .before .pre .0, c .before .before .before .before .before .before .before .before .before .before .before .before .before .before .before .before .before .before .before .pre .1, c .before .before .before .before .before .before .before .before .before .before .before .before .before .before .before .before .before .before .before .pre .2, sym (c .before .before .before .before .before .before .before .before .mode-from .ensures) ∙ c .before .before .before .before .before .before .enum-told .given .1, record-holds _ (c .before .before .before .before .before .before .before .before .before .before .before .before .before .before .before .before .before .before .before .args .names .now) _ _ _ (c .before .before .before .before .before .before .before .before .before .before .before .before .before .before .before .before .before .before .before .pre .1) _ _ (c .before .before .before .before .before .before .before .before .mode-from .ensures) Running (c .before .before .before .before .before .before .enum-told .given .1) (c .before .before .before .before .before .before .before .before .before .before .before .before .before .before .before .before .before .before .before .pre .3), c .before .before .before .before .before .before .before .before .before .before .before .before .before .before .before .before .before .before .before .pre .4)
 
 enum-told-2 : tie.Need-enum-told-2
 enum-told-2 c = search needs
 
 close-requires : tie.Need-close-requires
-close-requires c κs = (c .before .before .before .before .before .before .before .before .before .before .before .before .before .before .before .before .before .before .pre .0 .compiled .ready, c .before .before .before .before .before .before .before .before .before .before .before .before .before .before .before .before .before .before .pre .1, sym (c .before .before .before .before .before .before .before .mode-from .ensures) ∙ c .before .before .before .before .before .enum-told2 .given .1, record-holds _ (c .before .before .before .before .before .before .before .before .before .before .before .before .before .before .before .before .before .before .args .names .now) _ _ _ (c .before .before .before .before .before .before .before .before .before .before .before .before .before .before .before .before .before .before .pre .1) _ _ (c .before .before .before .before .before .before .before .mode-from .ensures) Closing (c .before .before .before .before .before .enum-told2 .given .1) (c .before .before .before .before .before .before .before .before .before .before .before .before .before .before .before .before .before .before .pre .3))
+close-requires c κs = (c .before .before .before .before .before .before .before .before .before .before .before .before .before .before .before .before .before .before .before .pre .0 .compiled .ready, c .before .before .before .before .before .before .before .before .before .before .before .before .before .before .before .before .before .before .before .pre .1, sym (c .before .before .before .before .before .before .before .before .mode-from .ensures) ∙ c .before .before .before .before .before .before .enum-told2 .given .1, record-holds _ (c .before .before .before .before .before .before .before .before .before .before .before .before .before .before .before .before .before .before .before .args .names .now) _ _ _ (c .before .before .before .before .before .before .before .before .before .before .before .before .before .before .before .before .before .before .before .pre .1) _ _ (c .before .before .before .before .before .before .before .before .mode-from .ensures) Closing (c .before .before .before .before .before .before .enum-told2 .given .1) (c .before .before .before .before .before .before .before .before .before .before .before .before .before .before .before .before .before .before .before .pre .3))
 
 enum-told-3 : tie.Need-enum-told-3
 enum-told-3 c = search needs
@@ -32,13 +32,13 @@ unchanged-requires : tie.Need-unchanged-requires
 unchanged-requires c κs = search needs
 
 returns : tie.Need-returns
-returns c = round-running _ _ _ _ _ (c .before .before .before .before .before .before .before .before .before .before .before .before .before .before .before .before .before .before .before .before .before .before .before .before .before .before .before .before .before .before .before .before .pre .1) _ _ (c .before .before .before .before .before .before .before .before .before .before .before .before .before .before .before .before .before .before .before .before .before .mode-from .ensures) _ _ _ _ _ _ _ (c .before .before .before .before .before .before .before .before .before .before .before .before .before .before .before .before .before .before .before .enum-told .given .1) (c .before .before .before .before .before .before .before .before .before .before .before .before .take .ensures)
+returns c = round-running _ _ _ _ _ (c .before .before .before .before .before .before .before .before .before .before .before .before .before .before .before .before .before .before .before .before .before .before .before .before .before .before .before .before .before .before .before .before .pre .1) _ _ (c .before .before .before .before .before .before .before .before .before .before .before .before .before .before .before .before .before .before .before .before .before .mode-from .ensures) _ _ _ _ _ _ _ _ (c .before .before .before .before .before .before .before .before .before .before .before .before .before .before .before .before .before .before .before .enum-told .given .1) (c .before .before .before .before .before .before .before .before .before .before .before .before .take .ensures)
 
 returns-2 : tie.Need-returns-2
-returns-2 c = round-closing _ _ _ _ _ (c .before .before .before .before .before .before .before .before .before .before .before .before .before .before .before .before .before .before .before .before .before .before .before .before .before .before .before .before .before .pre .1) _ _ (c .before .before .before .before .before .before .before .before .before .before .before .before .before .before .before .before .before .before .mode-from .ensures) _ _ _ _ _ _ _ (c .before .before .before .before .before .before .before .before .before .before .before .before .before .before .before .before .enum-told2 .given .1) (c .before .before .before .before .before .before .before .before .before .before .close .ensures)
+returns-2 c = round-closing _ _ _ _ _ (c .before .before .before .before .before .before .before .before .before .before .before .before .before .before .before .before .before .before .before .before .before .before .before .before .before .before .before .before .before .before .pre .1) _ _ (c .before .before .before .before .before .before .before .before .before .before .before .before .before .before .before .before .before .before .before .mode-from .ensures) _ _ _ _ _ _ _ _ (c .before .before .before .before .before .before .before .before .before .before .before .before .before .before .before .before .before .enum-told2 .given .1) _ (c .before .before .before .before .before .before .before .before .before .before .before .before .before .before .before .before .is-quiet .ensures) (c .before .before .before .before .before .before .before .before .before .before .close .ensures)
 
 returns-3 : tie.Need-returns-3
-returns-3 c = round-over _ _ _ _ _ (c .before .before .before .before .before .before .before .before .before .before .before .before .before .before .pre .1) _ _ (c .before .before .before .mode-from .ensures) _ _ (c .before .before .before .before .before .before .before .before .before .before .before .before .before .before .pre .3) (c .unchanged .ensures) (c .before .enum-told3 .given .1)
+returns-3 c = round-over _ _ _ _ _ (c .before .before .before .before .before .before .before .before .before .before .before .before .before .before .pre .1) _ _ (c .before .before .before .mode-from .ensures) _ _ _ _ (c .before .before .before .before .before .before .before .before .before .before .before .before .before .before .pre .3) (c .unchanged .ensures) (c .before .enum-told3 .given .1)
 
 same-length : tie.Need-same-length
 same-length c = c .before .before .before .before .before .before .before .before .before .before .before .before .take .kept .1 .1 .1 .0
@@ -73,6 +73,9 @@ same-length-10 c = c .before .before .before .before .before .before .before .be
 same-length-11 : tie.Need-same-length-11
 same-length-11 c = c .before .before .before .before .before .before .before .before .before .before .close .kept .1 .1 .1 .1 .0
 
+is-quiet-requires : tie.Need-is-quiet-requires
+is-quiet-requires c κs = c .before .before .before .before .before .before .before .before .before .before .before .before .before .pre .0 .indexed .size
+
 pub round-spec : {M : Type 1} → statement M
 round-spec =
     tie.close
@@ -82,6 +85,7 @@ round-spec =
     enum-told
     take-requires
     enum-told-2
+    is-quiet-requires
     close-requires
     enum-told-3
     unchanged-requires
