@@ -1,4 +1,6 @@
 // Answers and statuses in the numbers of document 01.
+#![tactic(auto)]
+
 ghost use Rattle.std.specs.Prelude.{◌≡◌};
 ghost use Rattle.definition.specs.Answers.{answer_no, status_no};
 

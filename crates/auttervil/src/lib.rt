@@ -1,6 +1,8 @@
 // The functions that a C program calls. A lent slice is a pointer and then the count of its elements; an answer is the number that document 01 gives it.
 // No function asks anything of its arguments but what C has to keep for every lent place: that it is there, aligned and as long as is said, and that a place that
 // is written overlaps no other.
+#![tactic(auto)]
+
 ghost use Rattle.std.specs.Prelude.{◌≡◌, cond, ◌*◌, length};
 ghost use Rattle.definition.specs.Tables.{name_count, slot_size};
 ghost use Rattle.definition.specs.Rules.{counts_fit, compiled_size};

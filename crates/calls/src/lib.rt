@@ -1,4 +1,6 @@
 // A whole list of calls, performed one after the other over a session and a clock record lent in place.
+#![tactic(auto)]
+
 ghost use Rattle.std.specs.Prelude.{◌≡◌, true, length};
 ghost use Rattle.lent.specs.Places.{places_fit};
 ghost use Rattle.calls.specs.Calls.{calls_of};

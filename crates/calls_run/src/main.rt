@@ -21,6 +21,8 @@
 //   t ROOM           a start: prints the answer, the entries of the trace, the clock record and the session
 //   u ROUNDS ROOM    a run: prints the status, the rounds, the entries, the clock record and the session
 //   y TICKS          a clock call: prints the answer, the clock record and the session
+#![tactic(auto)]
+
 mod cells;
 mod posts;
 mod records;

@@ -1,5 +1,7 @@
 // The cells of rows and transitions that say where their lists and blocks stand, by the bins that those were put into, and the tables of a content as a whole (R-1).
 // Beside the code, specs/Tables has the law: a header, these cells, those of kind, parent, id, source, condition and type, and full bins are the tables of a content.
+#![tactic(auto)]
+
 ghost use Rattle.std.specs.Prelude.{◌≡◌, ◌≤◌, length};
 ghost use Rattle.cells.specs.Starts.{start_in, EntriesRoom, entries_in, PartRoom, PartLaid};
 ghost use Rattle.cells.specs.Parts.{CellsRoom, RowRoom, RowLaid, RowsLaid};

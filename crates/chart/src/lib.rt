@@ -1,4 +1,6 @@
 // Readers of a compiled chart: the sets behind the numbers, and what they say of a row.
+#![tactic(auto)]
+
 ghost use Rattle.std.specs.Prelude.{◌≡◌, [], ◌+◌, ◌*◌};
 ghost use Rattle.definition.specs.Rows.{union};
 ghost use Rattle.definition.specs.Tables.{row_count, tables_size, chart_of};

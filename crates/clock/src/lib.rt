@@ -1,4 +1,6 @@
 // The clock record in its lent place (R-9): 4,368 bytes, of which specs/Records says what stands where. The contracts are equations on the bytes.
+#![tactic(auto)]
+
 ghost use Rattle.std.specs.Prelude.{◌≡◌, length};
 ghost use Rattle.clock.specs.Records.{clock_in, emptied_bytes};
 

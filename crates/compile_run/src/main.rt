@@ -8,6 +8,8 @@
 //   d            each number of the compiled chart changed in each way, and checked: a line of answers for each way
 //   b            the same for each byte of its names
 //   m            each number of the chart changed in each way, and compiled: a line of answers for each way, and a sum of what all of them left in the buffers
+#![tactic(auto)]
+
 use libc::STDIN_FILENO;
 use lines::{behind_guard, least, put, read_numbers, show_answer, show_sum, sum_bytes, sum_words};
 

@@ -1,4 +1,6 @@
 // A chart's numbers into a compiled chart: the sets that the rows give, behind the numbers.
+#![tactic(auto)]
+
 ghost use Rattle.std.specs.Prelude.{◌≡◌, cond, ◌*◌};
 ghost use Rattle.definition.specs.Tables.{name_count, slot_size};
 ghost use Rattle.definition.specs.Compiled.{is_compiled};

@@ -1,4 +1,6 @@
 // The event of a round: where it comes from, what it selects, how it leaves its queue, and the names that a round queues.
+#![tactic(auto)]
+
 ghost use Rattle.std.specs.Prelude.{◌≡◌, true, ◌++◌, ◌+◌, ◌≤◌, length};
 ghost use Rattle.definition.specs.Tables.{name_at, chart_of};
 ghost use Rattle.follower.specs.Blocks.{queued};

@@ -1,4 +1,6 @@
 // What a tag says (R-1): a row, a list of a row, a transition, an action of a block, or nothing, by its element and the spot that it stands in.
+#![tactic(auto)]
+
 ghost use Rattle.std.specs.Prelude.{◌≡◌};
 ghost use Rattle.facts.specs.Facts.{part_of, SaidBy, block_only, ends};
 

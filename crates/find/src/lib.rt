@@ -1,4 +1,6 @@
 // What the values of a text's attributes say (R-1): a decimal's number, whether a type is deep or internal, how many names there are. The bytes stand between the quotes.
+#![tactic(auto)]
+
 ghost use Rattle.std.specs.Prelude.{◌≡◌, true, ◌+◌, ◌*◌, ◌-◌, ◌≤◌, length};
 ghost use Rattle.definition.specs.Rows.{same};
 ghost use Rattle.reading.specs.Faults.{plain, internal, deep, is_decimal, decimal, names_in};

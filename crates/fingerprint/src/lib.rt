@@ -1,4 +1,6 @@
 // One number of a compiled chart, by which a host can see that a stored session belongs to it. It is a function of the chart's numbers and names, and no more is promised of it.
+#![tactic(auto)]
+
 ghost use Rattle.std.specs.Prelude.{◌≡◌};
 ghost use Rattle.fingerprint.specs.Fingerprint.{mix, mix_all, fingerprint};
 

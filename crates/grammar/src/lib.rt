@@ -1,4 +1,6 @@
 // The grammar of the texts that are read (R-1): the enums that its definition in specs/ and the code share.
+#![tactic(auto)]
+
 ghost use Rattle.std.specs.Prelude.{◌≡◌};
 
 // Where a text stands between two bytes. The fields, in their order: w a word and k how many of its bytes are read; e an element, x the set of

@@ -1,5 +1,7 @@
 // Whether all that a session has stored may be stored. The sets of the deep histories are judged together: at each row stands the set of the histories
 // that have it on their paths, and one pass over the rows, each after its children, judges them all.
+#![tactic(auto)]
+
 ghost use Rattle.std.specs.Prelude.{◌≡◌, length};
 ghost use Rattle.definition.specs.Rows.{all, from};
 ghost use Rattle.definition.specs.Tables.{row_count, chart_of};

@@ -1,4 +1,6 @@
 // The kinds of a row: the number of each, and which may stand under which.
+#![tactic(auto)]
+
 ghost use Rattle.std.specs.Prelude.{◌≡◌, ◌<◌};
 ghost use Rattle.definition.specs.Chart.{kind_no, is_root, is_state, is_parallel, is_final, is_shallow, is_history};
 ghost use Rattle.definition.specs.Tables.{kind_of};

@@ -1,5 +1,7 @@
 // Tables of a text, laid and handed out (R-1). Beside the code, specs/Sizes has how large the tables of a content are, and what is answered where it counts more than
 // rule 1 allows.
+#![tactic(auto)]
+
 ghost use Rattle.std.specs.Prelude.{◌≡◌, ◌++◌, take, drop};
 ghost use Rattle.lay.specs.Copies.{CopyRoom};
 

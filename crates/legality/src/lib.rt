@@ -1,4 +1,6 @@
 // Whether a configuration is legal, and whether a history may have stored a set: the definition's tests (Legal), over sets of rows.
+#![tactic(auto)]
+
 ghost use Rattle.std.specs.Prelude.{◌≡◌, ◌<◌};
 ghost use Rattle.definition.specs.Rows.{any, all, is_set};
 ghost use Rattle.definition.specs.Tables.{row_count, chart_of};

@@ -1,4 +1,6 @@
 // "The clock record is lent and changed in place, once the same by value stands." (R-9): the calls of crate session that take a clock record, with the record lent.
+#![tactic(auto)]
+
 ghost use Rattle.std.specs.Prelude.{◌≡◌, length};
 ghost use Rattle.session.specs.Sessions.{start_of, start_effects, run_of, run_effects, clock_of};
 ghost use Rattle.state.specs.State.{trace_with};

@@ -1,4 +1,6 @@
 // The calls over a session that is lent in three places, which are changed where they lie: its numbers, its internal and its external queue. Its clock record lies in a fourth.
+#![tactic(auto)]
+
 ghost use Rattle.std.specs.Prelude.{◌≡◌, length};
 ghost use Rattle.state.specs.State.{trace_with};
 ghost use Rattle.session.specs.Sessions.{posted, post_of, run_of, run_effects, clocked_as, clock_of};

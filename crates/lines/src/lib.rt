@@ -1,4 +1,6 @@
 // What the programs over the crates share: how the numbers and names of a line are read and printed, what stands in the buffers that hold lent places, sums of them, and ways to change a cell.
+#![tactic(auto)]
+
 pub use buffers::{
     Part, behind_guard, fill_bytes, fill_trace, fill_words, least, mix, sum_bytes, sum_words,
     unwritten,

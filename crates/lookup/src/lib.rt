@@ -1,5 +1,7 @@
 // What is worked out of a chart once, for all rounds of a run: where the transitions of each source start, the domains that no history
 // moves, and the rows that a round asks for by kind.
+#![tactic(auto)]
+
 ghost use Rattle.std.specs.Prelude.{◌≡◌, ◌+◌, ◌≤◌, length};
 ghost use Rattle.definition.specs.Tables.{chart_of};
 ghost use Rattle.chart.specs.Ready.{Ready};

@@ -1,5 +1,7 @@
 // The marks of a text: where a value of an attribute stands, and where a tag ends. One call answers the next mark, and no list of tags is stored: a
 // pass that needs them again walks the text again. Joined in specs/ has the theorem that the marks are the tags of the definition.
+#![tactic(auto)]
+
 ghost use Rattle.std.specs.Prelude.{◌≡◌, cond, ◌<◌, length};
 ghost use Rattle.markup.specs.Growth.{word_at};
 ghost use Rattle.marks.specs.Marks.{slash_mark, end_mark, value_mark, mark_of, is_mark};

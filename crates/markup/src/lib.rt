@@ -1,4 +1,6 @@
 // The grammar of texts (R-1) in code: one byte at a time, with the levels of the open elements in a stack.
+#![tactic(auto)]
+
 ghost use Rattle.std.specs.Prelude.{◌≡◌, ◌<◌, length};
 ghost use Rattle.grammar.specs.Grammar.{step_of, is_content};
 ghost use Rattle.markup.specs.Growth.{word_at};

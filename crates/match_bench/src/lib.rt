@@ -1,5 +1,7 @@
 // Whether any of four descriptors matches an event, in two ways: by one pass over the event's name, and one descriptor after the other, as it was before. For the benchmark and for
 // the test that counts how often a name is read; no part of the library.
+#![tactic(auto)]
+
 ghost use Rattle.std.specs.Prelude.{◌≡◌, cond, ◌<◌, length};
 ghost use Rattle.definition.specs.Rows.{from, any};
 ghost use Rattle.match_bench.specs.Ways.{slot_matches, answer};

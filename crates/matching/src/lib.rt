@@ -1,4 +1,6 @@
 // Which transitions match an event, and which of them the active atomic states choose.
+#![tactic(auto)]
+
 ghost use Rattle.std.specs.Prelude.{◌≡◌, length};
 ghost use Rattle.definition.specs.Rows.{any};
 ghost use Rattle.definition.specs.Tables.{row_count, events_at, name_at, chart_of};

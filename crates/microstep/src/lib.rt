@@ -1,4 +1,6 @@
 // What a set of transitions does to the configuration: stored history, the entry set, the plan of a round and its effects.
+#![tactic(auto)]
+
 pub use planning::{
     closing_effects, first_effects, next_configuration, plan_effects, plan_round, plan_start,
 };

@@ -1,5 +1,7 @@
 // Names, descriptors, matching and slots, for every slice of bytes, whatever its length and its bytes. The tests, matching and what a slot holds
 // answer as definition's Names; a name's slot is definition's slotOf, in Marked, and this crate's `padded` for a slot of another size.
+#![tactic(auto)]
+
 ghost use Rattle.std.specs.Prelude.{◌≡◌};
 ghost use Rattle.definition.specs.Rows.{same};
 ghost use Rattle.definition.specs.Names.{between, is_letter, is_name_byte, is_name, bare, is_descriptor, begins, tokens, matches, is_id};

@@ -14,6 +14,8 @@
 //   f D D D D E      which of four descriptors match the event, in one pass: a mark for each, and one for any of them
 //   o LETTERS MORE   every word of up to three of the letters beside every such word as descriptors on every word of up to three of the others, in one
 //                    pass: a line a pair, see `mark_two`
+#![tactic(auto)]
+
 use libc::STDIN_FILENO;
 use pairs::{each_changed_pair, each_length_of_pair, each_word, pair};
 use printing::put;

@@ -1,4 +1,6 @@
 // The numbers by which the tables are read, each a type of its own, so that none stands where another is wanted.
+#![tactic(auto)]
+
 ghost use Rattle.std.specs.Prelude.{◌≡◌, ◌+◌, eqb};
 ghost use Rattle.numbers.specs.Numbers.{row_no, transition_no, name_no};
 

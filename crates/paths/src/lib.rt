@@ -1,4 +1,6 @@
 // Paths of the tree below a row; in specs/ how stored history is spelled, and how many effects a block and a final have. What more than one of the crates that carry out a round needs, and the checks do not.
+#![tactic(auto)]
+
 ghost use Rattle.std.specs.Prelude.{◌≡◌};
 ghost use Rattle.definition.specs.Tables.{row_count, chart_of};
 ghost use Rattle.follower.specs.Microstep.{add_path, paths_below};

@@ -1,4 +1,6 @@
 // Lent places copied and cleared, one function for each type of element; one law over lists serves them all.
+#![tactic(auto)]
+
 ghost use Rattle.std.specs.Prelude.{◌≡◌, ◌++◌, ◌≤◌, length, drop, replicate};
 
 // ---- a copy over the beginning of a place

@@ -1,5 +1,7 @@
 // Queues of names over lent bytes: 32 slots of 64 bytes, the names from slot 0 on, zeros behind them. The contracts are equations on
 // the bytes; specs/Queues turns them into the names.
+#![tactic(auto)]
+
 ghost use Rattle.std.specs.Prelude.{◌≡◌, ◌++◌, ◌+◌, ◌-◌, ◌*◌, length, take, drop, replicate};
 ghost use Rattle.definition.specs.Names.{done_name};
 ghost use Rattle.definition.specs.Tables.{slot_at, name_at, slot_of};

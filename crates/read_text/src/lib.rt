@@ -1,4 +1,6 @@
 // A text read into two lent places (R-1): 12 with the offset of the first fault, 1 to 5, or 0 with the tables. The definition of the whole call is `call_of` of crate reading.
+#![tactic(auto)]
+
 ghost use Rattle.std.specs.Prelude.{◌≡◌, length};
 ghost use Rattle.reading.specs.Calls.{call_of};
 ghost use Rattle.read_text.specs.Outcome.{outcome_of};

@@ -1,4 +1,6 @@
 // From text to tables (R-1): is the text of the grammar, and has it a fault.
+#![tactic(auto)]
+
 ghost use Rattle.reader.specs.Judged.{Places, JudgedAs};
 
 use gather::faults::first_fault;

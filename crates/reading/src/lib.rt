@@ -1,4 +1,6 @@
 // What a text of the grammar means (R-1): the definitions are in specs/. Here stands the enum that they share with the code.
+#![tactic(auto)]
+
 ghost use Rattle.std.specs.Prelude.{◌≡◌};
 
 // What of a place in the text the tags go by: between tags; behind a "<"; in the start tag of an element e; in the value of the attribute in place j

@@ -1,4 +1,6 @@
 // How many entries of trace suffice for any one start or round of a chart. The laws of it, and of how many rounds a run does, stand in specs/.
+#![tactic(auto)]
+
 ghost use Rattle.std.specs.Prelude.{◌≡◌};
 ghost use Rattle.definition.specs.Tables.{chart_of};
 ghost use Rattle.tables.specs.Ranges.{InTables, RowIn, TransitionIn};

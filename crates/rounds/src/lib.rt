@@ -1,5 +1,7 @@
 // Rounds over the lent places of a session and its clock record. A round is worked out whole, into a draft; 7 and 10 are judged; then the record, history, queues
 // and trace are written. A refused round changes none of them, since none of them was written.
+#![tactic(auto)]
+
 use definition::{Answer, Status};
 use effects::Tally;
 use events::Source;

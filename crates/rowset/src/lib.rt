@@ -1,5 +1,7 @@
 // Sets of rows, by value: 256 bits in four words. What a set means is its ascending list of rows, `rows_of`, and each contract is an
 // equation with the definition's own functions of such lists.
+#![tactic(auto)]
+
 ghost use Rattle.std.specs.Prelude.{◌≡◌, [], ◌∷◌, min};
 ghost use Rattle.definition.specs.Rows.{from, mem, is_empty, is_single, insert, union, intersection, minus, meets, subset, same};
 ghost use Rattle.rowset.specs.Member.{rows_of, next_in, prev_in};

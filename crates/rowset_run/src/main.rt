@@ -1,5 +1,7 @@
 // Reads cases from standard input, a line of 144 bytes each, and writes what each function of `rowset` gives for it.
 // A line: the words of two sets, 16 hexadecimal digits each; a row, 2 digits; a number, 4 digits.
+#![tactic(auto)]
+
 ghost use Rattle.std.specs.Prelude.{◌≡◌};
 ghost use Rattle.definition.specs.Rows.{fold, backwards};
 ghost use Rattle.rowset.specs.Member.{rows_of};

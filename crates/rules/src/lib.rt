@@ -1,4 +1,6 @@
 // Whether a lent chart is well formed: rules 4 and 5, and the verdict over all five.
+#![tactic(auto)]
+
 ghost use Rattle.std.specs.Prelude.{◌≡◌};
 ghost use Rattle.definition.specs.Rules.{verdict, keeps_rules};
 ghost use Rattle.rules.specs.Verdict.{first_three};

@@ -1,4 +1,6 @@
 // Rules 1 and 2: every number within its table or range, the places lent of the right size; names, ids and raises.
+#![tactic(auto)]
+
 ghost use Rattle.std.specs.Prelude.{◌≡◌, true, ◌||◌, ◌<◌, eqb};
 ghost use Rattle.definition.specs.Rows.{all, from};
 ghost use Rattle.definition.specs.Names.{is_name};

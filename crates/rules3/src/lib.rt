@@ -1,5 +1,7 @@
 // Rule 3: every row under its parent, in document order, and a child for each row that needs one; and what rule 4 and the compiler read of
 // such a tree, the ancestors and the anchor of each row.
+#![tactic(auto)]
+
 ghost use Rattle.std.specs.Prelude.{◌≡◌, ◌∷◌, ◌+◌, ◌*◌, ◌≤◌, length};
 ghost use Rattle.definition.specs.Rows.{all, from, mem};
 ghost use Rattle.definition.specs.Tables.{row_count, chart_of};

@@ -1,4 +1,6 @@
 // Bytes, words, attributes and levels of the grammar of texts (R-1): the readers of its tables. Each equals the definition's function of a like name.
+#![tactic(auto)]
+
 ghost use Rattle.std.specs.Prelude.{◌≡◌, get_or};
 ghost use Rattle.grammar.specs.Tables.{words, menus, attrs, kinds, needed, opened, owners, ends, bits, adds};
 ghost use Rattle.grammar.specs.Grammar.{is_space, is_char, is_token, word_byte, agree, follows, pick, attribute, has, added, pick_attribute, is_complete, may_end, owner, after, opens, kind_of};

@@ -1,4 +1,6 @@
 // Which transitions a round takes, and what they exit: effective targets, domains, exit sets, conflicts.
+#![tactic(auto)]
+
 pub use conflicts::select;
 pub use domains::{NO_DOMAIN, domain, domain_of, exit_set, fixed_domains};
 use rowset::RowSet;

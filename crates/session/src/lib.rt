@@ -1,4 +1,6 @@
 // The session and its clock record by value: what every call of this crate takes and hands back beside its answer. Plain numbers; C lends the same parts in place (crate lent).
+#![tactic(auto)]
+
 ghost use Rattle.std.specs.Prelude.{◌≡◌, ◌++◌, ◌+◌, ◌*◌, ◌<◌, length, take, drop};
 ghost use Rattle.definition.specs.Tables.{chart_of, slot_of};
 ghost use Rattle.chart.specs.Ready.{Ready};

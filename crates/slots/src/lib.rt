@@ -1,5 +1,7 @@
 // The name slots of a text (R-1, 1.19): "equal names share a slot, by first use in the text as id, descriptor or action's name". Each is noted by its
 // place in the text and its length.
+#![tactic(auto)]
+
 ghost use Rattle.std.specs.Prelude.{◌≡◌};
 ghost use Rattle.marks.specs.Marks.{value_from, value_to};
 ghost use Rattle.slots.specs.Slots.{AddRoom, Added, AddedAll, is_use, ValueIn};

@@ -1,4 +1,6 @@
 // The numbers of a session, and the state in them, which is handed on by value while a call works.
+#![tactic(auto)]
+
 ghost use Rattle.std.specs.Prelude.{◌≡◌, [], ◌∷◌, length};
 ghost use Rattle.definition.specs.Compiled.{words};
 ghost use Rattle.definition.specs.Answers.{mode_no};

@@ -1,4 +1,6 @@
 // Readers of the lent chart. Where a number stands is known in this crate, and where a set stands in crate chart; rule 1 and the compiler name columns.
+#![tactic(auto)]
+
 pub use blocks::{
     action_at, action_cell, action_of, actions_in, entry_block_of, exit_block_of, list_block_of,
     transition_block_of,

@@ -1,4 +1,6 @@
 // The tags of a text one by one (R-1): a walk to the end of the next tag, with the places of its attributes' values.
+#![tactic(auto)]
+
 ghost use Rattle.std.specs.Prelude.{◌≡◌, ◌<◌, length};
 ghost use Rattle.marks.specs.Marks.{value_from, value_to};
 ghost use Rattle.marks.specs.Walks.{Standing};

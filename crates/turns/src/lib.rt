@@ -1,4 +1,6 @@
 // What stands inside a tag and behind it (R-1, 1.15): the walk from tag to tag with the spots that they stand in as a stack.
+#![tactic(auto)]
+
 ghost use Rattle.std.specs.Prelude.{◌≡◌, ◌*◌, ◌≤◌, ◌<◌, length};
 ghost use Rattle.turns.specs.Spots.{TopIs, StoreRoom, stored, rest_depth, TurnRoom, TransitionTurn, block_part, TurnIs};
 ghost use Rattle.turns.specs.Turns.{EnterRoom, Entered, TagRoom, TagTurned};

@@ -1,5 +1,7 @@
 // The values of attributes (R-1, 1.5 and 1.10): which exist, and where a name in one is too long. Each function takes the bytes between the quotes.
 // No value that exists has an entity in it, but for cond: what an entity stands for is in none of them (specs/Plain).
+#![tactic(auto)]
+
 ghost use Rattle.std.specs.Prelude.{◌≡◌, true, ◌+◌, ◌*◌, ◌-◌, ◌≤◌, ◌<◌, length, get_or, take, drop};
 ghost use Rattle.definition.specs.Rows.{same};
 ghost use Rattle.reading.specs.Faults.{plain, namespace, version_text, types_of, is_among, is_decimal_digit, is_decimal};

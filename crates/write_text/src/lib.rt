@@ -1,4 +1,6 @@
 // A chart written back as text (R-4): 1 to 5, 13, or 0 and the text at the buffer's beginning. The definition of the whole call is `call_of` of crate writing.
+#![tactic(auto)]
+
 ghost use Rattle.std.specs.Prelude.{◌≡◌};
 ghost use Rattle.writing.specs.Calls.{call_of};
 ghost use Rattle.write_text.specs.Whole.{outcome_of, Answers};
