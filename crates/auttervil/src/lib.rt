@@ -93,7 +93,7 @@ pub extern "C" fn auttervil_raw3_room(chart: &[u64], names: &[u8]) -> usize
 
 // The first count entries of the trace are the start's.
 #[repr(C)]
-#[derive(Drop)]
+#[derive(Clone, Copy)]
 pub struct StartResult {
     pub answer: u32,
     pub count: usize,
@@ -156,7 +156,7 @@ pub extern "C" fn auttervil_raw3_advance(
 
 // The first count entries of the trace are those of the rounds done.
 #[repr(C)]
-#[derive(Drop)]
+#[derive(Clone, Copy)]
 pub struct RunResult {
     pub status: u32,
     pub rounds: u32,
@@ -191,7 +191,7 @@ pub extern "C" fn auttervil_raw3_run(
 }
 
 #[repr(C)]
-#[derive(Drop)]
+#[derive(Clone, Copy)]
 pub struct StepResult {
     pub answer: u32,
     pub status: u32,
@@ -257,7 +257,7 @@ pub extern "C" fn auttervil_raw3_perform(
 
 // How many numbers and bytes the tables have; the offset is that of the first fault.
 #[repr(C)]
-#[derive(Drop)]
+#[derive(Clone, Copy)]
 pub struct ReadResult {
     pub answer: u32,
     pub offset: usize,
@@ -321,7 +321,7 @@ pub extern "C" fn auttervil_raw3_read_with(
 
 // The length of the text; with 13, that of a buffer that it would fit, if there is one.
 #[repr(C)]
-#[derive(Drop)]
+#[derive(Clone, Copy)]
 pub struct WriteResult {
     pub answer: u32,
     pub length: usize,

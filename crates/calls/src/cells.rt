@@ -37,7 +37,7 @@ fn is_kind(kind: u64, a: u64, b: u64, size: usize) -> bool
 
 // What a call of a list is: its kind, the length of its window of the trace, and for a post where its name begins and ends in the text, for
 // a run its rounds in a, for a clock call its ticks in a.
-#[derive(Drop)]
+#[derive(Clone, Copy)]
 pub struct Cells {
     pub kind: u64,
     pub room: u64,
@@ -69,7 +69,7 @@ pub fn is_call(cells: Cells, size: usize, left: usize) -> bool
 }
 
 // What it gives: the number of its answer or status, the rounds done and the count of its entries.
-#[derive(Drop)]
+#[derive(Clone, Copy)]
 pub struct Called {
     pub number: u32,
     pub rounds: u32,

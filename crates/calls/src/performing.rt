@@ -11,7 +11,7 @@ use answers::{answer_number, status_number};
 use lent::Checks;
 
 // What a call is, and what is known of chart, session and clock record.
-#[derive(Drop)]
+#[derive(Clone, Copy)]
 pub struct Asked {
     pub checks: Checks,
     pub cells: Cells,

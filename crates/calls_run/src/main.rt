@@ -38,7 +38,7 @@ use session::{Clock, Session};
 const TEXT: usize = 524288;
 
 // How much of each buffer is lent.
-#[derive(Drop)]
+#[derive(Clone, Copy)]
 pub struct Lent {
     pub numbers: usize,
     pub names: usize,
@@ -260,7 +260,7 @@ fn call_line(case: u8, rest: &[u8], l: Lent, h: Held, place: &[u64], name_place:
 // ---- all lines
 
 // Of what a line speaks.
-#[derive(Drop)]
+#[derive(Clone, Copy)]
 enum Line {
     OfChart,
     OfBoth,

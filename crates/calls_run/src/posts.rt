@@ -47,7 +47,7 @@ pub fn post_line(rest: &[u8], l: Lent, s: Session, place: &[u64], name_place: &[
 // ---- answers one after the other
 
 // How often the last answer came, and a sum of all sessions handed back. Before the first the count is 0.
-#[derive(Drop)]
+#[derive(Clone, Copy)]
 struct Seen {
     answer: u64,
     count: u64,

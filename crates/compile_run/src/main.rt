@@ -17,7 +17,7 @@ use lines::{behind_guard, least, put, read_numbers, show_answer, show_sum, sum_b
 const TEXT: usize = 524288;
 
 // How much of each buffer is lent.
-#[derive(Drop)]
+#[derive(Clone, Copy)]
 struct Lent {
     numbers: usize,
     names: usize,

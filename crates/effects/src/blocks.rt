@@ -58,7 +58,7 @@ fn perform_in(
 }
 
 // How far a block was performed: so many of its actions.
-#[derive(Drop)]
+#[derive(Clone, Copy)]
 pub struct Plain {
     pub tally: Tally,
     pub actions: usize,

@@ -16,7 +16,7 @@ pub mod transitions;
 pub mod writing;
 
 // How many entries there are, how many names join the internal queue, and how many sends and cancels there are.
-#[derive(Drop)]
+#[derive(Clone, Copy)]
 pub struct Tally {
     pub entries: u64,
     pub names: u64,

@@ -19,7 +19,7 @@ use rowset::RowSet;
 use selection::Selected;
 
 // Where the event of a round comes from: nothing if the session is idle.
-#[derive(Drop)]
+#[derive(Clone, Copy)]
 pub enum Source {
     Nothing,
     Eventless,
@@ -28,7 +28,7 @@ pub enum Source {
 }
 
 // What the next round of a running session takes.
-#[derive(Drop)]
+#[derive(Clone, Copy)]
 pub struct Choice {
     pub source: Source,
     pub selected: Selected,

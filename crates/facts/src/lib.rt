@@ -8,7 +8,7 @@ use turns::SpotCells;
 
 // A row under the row of a number; a list of a row; a transition of a row; an action of a block, which 1 is the entry, 2 the exit block of a row, 3 that of its
 // list, 4 that of a transition, 0 none.
-#[derive(Drop)]
+#[derive(Clone, Copy)]
 pub enum Said {
     Nothing,
     Row(usize),

@@ -11,7 +11,7 @@ use markup::{Scanned, finish};
 use values::noted::{forget, note, place_of};
 
 // The id that a tag states: whether it states one, where it begins, how long it is.
-#[derive(Drop)]
+#[derive(Clone, Copy)]
 pub struct Id {
     pub stated: bool,
     pub at: usize,
@@ -100,7 +100,7 @@ fn ended(n: usize, w: Walk) -> Scanned
 }
 
 // How many rows the text has beside the root, the offset of its first fault if it is not of the grammar, and whether it is of the grammar.
-#[derive(Drop)]
+#[derive(Clone, Copy)]
 pub struct Ids {
     pub count: usize,
     pub at: usize,

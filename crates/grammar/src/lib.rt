@@ -5,7 +5,7 @@ ghost use Rattle.std.specs.Prelude.{◌≡◌};
 
 // Where a text stands between two bytes. The fields, in their order: w a word and k how many of its bytes are read; e an element, x the set of
 // its attributes so far and j an attribute's place in the element's row; q the quote that ends a value and v the state of a value of names.
-#[derive(Drop)]
+#[derive(Clone, Copy)]
 pub enum Place {
     Content,
     Less,
@@ -30,7 +30,7 @@ pub enum Place {
 
 // What a byte does: no text of the grammar has it there; it leads to a place, with the innermost level as it is then; an element is opened, with
 // its parent's level and its own; the innermost element is closed.
-#[derive(Drop)]
+#[derive(Clone, Copy)]
 pub enum Step {
     Fault,
     Go(Place, u8),

@@ -74,7 +74,7 @@ fn mark_all(chart: &[u64], history: &[u64], marks: &mut [u64]) -> bool
 }
 
 // What some of the sets at the rows have, what two of them have, and what all have.
-#[derive(Drop)]
+#[derive(Clone, Copy)]
 struct Common {
     some: RowSet,
     twice: RowSet,

@@ -15,14 +15,14 @@ mod checked;
 mod checking;
 
 // What a start hands back; count entries of the trace are its own.
-#[derive(Drop)]
+#[derive(Clone, Copy)]
 pub struct StartedIn {
     pub answer: Answer,
     pub count: usize,
 }
 
 // What a run hands back: how it stopped, the rounds done and the entries that they wrote.
-#[derive(Drop)]
+#[derive(Clone, Copy)]
 pub struct RanIn {
     pub status: Status,
     pub rounds: u32,
@@ -30,7 +30,7 @@ pub struct RanIn {
 }
 
 // The answer of a post, and what the run behind it hands back.
-#[derive(Drop)]
+#[derive(Clone, Copy)]
 pub struct Stepped {
     pub answer: Answer,
     pub status: Status,
@@ -39,7 +39,7 @@ pub struct Stepped {
 }
 
 // What was found of a chart, of a session over it, and of that with its clock record.
-#[derive(Drop)]
+#[derive(Clone, Copy)]
 pub struct Checks {
     pub chart: bool,
     pub session: bool,

@@ -70,7 +70,7 @@ pub fn sum_bytes(first: u64, bytes: &[u8]) -> u64 {
 }
 
 // A part of a buffer, which ends within it.
-#[derive(Drop)]
+#[derive(Clone, Copy)]
 pub struct Part {
     pub begin: usize,
     pub end: usize,

@@ -31,7 +31,7 @@ fn put_copies(out: &mut [u64], at: usize, copies: u64, v: u64) -> usize {
 }
 
 // Where the next number goes, how often, and what is read of it so far.
-#[derive(Drop)]
+#[derive(Clone, Copy)]
 struct Reading {
     at: usize,
     copies: u64,
@@ -79,7 +79,7 @@ pub fn read_numbers(text: &[u8], out: &mut [u64]) -> usize {
 }
 
 // Two numbers; one that a line does not have is 0.
-#[derive(Drop)]
+#[derive(Clone, Copy)]
 pub struct Two {
     pub first: u64,
     pub next: u64,

@@ -10,7 +10,7 @@ pub fn put_byte(out: &mut [u8], at: usize, b: u8) {
 }
 
 // Where the slot begins, where its next byte goes, how many digits of that are to come, and the first of them.
-#[derive(Drop)]
+#[derive(Clone, Copy)]
 struct Slot {
     begin: usize,
     at: usize,

@@ -19,7 +19,7 @@ pub mod zones;
 
 // Nothing; a value: its element, the word of its attribute, the offsets of its first byte and of its quote; a tag's end: the offset of its "<",
 // 0 for <x>, 1 for <x/>, 2 for </x>, and its element.
-#[derive(Drop)]
+#[derive(Clone, Copy)]
 pub enum Mark {
     Nothing,
     Valued(u8, u8, usize, usize),
@@ -27,7 +27,7 @@ pub enum Mark {
 }
 
 // Where the walk stands, beside the stack of levels: the last "<", the element, where a value begins, the next byte, and the mark that the last byte gave.
-#[derive(Drop)]
+#[derive(Clone, Copy)]
 pub struct Walk {
     pub cursor: Cursor,
     pub at: usize,

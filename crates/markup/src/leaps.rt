@@ -14,7 +14,7 @@ use scan::{
 };
 
 // Where the bytes before the index lead.
-#[derive(Drop)]
+#[derive(Clone, Copy)]
 pub struct Leap {
     pub place: Place,
     pub top: u8,

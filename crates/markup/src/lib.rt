@@ -17,7 +17,7 @@ mod tags;
 mod values;
 
 // Where a text has come to, beside the stack of levels.
-#[derive(Drop)]
+#[derive(Clone, Copy)]
 pub struct Cursor {
     pub place: Place,
     pub top: u8,
@@ -133,7 +133,7 @@ fn is_content(p: Place) -> bool
 }
 
 // The first fault of a text that is not of the grammar, and whether it is of the grammar.
-#[derive(Drop)]
+#[derive(Clone, Copy)]
 pub struct Scanned {
     pub at: usize,
     pub whole: bool,

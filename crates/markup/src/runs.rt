@@ -7,14 +7,14 @@ use crate::values::value_step;
 use scan::{is_char, is_space, kind_of, word_byte};
 
 // How many bytes of a word have been read before the index.
-#[derive(Drop)]
+#[derive(Clone, Copy)]
 pub struct WordEnd {
     pub read: u16,
     pub index: usize,
 }
 
 // The state of a value before the index.
-#[derive(Drop)]
+#[derive(Clone, Copy)]
 pub struct ValueEnd {
     pub state: u8,
     pub index: usize,

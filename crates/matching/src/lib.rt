@@ -144,14 +144,14 @@ pub fn index_of(chart: &[u64]) -> Index
 // ---- the choice of an atomic state
 
 // What an atomic state chooses.
-#[derive(Drop)]
+#[derive(Clone, Copy)]
 pub enum Choice {
     Nothing,
     Of(Transition),
 }
 
 // What a climb chooses, and the rows at which it and the climbs before it have been.
-#[derive(Drop)]
+#[derive(Clone, Copy)]
 pub struct Climbed {
     pub choice: Choice,
     pub rows: RowSet,

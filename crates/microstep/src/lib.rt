@@ -14,7 +14,7 @@ pub mod storing;
 mod targets;
 
 // The entry set, and the rows of it whose child came by default.
-#[derive(Drop)]
+#[derive(Clone, Copy)]
 pub struct Entered {
     pub set: RowSet,
     pub by_default: RowSet,
@@ -22,7 +22,7 @@ pub struct Entered {
 
 // The configuration before the round, the rows that stay, those that are left, the entry set with its rows whose child came by default,
 // and the histories that fall to their default lists.
-#[derive(Drop)]
+#[derive(Clone, Copy)]
 pub struct Plan {
     pub conf: RowSet,
     pub stay: RowSet,

@@ -5,14 +5,14 @@ ghost use Rattle.std.specs.Prelude.{◌≡◌, ◌+◌, eqb};
 ghost use Rattle.numbers.specs.Numbers.{row_no, transition_no, name_no};
 
 // A row's number. There are at most 256 rows.
-#[derive(Drop)]
+#[derive(Clone, Copy)]
 pub struct Row(pub u8);
 
-#[derive(Drop)]
+#[derive(Clone, Copy)]
 pub struct Transition(pub u16);
 
 // The number of a name in the table of names.
-#[derive(Drop)]
+#[derive(Clone, Copy)]
 pub struct NameNumber(pub u16);
 
 pub fn row_index(r: Row) -> usize

@@ -5,7 +5,7 @@ ghost use Rattle.definition.specs.Names.{star, before_zero};
 ghost use Rattle.onepass.specs.Pass.{ends_here, advanced, followed, matched_by, begun, is_going, is_yes, parts_from};
 
 // How far the event agrees with a descriptor: so far in every byte; or it is known that the descriptor matches, or does not.
-#[derive(Drop)]
+#[derive(Clone, Copy)]
 pub enum Progress {
     Going,
     Yes,

@@ -12,7 +12,7 @@ use walks::item_walk::file_items;
 use walks::plan::Plan;
 
 // More than rule 1 allows, or so many numbers.
-#[derive(Drop)]
+#[derive(Clone, Copy)]
 pub enum Laid {
     Many,
     Size(usize),

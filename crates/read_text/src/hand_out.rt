@@ -10,7 +10,7 @@ use lay::{copy_bytes, copy_numbers};
 use rules::keeps_rules;
 
 // The answer, the offset of a fault, and how many numbers and bytes the tables have.
-#[derive(Drop)]
+#[derive(Clone, Copy)]
 pub struct Read {
     pub answer: u32,
     pub offset: usize,

@@ -6,7 +6,7 @@ use tables::limits::{MOST_ROWS, MOST_TRANSITIONS};
 use walks::sources::sources;
 
 // More than rule 1 allows, or so many rows and transitions.
-#[derive(Drop)]
+#[derive(Clone, Copy)]
 pub enum Numbered {
     Many,
     Count(usize, usize),

@@ -6,7 +6,7 @@ use reader::{Judged, judge};
 use slots::{Slots, gather_slots};
 
 // The offset of the first fault; or there is none and the text has more than rule 1 allows; or so many rows, transitions, ids and name slots.
-#[derive(Drop)]
+#[derive(Clone, Copy)]
 pub enum Surveyed {
     Faulty(usize),
     Many,

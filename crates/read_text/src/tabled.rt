@@ -6,7 +6,7 @@ use crate::survey::{Surveyed, survey};
 use walks::plan::Plan;
 
 // The offset of the first fault; or there is none and the text has more than rule 1 allows; or the tables have so many numbers and so many names.
-#[derive(Drop)]
+#[derive(Clone, Copy)]
 pub enum Tabled {
     Faulty(usize),
     Many,

@@ -8,7 +8,7 @@ use gather::ids::gather_ids;
 use values::Fault;
 
 // The offset of the first fault; or there is none, and the text has so many rows beside the root, whose ids are noted.
-#[derive(Drop)]
+#[derive(Clone, Copy)]
 pub enum Judged {
     Faulty(usize),
     Well(usize),

@@ -5,7 +5,7 @@ ghost use Rattle.std.specs.Prelude.{◌≡◌};
 
 // What of a place in the text the tags go by: between tags; behind a "<"; in the start tag of an element e; in the value of the attribute in place j
 // of its row; behind the "/" of an empty-element tag.
-#[derive(Drop)]
+#[derive(Clone, Copy)]
 pub enum Zone {
     Outside,
     Begun,

@@ -24,7 +24,7 @@ pub struct Begun {
 }
 
 // What a run has done.
-#[derive(Drop)]
+#[derive(Clone, Copy)]
 pub struct Progress {
     pub status: Status,
     pub rounds: u32,
@@ -32,7 +32,7 @@ pub struct Progress {
 }
 
 // What became of a round: nothing to choose, the session over, refused, or done.
-#[derive(Drop)]
+#[derive(Clone, Copy)]
 pub enum Outcome {
     Idle,
     Over,
@@ -41,7 +41,7 @@ pub enum Outcome {
 }
 
 // How many entries it wrote, and how many it has: a quiet round writes none of them (R-10).
-#[derive(Drop)]
+#[derive(Clone, Copy)]
 pub struct Turn {
     pub outcome: Outcome,
     pub count: usize,
@@ -49,7 +49,7 @@ pub struct Turn {
 }
 
 // What a round of a running session takes: where its event comes from, how many transitions, and what they do.
-#[derive(Drop)]
+#[derive(Clone, Copy)]
 pub struct Step {
     pub source: Source,
     pub len: usize,
@@ -57,7 +57,7 @@ pub struct Step {
 }
 
 // What became of a step that was shown, how many entries it wrote, and what was counted of it.
-#[derive(Drop)]
+#[derive(Clone, Copy)]
 pub struct Shown {
     pub outcome: Outcome,
     pub count: usize,

@@ -12,7 +12,7 @@ use numbers::Row;
 pub mod words;
 
 // Bit r % 64 of word r / 64 stands for row r.
-#[derive(Drop)]
+#[derive(Clone, Copy)]
 pub struct RowSet {
     pub w0: u64,
     pub w1: u64,
@@ -21,7 +21,7 @@ pub struct RowSet {
 }
 
 // What a search finds.
-#[derive(Drop)]
+#[derive(Clone, Copy)]
 pub enum Found {
     At(Row),
     Nothing,

@@ -74,7 +74,7 @@ fn parents_fit(numbers: &[u64]) -> bool
 }
 
 // The rows that have a child which is no history, and those that have a history.
-#[derive(Drop)]
+#[derive(Clone, Copy)]
 struct Parents {
     children: RowSet,
     histories: RowSet,

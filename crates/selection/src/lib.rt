@@ -11,7 +11,7 @@ pub mod domains;
 pub mod targets;
 
 // What a history has stored.
-#[derive(Drop)]
+#[derive(Clone, Copy)]
 pub enum Stored {
     Nothing,
     Stored(RowSet),
@@ -24,7 +24,7 @@ pub struct FixedDomains {
 }
 
 // The first len of the lent items, in selection order, and the rows that they exit.
-#[derive(Drop)]
+#[derive(Clone, Copy)]
 pub struct Selected {
     pub len: usize,
     pub exits: RowSet,

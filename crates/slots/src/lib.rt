@@ -13,7 +13,7 @@ use values::item_end;
 use values::noted::{forget, note, place_of};
 
 // How many slots the text has, or more than 768.
-#[derive(Drop)]
+#[derive(Clone, Copy)]
 pub enum Slots {
     Many,
     Count(usize),

@@ -11,7 +11,7 @@ use definition::Mode;
 use rowset::RowSet;
 
 // The configuration, how many names wait in each queue, and the mode.
-#[derive(Drop)]
+#[derive(Clone, Copy)]
 pub struct State {
     pub configuration: RowSet,
     pub internal: u64,

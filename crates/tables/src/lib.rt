@@ -29,7 +29,7 @@ pub mod sets;
 pub mod transitions;
 
 // The condition of a transition.
-#[derive(Drop)]
+#[derive(Clone, Copy)]
 pub enum Condition {
     Always,
     In(Row),

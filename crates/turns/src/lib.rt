@@ -11,14 +11,14 @@ use tags::{is_stated, next_tag};
 
 // Where a tag stands, as two numbers: 0 under a row; 1 under a history or an initial element that still wants its default transition; 2 and more in a block,
 // which 3 is the entry, 4 the exit block of a row, 5 that of its list, 6 that of a transition. The number is the row's or the transition's.
-#[derive(Drop)]
+#[derive(Clone, Copy)]
 pub struct SpotCells {
     pub what: usize,
     pub number: usize,
 }
 
 // What stands inside the tag, what around it from then on, and how many rows and transitions there are then.
-#[derive(Drop)]
+#[derive(Clone, Copy)]
 pub struct TurnCells {
     pub inside: SpotCells,
     pub around: SpotCells,
@@ -166,7 +166,7 @@ fn turn_of(s: SpotCells, rows: usize, transitions: usize, element: u8, plain: bo
 }
 
 // The walk from tag to tag: where it stands in the text, how many spots, rows and transitions there are, and the spot that the last tag stood in.
-#[derive(Drop)]
+#[derive(Clone, Copy)]
 pub struct Turning {
     pub walk: Walk,
     pub depth: usize,

@@ -99,7 +99,7 @@ fn is_closed(value: &[u8]) -> bool
 }
 
 // Not a condition; or where In's name begins in the value, and where it ends.
-#[derive(Drop)]
+#[derive(Clone, Copy)]
 pub enum Condition {
     Other,
     In(usize, usize),

@@ -97,7 +97,7 @@ pub fn item_end(value: &[u8], i: usize) -> usize
 }
 
 // Where a fault stands, if there is one.
-#[derive(Drop)]
+#[derive(Clone, Copy)]
 pub enum Fault {
     Nothing,
     At(usize),

@@ -9,7 +9,7 @@ use crate::name_items::Filing;
 use crate::plan::Plan;
 use crate::told::{decimal_at, place_at, place_or_none, row_at};
 
-#[derive(Drop)]
+#[derive(Clone, Copy)]
 pub struct ActCells {
     pub what: u64,
     pub first: u64,

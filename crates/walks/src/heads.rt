@@ -15,7 +15,7 @@ use marks::is_mark;
 use turns::next_turn;
 
 // What a tag says, with its element, and how many rows and transitions stand before it.
-#[derive(Drop)]
+#[derive(Clone, Copy)]
 pub struct HeadAt {
     pub said: Said,
     pub element: u8,

@@ -12,7 +12,7 @@ use marks::{Mark, is_mark};
 use turns::{SpotCells, next_turn};
 
 // A tag, the spot that it stands in, and how many rows and transitions stand before it.
-#[derive(Drop)]
+#[derive(Clone, Copy)]
 pub struct TagAt {
     pub spot: SpotCells,
     pub shape: u8,

@@ -9,7 +9,7 @@ use facts::Said;
 use values::noted::number_at;
 
 // The key of the items, and that of a transition's descriptors.
-#[derive(Drop)]
+#[derive(Clone, Copy)]
 pub struct Keys {
     pub key: usize,
     pub other: usize,

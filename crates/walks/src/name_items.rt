@@ -10,7 +10,7 @@ use values::item_end;
 use values::noted::place_of;
 
 // The bins and whether they are filled; the key of the items; what is added to a place, 1 for rows, of which the first has no id.
-#[derive(Drop)]
+#[derive(Clone, Copy)]
 pub struct Filing {
     pub bins: usize,
     pub fill: bool,

@@ -9,7 +9,7 @@ use facts::Said;
 use marks::{Mark, is_mark};
 use turns::{SpotCells, next_turn};
 
-#[derive(Drop)]
+#[derive(Clone, Copy)]
 pub struct Counts {
     pub rows: usize,
     pub transitions: usize,

@@ -17,7 +17,7 @@ use tags::{value_from, value_to};
 use turns::SpotCells;
 
 // What a tag says, with its element and the keys of its items.
-#[derive(Drop)]
+#[derive(Clone, Copy)]
 pub struct Tag {
     pub said: Said,
     pub element: u8,

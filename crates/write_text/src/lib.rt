@@ -19,7 +19,7 @@ pub mod runs;
 const LONG_TEXT: u32 = 13;
 
 // The answer, and the length of the text: with 13, that of a buffer that it would fit, if there is one.
-#[derive(Drop)]
+#[derive(Clone, Copy)]
 pub struct Written {
     pub answer: u32,
     pub length: usize,

@@ -45,7 +45,7 @@ fn open_behind(bare: bool, around: u64, i: u64) -> u64
 }
 
 // Where the text goes on behind a row, the inmost row that is open then, and the first transition of the rows behind it.
-#[derive(Drop)]
+#[derive(Clone, Copy)]
 struct Next {
     at: usize,
     inmost: u64,

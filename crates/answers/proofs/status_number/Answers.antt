@@ -1,0 +1,19 @@
+use mathlib.Core.Path.{sym, ap, ◌∙◌}
+use Rattle.definition.specs.Answers.{status_no}
+use Rattle.answers.proofs.status_number.Goals as goal
+
+pub returns-in-More : goal.returns-in-More
+unfolding status_no
+returns-in-More c = sym (ap status_no c.enum_told-1.given.1)
+
+pub returns-in-Idle : goal.returns-in-Idle
+unfolding status_no
+returns-in-Idle c = sym (ap status_no c.enum_told-in-Idle-1.given.1)
+
+pub returns-in-Ended : goal.returns-in-Ended
+unfolding status_no
+returns-in-Ended c = sym (ap status_no c.enum_told-in-Ended-1.given.1)
+
+pub returns-in-Refused : goal.returns-in-Refused
+unfolding status_no
+returns-in-Refused c = c.answer_number.ensures ∙ sym (ap status_no c.status-1.given.1)
