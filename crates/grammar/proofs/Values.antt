@@ -12,7 +12,7 @@ use Rattle.grammar.specs.declared.Step.TheVariants.{Fault, Go}
 use Rattle.grammar.specs.Tables.{needed, opened, adds}
 use Rattle.grammar.specs.Grammar.{is_space, is_char, is_token, word_byte, attribute, has, added, is_complete, opens, name_step, value_step, value_ends, kind_of, equals_step, attribute_step, value_at, value_step_at, entity_step, step_of, dead, live, moved, next, run}
 use Rattle.grammar.specs.Words.{no, and_left, and_right, both, choose, AllBelow, each, rest, one, word_read}
-use Rattle.grammar.specs.Levels.{inner, everything, stack_good, Completes, by_way_of, content_completes, in_tag, is_quote}
+use Rattle.grammar.proofs.Levels.{inner, everything, stack_good, Completes, by_way_of, content_completes, in_tag, is_quote}
 
 unfoldable pub tag_rest : ℕ → ℕ → List ℕ
 tag_rest e x = cond (is_complete e x) (62 ∷ []) (32 ∷ rest (attribute e (get_or needed e 4)) 0 ++ 61 ∷ 34 ∷ 97 ∷ 34 ∷ 62 ∷ [])

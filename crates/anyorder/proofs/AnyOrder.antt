@@ -30,7 +30,7 @@ use Rattle.theory.specs.Runs.{round_cases}
 use Rattle.theory.specs.Round.{selected_taken, Taken}
 use Rattle.anyorder.specs.EntryUnion.{Part, Joins, entry_union}
 use Rattle.anyorder.specs.OneByOne.{Snapshot, apply_one, one_by_one, Reordered, AnyOrder}
-use Rattle.anyorder.specs.OneMore.{together, mem_append, apply_more}
+use Rattle.anyorder.proofs.OneMore.{together, mem_append, apply_more}
 
 -- ---- passes and whole lists
 

@@ -3,7 +3,7 @@
 use Rattle.std.specs.Prelude.{◌≡◌, refl, Bool, true, false, cond, List, [], ◌∷◌, ◌++◌, ℕ, zero, suc, ◌≤◌, ◌<◌, length, take}
 use Rattle.std.proofs.Common.{sym, ap, subst, ◌∙◌, arith}
 use Rattle.grammar.specs.Grammar.{State, next, start, is_dead, is_text, live_bytes, most_bytes, grammar_fault}
-use Rattle.grammar.specs.Viable.{Viable, fault_viable, fault_first}
+use Rattle.grammar.proofs.Viable.{Viable, fault_viable, fault_first}
 
 take-take : (n m : ℕ) (xs : List ℕ) → n ≤ m → take n (take m xs) ≡ take n xs
 take-take zero m xs le = refl

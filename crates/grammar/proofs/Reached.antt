@@ -9,9 +9,9 @@ use Rattle.grammar.specs.declared.Step.TheVariants.{Fault, Go, Open, Shut}
 use Rattle.grammar.specs.Tables.{menus, ends}
 use Rattle.grammar.specs.Grammar.{is_space, is_char, is_token, word_byte, follows, pick_from, pick, attribute, added, pick_attribute, is_complete, may_end, owner, after, opens, value_step, value_ends, kind_of, content_step, name_at, less_step, tag_step, name_step_at, attribute_at, space_step, equals_step, attribute_step, quote_step, value_at, value_step_at, entity_at, entity_step, close_step, end_step, only, step_of, State, dead, live, left as leave, moved, next, run}
 use Rattle.grammar.specs.Words.{and_left, and_right, both, choose, AllBelow, each}
-use Rattle.grammar.specs.Levels.{inner, stack_good, stack_below, fits, in_tag, is_quote, fine}
-use Rattle.grammar.specs.Values.{opens_inner, tag_after}
-use Rattle.grammar.specs.Completing.{keeps_after}
+use Rattle.grammar.proofs.Levels.{inner, stack_good, stack_below, fits, in_tag, is_quote, fine}
+use Rattle.grammar.proofs.Values.{opens_inner, tag_after}
+use Rattle.grammar.proofs.Completing.{keeps_after}
 
 unfoldable ok_from : (ℕ → Bool) → ℕ → ℕ → Bool
 ok_from q zero at = true

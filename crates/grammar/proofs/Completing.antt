@@ -11,8 +11,8 @@ use Rattle.grammar.specs.declared.Step.TheVariants.{Go}
 use Rattle.grammar.specs.Tables.{needed}
 use Rattle.grammar.specs.Grammar.{is_space, is_char, is_token, word_byte, attribute, is_complete, owner, after, opens, name_step_at, close_step, end_step, step_of, State, live, next, run}
 use Rattle.grammar.specs.Words.{and_left, and_right, both, choose, each, rest, word_read}
-use Rattle.grammar.specs.Levels.{inner, everything, stack_good, Completes, by_way_of, content_completes, fits, in_tag, is_quote, fine}
-use Rattle.grammar.specs.Values.{tag_rest, TagsEnd, tags_end, in_e, in_x, opened_good, tag_completes, space_completes, value_completes, quote_completes, equals_completes, attribute_completes, ampersand_completes, entity_completes}
+use Rattle.grammar.proofs.Levels.{inner, everything, stack_good, Completes, by_way_of, content_completes, fits, in_tag, is_quote, fine}
+use Rattle.grammar.proofs.Values.{tag_rest, TagsEnd, tags_end, in_e, in_x, opened_good, tag_completes, space_completes, value_completes, quote_completes, equals_completes, attribute_completes, ampersand_completes, entity_completes}
 
 -- the parent's level stays good when the element begins
 pub keeps_after : (t w : ℕ) (st : List ℕ) → fits t w ≡ true → stack_good t st ≡ true → stack_good (after t w) st ≡ true
