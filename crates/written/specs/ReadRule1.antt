@@ -16,7 +16,7 @@ use Rattle.laws.specs.Bools.{and_left, and_right, and7}
 use Rattle.laws.specs.Maps.{map_length}
 use Rattle.laws.specs.Loops.{each_below}
 use Rattle.accepted.specs.Sound.{accepted_rule1}
-use Rattle.lay.specs.Sizes.{row_count, name_count_lem}
+use Rattle.lay.specs.Sizes.{row_count_lem, name_count_lem}
 use Rattle.written.specs.Sound.{AllOf, no_more, more, always, Ref, ActFits, ConditionFits, RowFits, TransitionFits}
 use Rattle.written.specs.Values.{all_both}
 use Rattle.written.specs.TableBlocks.{accepted_root, look}
@@ -113,7 +113,7 @@ module _ (numbers names : List ℕ) (h : keeps_rules numbers names ≡ Done) whe
   names_are = sym (name_count_lem mine whole)
 
   pub rows_number : n ≡ row_count new
-  rows_number = sym (row_count mine whole)
+  rows_number = sym (row_count_lem mine whole)
 
   -- ---- rows
 

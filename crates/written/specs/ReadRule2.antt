@@ -16,7 +16,7 @@ use Rattle.reading.specs.Layout.{id_cell, row_acts, row_cells, transition_acts, 
 use Rattle.laws.specs.Bools.{and_true, clash}
 use Rattle.laws.specs.Maps.{map_at}
 use Rattle.laws.specs.Loops.{each_below, below_each}
-use Rattle.lay.specs.Sizes.{row_count, name_count_lem, action_count_lem}
+use Rattle.lay.specs.Sizes.{row_count_lem, name_count_lem, action_count_lem}
 use Rattle.written.specs.Sound.{AllOf, no_more, more, ActFits, Shaped, RowFits, TransitionFits}
 use Rattle.written.specs.Values.{all_both}
 use Rattle.written.specs.Whole.{all_fit}
@@ -124,7 +124,7 @@ module _ (numbers names : List ℕ) (h : keeps_rules numbers names ≡ Done) whe
   -- both tables have the same rows
   pub back_same : (i : ℕ) → i < row_count numbers → row_back new_numbers new_names i ≡ row_back numbers names i
   back_same i l =
-      sym (at new_numbers new_names (subst (λ (k : ℕ). i < k) (sym (row_count own chart)) (subst (λ (k : ℕ). i < k) (sym (count_rows numbers names h)) l))) ∙
+      sym (at new_numbers new_names (subst (λ (k : ℕ). i < k) (sym (row_count_lem own chart)) (subst (λ (k : ℕ). i < k) (sym (count_rows numbers names h)) l))) ∙
       ap (λ (x : Content). get_or x.rows i past) (tables_back numbers names h) ∙ at numbers names l
     where
       past : Row
@@ -137,7 +137,7 @@ module _ (numbers names : List ℕ) (h : keeps_rules numbers names ≡ Done) whe
           shown = unfold content in refl
 
   pub rows_count : row_count new_numbers ≡ row_count numbers
-  rows_count = row_count own chart ∙ count_rows numbers names h
+  rows_count = row_count_lem own chart ∙ count_rows numbers names h
 
   -- the id of a row in both tables
   id_same : (i : ℕ) → suc i < row_count numbers → (eqb (id_at new_numbers (suc i)) no_number ≡ false) × (name_at new_names (id_at new_numbers (suc i)) ≡ name_at names (id_at numbers (suc i)))

@@ -14,7 +14,7 @@ use Rattle.reading.specs.Layout.{row_acts, row_list, target_list, descriptor_lis
 use Rattle.laws.specs.Bools.{and3, and7}
 use Rattle.laws.specs.Loops.{below_each}
 use Rattle.accepted.specs.Sound.{accepted_rule1}
-use Rattle.lay.specs.Sizes.{row_count, transition_count_lem, reference_count_lem, descriptor_count_lem, action_count_lem, name_count_lem, tables_size_lem, names_size_lem}
+use Rattle.lay.specs.Sizes.{row_count_lem, transition_count_lem, reference_count_lem, descriptor_count_lem, action_count_lem, name_count_lem, tables_size_lem, names_size_lem}
 use Rattle.written.specs.Sound.{AllOf, no_more, more}
 use Rattle.written.specs.Values.{all_both}
 use Rattle.written.specs.Held.{holds_at}
@@ -105,7 +105,7 @@ module _ (numbers names : List ℕ) (h : keeps_rules numbers names ≡ Done) whe
   counts_1 : counts_fit new ≡ true
   unfolding counts_fit
   counts_1 =
-      let rows = row_count mine whole in
+      let rows = row_count_lem mine whole in
       let cr = count_rows numbers names h in
       let fr = few_rows numbers names h in
       let sr = some_row numbers names h in
@@ -138,7 +138,7 @@ module _ (numbers names : List ℕ) (h : keeps_rules numbers names ≡ Done) whe
       size : length new ≡ tables_size new
       size =
           let a = tables_size_lem mine whole in
-          let rows = row_count mine whole in
+          let rows = row_count_lem mine whole in
           let ts = transition_count_lem mine whole in
           let rc = reference_count_lem mine whole in
           let dc = descriptor_count_lem mine whole in
@@ -154,7 +154,7 @@ module _ (numbers names : List ℕ) (h : keeps_rules numbers names ≡ Done) whe
   rows_1 =
       below_each (row_in_range new) (row_count new)
       (λ (j : ℕ) (m : j < row_count new).
-      let rows = row_count mine whole in
+      let rows = row_count_lem mine whole in
       let rc = reference_count_lem mine whole in
       let ra = length-append (flat row_list whole.rows) (flat target_list whole.transitions) in
       let ac = action_count_lem mine whole in

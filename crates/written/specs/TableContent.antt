@@ -9,7 +9,7 @@ use Rattle.definition.specs.Rows.{flat, from}
 use Rattle.definition.specs.Tables.{transition_base, reference_base, descriptor_base, action_base}
 use Rattle.reading.specs.Content.{Act, Row, Transition, Content, place_of}
 use Rattle.reading.specs.Layout.{act_cells, row_acts, row_cells, transition_cells, row_list, target_list, descriptor_list, transition_acts, numbers_of, names_of, row_back, transition_back, content}
-use Rattle.lay.specs.Sizes.{row_count, transition_count_lem, reference_count_lem, descriptor_count_lem}
+use Rattle.lay.specs.Sizes.{row_count_lem, transition_count_lem, reference_count_lem, descriptor_count_lem}
 use Rattle.written.specs.Sound.{AllOf}
 use Rattle.written.specs.Held.{Holds, holds_whole, holds_left, holds_right, holds_at}
 use Rattle.written.specs.TablesBack.{RowNamed, acts_left, acts_right}
@@ -84,7 +84,7 @@ module _ (slots : List (List ℕ)) (c : Content) where
       let r = row_cells_lem slots c.rows 0 0 in
       let t = transition_cells_lem slots c.transitions (length row_refs) 0 (length row_blocks) in
       let n = map_long slots events in
-      let w = row_count slots c in
+      let w = row_count_lem slots c in
       let x = transition_count_lem slots c in
       let y = reference_count_lem slots c in
       let z = descriptor_count_lem slots c in
@@ -120,7 +120,7 @@ module _ (slots : List (List ℕ)) (c : Content) where
   module _ (few : length slots ≤ 65535) (rs : AllOf (RowNamed slots) c.rows) (ts : AllOf (TransitionNamed slots) c.transitions) where
     rows_again : map (row_back tables (names_of slots)) (from (length c.rows) 0) ≡ c.rows
     rows_again =
-        rows_back tables slots few c.rows 0 0 0 (let w = row_count slots c in omega arith) rows_held (holds_left row_refs (flat target_list c.transitions) refs_held)
+        rows_back tables slots few c.rows 0 0 0 (let w = row_count_lem slots c in omega arith) rows_held (holds_left row_refs (flat target_list c.transitions) refs_held)
         (acts_left tables slots few row_blocks (flat transition_acts c.transitions) 0 acts_held) rs
 
     transitions_again : map (transition_back tables (names_of slots)) (from (length c.transitions) 0) ≡ c.transitions
@@ -137,5 +137,5 @@ module _ (slots : List (List ℕ)) (c : Content) where
     pub content_back : content tables (names_of slots) ≡ c
     unfolding content
     content_back =
-        ap₂ (λ (x : List Row) (y : List Transition). record { rows = x; transitions = y }) (ap (λ (k : ℕ). map (row_back tables (names_of slots)) (from k 0)) (row_count slots c) ∙ rows_again)
+        ap₂ (λ (x : List Row) (y : List Transition). record { rows = x; transitions = y }) (ap (λ (k : ℕ). map (row_back tables (names_of slots)) (from k 0)) (row_count_lem slots c) ∙ rows_again)
         (ap (λ (k : ℕ). map (transition_back tables (names_of slots)) (from k 0)) (transition_count_lem slots c) ∙ transitions_again)
