@@ -119,7 +119,7 @@ pub fn session(rt: &impl Print, s: Session, answer: u64) -> io::Result<()> {
         parts(rt, s)?;
     }
     put(rt, b',')?;
-    lines::show_sum(cells::sum(lines::FIRST_SUM, s));
+    lines::show_sum(rt, cells::sum(lines::FIRST_SUM, s))?;
     put(rt, b'\n')
 }
 
