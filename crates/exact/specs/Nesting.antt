@@ -184,6 +184,7 @@ module _ (c : Chart) where
 
   tests_named : (xs : List Action) → all (test_fits c) xs ≡ true → (i : ℕ) → Tests i xs → Named i
   unfolding all test_fits condition_fits
+  tests_named [] h i x = elim x [ ]
   tests_named (If i ∷ xs) h _ by_if = and_left (condition_fits c (some i)) _ h
   tests_named (ElseIf i ∷ xs) h _ by_else_if = and_left (condition_fits c (some i)) _ h
   tests_named (a ∷ xs) h i (later _ t) = tests_named xs (and_right (test_fits c a) _ h) i t

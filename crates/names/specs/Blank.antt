@@ -1,7 +1,7 @@
 -- Bytes put together by "or": zero exactly if all are. And bytes counted: those behind a name are zeros exactly if no more are filled than it has.
 use Rattle.std.specs.Prelude.{◌≡◌, Bool, true, false, ◌&&◌, cond, List, [], ◌∷◌, ℕ, suc, ◌+◌, ◌≤◌, ◌<◌, eqb, length, get_or, drop}
 use Rattle.std.proofs.Math.Path.{refl}
-use Rattle.std.proofs.Common.{ap, sym, ◌∙◌, add-one, arith, eqb-true, eq-eqb, ne_eqb, drop-cons}
+use Rattle.std.proofs.Common.{sym, ◌∙◌, add-one, arith, eqb-true, eq-eqb, ne_eqb, drop-cons}
 use Rattle.std.proofs.lemmas.Bool.{eqb-false}
 use Rattle.std.specs.Int.Bits.{bit_or, or_add_and}
 use Rattle.std.proofs.lemmas.Nat.{and_le_l, and_le_r}

@@ -4,16 +4,16 @@ use Rattle.answers.proofs.status_number.Goals as goal
 
 pub returns-in-More : goal.returns-in-More
 unfolding status_no
-returns-in-More c = sym (ap status_no c.enum_told-1.given.1)
+returns-in-More c = sym (ap status_no c.in-More.is)
 
 pub returns-in-Idle : goal.returns-in-Idle
 unfolding status_no
-returns-in-Idle c = sym (ap status_no c.enum_told-in-Idle-1.given.1)
+returns-in-Idle c = sym (ap status_no c.in-Idle.is)
 
 pub returns-in-Ended : goal.returns-in-Ended
 unfolding status_no
-returns-in-Ended c = sym (ap status_no c.enum_told-in-Ended-1.given.1)
+returns-in-Ended c = sym (ap status_no c.in-Ended.is)
 
 pub returns-in-Refused : goal.returns-in-Refused
 unfolding status_no
-returns-in-Refused c = c.answer_number.ensures ∙ sym (ap status_no c.status-1.given.1)
+returns-in-Refused c = c.answer_number.ensures ∙ sym (ap status_no c.in-Refused.is)

@@ -1,4 +1,4 @@
-use Rattle.std.proofs.Common.{◌-◌, ap, ◌∙◌}
+use Rattle.std.proofs.Common.{ap, ◌∙◌}
 use Rattle.fingerprint.specs.Fingerprint.{mix, mixed_none, mixed_more, mixed_all}
 use Rattle.fingerprint.proofs.mix_bytes.Goals as goal
 

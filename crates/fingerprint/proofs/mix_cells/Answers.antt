@@ -1,4 +1,3 @@
-use Rattle.std.proofs.Common.{◌-◌}
 use Rattle.fingerprint.specs.Fingerprint.{mixed_none, mixed_more, mixed_all}
 use Rattle.fingerprint.proofs.mix_cells.Goals as goal
 

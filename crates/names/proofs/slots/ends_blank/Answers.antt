@@ -2,8 +2,8 @@ use Rattle.names.specs.Slots.{before_inside, rest_zeros}
 use Rattle.names.specs.Blank.{filled_ends}
 use Rattle.names.proofs.slots.ends_blank.Goals as goal
 
--- OLD part-is-blank-start : tie.Need-slice-bounds-is-blank-start
--- part-is-blank-start c = before_inside _ _ c.before.before.requires
+pub slice_bounds-is_blank-start : goal.slice_bounds-is_blank-start
+slice_bounds-is_blank-start c = before_inside _ _ c.requires
 
 pub returns-then-slot-eq-SLOT_BYTES : goal.returns-then-slot-eq-SLOT_BYTES
 returns-then-slot-eq-SLOT_BYTES c = filled_ends _ _ _ c.requires c.filled.ensures

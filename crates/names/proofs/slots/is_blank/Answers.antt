@@ -1,6 +1,5 @@
 -- `is_blank`: what was put together is zero exactly if every byte was; the rest decides the rest.
 use mathlib.Core.Path.{refl}
-use Prim.Native.Nat.{◌-◌}
 use native.Mathlib.Omega.{arith}
 use Rattle.names.specs.Blank.{blank_turn, blank_end}
 use Rattle.names.proofs.slots.is_blank.Goals as goal

@@ -18,18 +18,6 @@ token c = sym c.starts_token.ensures ∙ and_left _ _ c.if-starts_token-event.tr
 event_some : (c : Then-starts_token-event) → 0 < length c.args.event.now
 event_some c = ltb-true _ _ (and_right c.starts_token.result _ c.if-starts_token-event.true)
 
--- OLD part-begins-with-start : tie.Need-slice-bounds-begins-with-start
--- part-begins-with-start c = let l = event_some c.before.before.before in search rules
-
--- OLD part-begins-with-end : tie.Need-slice-bounds-begins-with-end
--- part-begins-with-end c = let l = event_some c.before.before.before in search rules
-
--- OLD part-name-of-start : tie.Need-slice-bounds-name-of-start
--- part-name-of-start c = let l = token_some _ (token c.before.before.before.before) in search rules
-
--- OLD part-name-of-end : tie.Need-slice-bounds-name-of-end
--- part-name-of-end c = let l = token_some _ (token c.before.before.before.before) in search rules
-
 pub bounds-slot-0 : goal.bounds-slot-0
 bounds-slot-0 c = token_some _ (token (goal.at.bounds-slot-0 c).Then-starts_token-event)
 
@@ -47,8 +35,14 @@ slice_bounds-name_of-count c = let l = token_some _ (token (goal.at.slice_bounds
 
 pub returns-then-starts_token-event : goal.returns-then-starts_token-event
 returns-then-starts_token-event c =
-    let at = c in
+    let at = (goal.at.returns-then-starts_token-event c).Then-starts_token-event in
     slot_rest _ _ (token at) (event_some at) _ _ _ c.if-slot-event.false c.name_of.ensures c.bare.ensures c.begins_with.ensures
 
 pub returns : goal.returns
 returns c = c.matches.ensures ∙ ap (λ (n : List ℕ). matches n c.args.event.now) c.name_of-2.ensures
+
+pub slice_bounds-name_of-start : goal.slice_bounds-name_of-start
+slice_bounds-name_of-start c = let l = token_some _ (token (goal.at.slice_bounds-name_of-start c).Then-starts_token-event) in search rules
+
+pub slice_bounds-begins_with-start : goal.slice_bounds-begins_with-start
+slice_bounds-begins_with-start c = let l = event_some (goal.at.slice_bounds-begins_with-start c).Then-starts_token-event in search rules

@@ -1,0 +1,15 @@
+use borrow.Author.Rules.{rules}
+use Rattle.onepass.specs.Pass.{is_going}
+use Rattle.onepass.proofs.descriptor.is_going.Goals as goal
+
+pub returns-in-Going : goal.returns-in-Going
+unfolding is_going
+returns-in-Going c = search rules
+
+pub returns-in-Yes : goal.returns-in-Yes
+unfolding is_going
+returns-in-Yes c = search rules
+
+pub returns-in-No : goal.returns-in-No
+unfolding is_going
+returns-in-No c = search rules
