@@ -18,14 +18,12 @@ fn with_digit(v: u64, d: u64) -> u64 {
 // Copies of a number from `at` on, as far as there is room; answers where the next goes.
 fn put_copies(out: &mut [u64], at: usize, copies: u64, v: u64) -> usize {
     let mut k = at;
-    let mut left = copies;
-    while left > 0 {
+    for _ in 0..copies {
         if out.len() <= k {
             return k;
         }
         out[k] = v;
         k += 1;
-        left -= 1;
     }
     k
 }
@@ -70,10 +68,8 @@ pub fn read_numbers(text: &[u8], out: &mut [u64]) -> usize {
         copies: 1,
         v: 0,
     };
-    let mut i = 0;
-    while i < text.len() {
-        r = read_digit(out, r, text[i]);
-        i += 1;
+    for b in text {
+        r = read_digit(out, r, *b);
     }
     put_copies(out, r.at, r.copies, r.v)
 }

@@ -73,10 +73,8 @@ fn read_bytes(text: &[u8], out: &mut [u8]) -> Slot {
         digits: 0,
         high: 0,
     };
-    let mut i = 0;
-    while i < text.len() {
-        s = read_byte(out, s, text[i]);
-        i += 1;
+    for b in text {
+        s = read_byte(out, s, *b);
     }
     s
 }
