@@ -1,5 +1,4 @@
 use borrow.Author.Rules.{rules}
-use Prim.Native.Nat.{◌-◌}
 use Rattle.find.specs.Items.{items_start, items_end, items_space, items_less, items_name}
 use Rattle.find.proofs.count_items.Goals as goal
 

@@ -1,5 +1,4 @@
 use borrow.Author.Rules.{rules}
-use Prim.Native.Nat.{◌-◌}
 use Rattle.find.specs.Digits.{read_start, read_digit, read_more, read_end}
 use Rattle.find.proofs.decimal_of.Goals as goal
 
