@@ -1,7 +1,7 @@
 // The names of a line, each in a slot of 64 bytes.
 ghost use Rattle.std.specs.Prelude.{◌≤◌, length};
 
-use crate::numbers::digit;
+use crate::line_numbers::digit;
 
 pub fn put_byte(out: &mut [u8], at: usize, b: u8) {
     if at < out.len() {
