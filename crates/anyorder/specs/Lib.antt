@@ -1,4 +1,2 @@
 pub mod EntryUnion
 pub mod OneByOne
-pub mod OneMore
-pub mod AnyOrder

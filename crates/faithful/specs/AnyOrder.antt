@@ -13,7 +13,7 @@ use Rattle.laws.specs.Bools.{bool_case}
 use Rattle.theory.specs.Runs.{joined}
 use Rattle.theory.specs.Shown.{taken_in}
 use Rattle.anyorder.specs.OneByOne.{AnyOrder}
-use Rattle.anyorder.specs.AnyOrder.{any_order}
+use Rattle.anyorder.proofs.AnyOrder.{any_order}
 use Rattle.state.specs.State.{mode_from}
 use Rattle.session.specs.declared.Session.{Session}
 use Rattle.session.specs.declared.Clock.{Clock}

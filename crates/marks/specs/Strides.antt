@@ -5,8 +5,7 @@ use Rattle.std.proofs.Common.{sym, ap, subst, ◌∙◌, arith, add-one, drop-co
 use Rattle.std.proofs.lemmas.Bool.{not-false}
 use Rattle.grammar.specs.declared.Place.{Place}
 use Rattle.grammar.specs.declared.Step.TheVariants as steps
-use Rattle.grammar.specs.Grammar.{is_char, step_of, State, live, next}
-use Rattle.markup.specs.declared.Cursor.{Cursor}
+use Rattle.grammar.specs.Grammar.{is_char, step_of, live, next}
 use Rattle.markup.specs.declared.leaps.Leap.{Leap}
 use Rattle.markup.specs.Growth.{word_at}
 use Rattle.markup.specs.Stack.{levels, state_at, state_of}
@@ -15,13 +14,12 @@ use Rattle.markup.specs.Passes.{Reached}
 use Rattle.markup.specs.Runs.{Ends, Leapt}
 use Rattle.reading.specs.declared.Zone.{Zone}
 use Rattle.reading.specs.declared.Zone.TheVariants as zones
-use Rattle.reading.specs.Zones.{zone, landing, is_begun, is_value, element_in}
-use Rattle.marks.specs.declared.Mark.{Mark}
+use Rattle.reading.specs.Zones.{zone, is_value, element_in}
 use Rattle.marks.specs.declared.Mark.TheVariants.{Nothing}
 use Rattle.marks.specs.declared.Walk.{Walk}
-use Rattle.marks.specs.Marks.{mark_of, marked, is_mark, began_at, marks_from}
-use Rattle.marks.specs.Told.{Told, told_alive}
-use Rattle.marks.specs.Walks.{Noted, Standing, Next, Walking, walk_found, walk_more, walk_dead, walk_end, walk_ready}
+use Rattle.marks.specs.Marks.{is_mark, marks_from}
+use Rattle.marks.specs.Told.{told_alive}
+use Rattle.marks.specs.Walks.{Noted, Next, Walking, walk_found, walk_more, walk_dead, walk_end, walk_ready}
 
 -- a zone in which no tag begins or ends
 abbrev pub is_calm : Zone → Bool
@@ -61,11 +59,11 @@ module _ {text : List ℕ} {z : Zone} where
   from_behind stay f = f
   from_behind (on {j = j} l o) f = cond (is_value z) f (j + 1)
 
-  element_once : {p q : Place} {t u i j : ℕ} (l : Leads text z p t i q u j) (e : ℕ) → element_in z (element_behind l e) ≡ element_in z e
+  element_once : {p : Place} {t i : ℕ} {q : Place} {u j : ℕ} (l : Leads text z p t i q u j) (e : ℕ) → element_in z (element_behind l e) ≡ element_in z e
   element_once stay e = refl
   element_once (on l o) e = element_twice z e
 
-  from_once : {p q : Place} {t u i j : ℕ} (l : Leads text z p t i q u j) (f n : ℕ) → cond (is_value z) (from_behind l f) n ≡ cond (is_value z) f n
+  from_once : {p : Place} {t i : ℕ} {q : Place} {u j : ℕ} (l : Leads text z p t i q u j) (f n : ℕ) → cond (is_value z) (from_behind l f) n ≡ cond (is_value z) f n
   from_once stay f n = refl
   from_once (on {j = j} l o) f n = by (is_value z) refl
     where
@@ -79,7 +77,7 @@ module _ {text : List ℕ} {z : Zone} where
       ap (marks_from (live q u st) at e from j) (drop-cons text j 0 o.in_text_lem ∙ ap (λ (n : ℕ). get_or text j 0 ∷ drop n text) (sym (add-one j))) ∙
       calm_byte st q q' u u' at e from j (get_or text j 0) (drop (j + 1) text) o.plain o.steps z c o.from_zone o.to_zone
 
-  leads_marks : {p q : Place} {t u i j : ℕ} (l : Leads text z p t i q u j) (st : List ℕ) (at e from : ℕ) → is_calm z ≡ true →
+  leads_marks : {p : Place} {t i : ℕ} {q : Place} {u j : ℕ} (l : Leads text z p t i q u j) (st : List ℕ) (at e from : ℕ) → is_calm z ≡ true →
       marks_from (live p t st) at e from i (drop i text) ≡ marks_from (live q u st) at (element_behind l e) (from_behind l from) j (drop j text)
   leads_marks stay st at e from c = refl
   leads_marks (on {q = q} {q' = q'} {u = u} {u' = u'} {j = j} l o) st at e from c =
@@ -87,11 +85,11 @@ module _ {text : List ℕ} {z : Zone} where
       ap (λ (n : ℕ). marks_from (live q' u' st) at n (cond (is_value z) (from_behind l from) (j + 1)) (j + 1) (drop (j + 1) text)) (element_once l e) ∙
       ap (λ (n : ℕ). marks_from (live q' u' st) at (element_in z e) n (j + 1) (drop (j + 1) text)) (from_once l from (j + 1))
 
-  element_moved : {p q : Place} {t u i j : ℕ} (l : Leads text z p t i q u j) (e : ℕ) → i < j → element_behind l e ≡ element_in z e
+  element_moved : {p : Place} {t i : ℕ} {q : Place} {u j : ℕ} (l : Leads text z p t i q u j) (e : ℕ) → i < j → element_behind l e ≡ element_in z e
   element_moved stay e h = absurd (omega arith)
   element_moved (on l o) e h = refl
 
-  from_moved : {p q : Place} {t u i j : ℕ} (l : Leads text z p t i q u j) (f : ℕ) → i < j → from_behind l f ≡ cond (is_value z) f j
+  from_moved : {p : Place} {t i : ℕ} {q : Place} {u j : ℕ} (l : Leads text z p t i q u j) (f : ℕ) → i < j → from_behind l f ≡ cond (is_value z) f j
   from_moved stay f h = absurd (omega arith)
   from_moved (on l o) f h = refl
 

@@ -2,12 +2,11 @@
 use Rattle.std.specs.Prelude.{◌≡◌, refl, Bool, true, false, not, ◌&&◌, List, ℕ, ◌+◌, ◌-◌, ◌≤◌, ◌<◌, eqb, length, get_or}
 use Rattle.std.proofs.Common.{sym, ap, subst, ◌∙◌, arith, le-leb}
 use Rattle.grammar.specs.declared.Place.{Place}
-use Rattle.grammar.specs.Grammar.{State, live, next, is_dead, is_content, accepts}
+use Rattle.grammar.specs.Grammar.{State, next, is_dead, is_content, accepts}
 use Rattle.markup.specs.declared.Cursor.{Cursor}
 use Rattle.markup.specs.declared.Scanned.{Scanned}
 use Rattle.markup.specs.Stack.{levels, state_at, state_of}
 use Rattle.markup.specs.Passes.{Reached, reached_more, dead_at, dead_not, end_at, end_whole, Found, finished}
-use Rattle.marks.specs.declared.Walk.{Walk}
 
 pub record Told (text xs : List ℕ) (c : Cursor) (i : ℕ) : Type 0 where
   pub reached : c.live ≡ true → Reached text i (state_of xs c)

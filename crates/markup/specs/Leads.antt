@@ -1,15 +1,14 @@
 -- Bytes that lead from place to place inside one zone, so that no tag or value begins or ends: what a loop of its own may read at once.
-use Rattle.std.specs.Prelude.{◌≡◌, Bool, true, false, not, cond, ◌&&◌, List, ℕ, zero, suc, ◌+◌, ◌-◌, ◌≤◌, ◌<◌, eqb, ltb, length, get_or}
+use Rattle.std.specs.Prelude.{◌≡◌, Bool, true, false, List, ℕ, zero, suc, ◌+◌, ◌-◌, ◌≤◌, ◌<◌, eqb, ltb, length, get_or}
 use Rattle.std.proofs.Math.Path.{refl, subst}
-use Rattle.std.proofs.Common.{sym, ap, ◌∙◌, arith, eqb-true, ltb-true, ltb-false}
+use Rattle.std.proofs.Common.{ap, ◌∙◌, arith, eqb-true, ltb-true, ltb-false}
 use Rattle.std.proofs.lemmas.Bool.{eqb-false}
 use Rattle.grammar.specs.declared.Place.{Place}
-use Rattle.grammar.specs.declared.Place.TheVariants.{Content, Comment, Name, Tag, Space, Attribute, Equals, Quote, Value, End}
-use Rattle.grammar.specs.declared.Step.TheVariants.{Fault, Go}
-use Rattle.grammar.specs.Grammar.{is_space, is_char, is_token, word_byte, attribute, owner, after, pick_attribute, kind_of, value_step, content_step, name_step_at, tag_step, space_step, attribute_at, attribute_step, equals_step, value_at, value_step_at, close_step, end_step, step_of, State, live, dead, next, is_dead}
+use Rattle.grammar.specs.declared.Step.TheVariants.{Go}
+use Rattle.grammar.specs.Grammar.{is_char, step_of, live, next, is_dead}
 use Rattle.reading.specs.declared.Zone.{Zone}
 use Rattle.reading.specs.Zones.{zone}
-use Rattle.markup.specs.Growth.{word_at, Within, grows}
+use Rattle.markup.specs.Growth.{word_at, grows}
 use Rattle.markup.specs.Passes.{Reached, reached_more}
 
 -- one byte, from a place of the zone to another of it
@@ -25,26 +24,26 @@ pub data Leads (text : List ℕ) (z : Zone) (p : Place) (t i : ℕ) : Place → 
   on : {q q' : Place} {u u' j : ℕ} → Leads text z p t i q u j → Led text z q u j q' u' → Leads text z p t i q' u' (j + 1)
 
 module _ {text : List ℕ} {z : Zone} where
-  pub leads_trans : {p q r : Place} {t u v i j k : ℕ} → Leads text z p t i q u j → Leads text z q u j r v k → Leads text z p t i r v k
+  pub leads_trans : {p : Place} {t i : ℕ} {q : Place} {u j : ℕ} {r : Place} {v k : ℕ} → Leads text z p t i q u j → Leads text z q u j r v k → Leads text z p t i r v k
   leads_trans a stay = a
   leads_trans a (on b o) = on (leads_trans a b) o
 
-  pub leads_order : {p q : Place} {t u i j : ℕ} → Leads text z p t i q u j → i ≤ j
+  pub leads_order : {p : Place} {t i : ℕ} {q : Place} {u j : ℕ} → Leads text z p t i q u j → i ≤ j
   leads_order stay = omega arith
   leads_order (on b o) = let h = leads_order b in omega arith
 
-  pub leads_within : {p q : Place} {t u i j : ℕ} → Leads text z p t i q u j → i ≤ length text → j ≤ length text
+  pub leads_within : {p : Place} {t i : ℕ} {q : Place} {u j : ℕ} → Leads text z p t i q u j → i ≤ length text → j ≤ length text
   leads_within stay h = h
   leads_within (on b o) h = let k = o.in_text_lem in omega arith
 
-  pub leads_word : {p q : Place} {t u i j : ℕ} → Leads text z p t i q u j → word_at q + i ≤ word_at p + j
+  pub leads_word : {p : Place} {t i : ℕ} {q : Place} {u j : ℕ} → Leads text z p t i q u j → word_at q + i ≤ word_at p + j
   leads_word stay = omega arith
   leads_word {p = p} (on {q = q} {q' = q'} {u = u} {j = j} b o) =
       let h = leads_word b in
       let g : word_at q' ≤ word_at q + 1 = rw o.steps at (grows q u (get_or text j 0) (word_at q + 1) (omega arith)) in
       omega arith
 
-  pub leads_reached : {p q : Place} {t u i j : ℕ} (st : List ℕ) → Leads text z p t i q u j → j ≤ 32768 → Reached text i (live p t st) → Reached text j (live q u st)
+  pub leads_reached : {p : Place} {t i : ℕ} {q : Place} {u j : ℕ} (st : List ℕ) → Leads text z p t i q u j → j ≤ 32768 → Reached text i (live p t st) → Reached text j (live q u st)
   unfolding next
   leads_reached st stay l r = r
   leads_reached st (on {q = q} {q' = q'} {u = u} {u' = u'} {j = j} b o) l r =

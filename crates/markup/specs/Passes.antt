@@ -7,7 +7,6 @@ use mathlib.Core.List.{List, [], ◌∷◌}
 use Prim.Native.Nat.{ℕ, suc, ◌+◌, ◌≤◌, ◌<◌}
 use native.Mathlib.Omega.{arith}
 use Rattle.std.proofs.Math.ListN.{length-take}
-use Rattle.std.proofs.lemmas.Bool.{lt-leb}
 use Rattle.grammar.specs.declared.Place.{Place}
 use Rattle.markup.specs.declared.Scanned.{Scanned}
 use Rattle.grammar.specs.Grammar.{State, dead, live, next, run, start, is_content, accepts, is_text, is_dead, live_bytes, grammar_fault, in_grammar}

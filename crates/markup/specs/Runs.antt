@@ -1,22 +1,21 @@
 -- What the loops over runs of bytes answer, and that their bytes lead on inside one zone.
 use Rattle.std.proofs.Math.Path.{◌≡◌, refl, sym, subst}
-use Rattle.std.proofs.Common.{ap, ◌∙◌, arith}
-use Rattle.std.specs.Prelude.{Bool, not, cond, ◌&&◌, ◌||◌, List, ℕ, zero, suc, ◌+◌, ◌-◌, ◌≤◌, ◌<◌, length}
+use Rattle.std.proofs.Common.{◌∙◌, arith}
+use Rattle.std.specs.Prelude.{Bool, not, cond, ◌&&◌, ◌||◌, List, ℕ, ◌+◌, ◌-◌, ◌≤◌, ◌<◌, length}
 use Rattle.std.proofs.Math.Bool.{true, false}
 use Rattle.std.proofs.Math.Dec.{eqb}
-use borrow.Author.Tests.{eqb-true, eqb-false, eq-eqb, ne_eqb, not-true, not-false}
+use borrow.Author.Tests.{eqb-true, ne_eqb, not-false}
 use Rattle.std.proofs.Math.ListN.{get_or}
 use Rattle.grammar.specs.declared.Place.{Place}
-use Rattle.grammar.specs.declared.Place.TheVariants.{Content, Comment, Name, Tag, Space, Attribute, Equals, Quote, Value, End}
-use Rattle.grammar.specs.declared.Step.{Step}
-use Rattle.grammar.specs.declared.Step.TheVariants.{Fault, Go}
-use Rattle.grammar.specs.Grammar.{is_space, is_char, is_token, word_byte, attribute, owner, after, pick_attribute, kind_of, value_step, content_step, name_step_at, tag_step, space_step, attribute_at, attribute_step, equals_step, value_at, value_step_at, close_step, end_step, step_of}
+use Rattle.grammar.specs.declared.Place.TheVariants.{Content, Comment, Name, Tag, Space, Attribute, Quote, Value, End}
+use Rattle.grammar.specs.declared.Step.TheVariants.{Go}
+use Rattle.grammar.specs.Grammar.{is_space, is_char, is_token, word_byte, attribute, owner, after, pick_attribute, kind_of, value_step, content_step, name_step_at, tag_step, space_step, attribute_at, attribute_step, equals_step, value_at, value_step_at, end_step, step_of}
 use Rattle.reading.specs.declared.Zone.{Zone}
 use Rattle.reading.specs.declared.Zone.TheVariants.{Outside, InTag, InValue}
 use Rattle.reading.specs.Zones.{zone}
 use Rattle.markup.specs.declared.leaps.Leap.{Leap}
 use Rattle.markup.specs.Growth.{word_at}
-use Rattle.markup.specs.Leads.{Led, Leads, stay, on, leads_trans, leads_order, Run, run_start, run_more, run_then, run_leads}
+use Rattle.markup.specs.Leads.{Leads, stay, on, leads_trans, Run, run_start, run_more, run_then, run_leads}
 
 -- the part of the text that is read, and an offset in it
 pub record Ends (text : List ℕ) (end i : ℕ) : Type 0 where

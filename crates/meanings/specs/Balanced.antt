@@ -14,8 +14,8 @@ use Rattle.grammar.specs.declared.Step.TheVariants.{Fault, Go, Open, Shut}
 use Rattle.grammar.specs.Tables.{menus, opened, owners, bits}
 use Rattle.grammar.specs.Grammar.{is_space, is_char, is_token, word_byte, follows, pick_from, pick, attribute, has, added, pick_attribute, is_complete, may_end, owner, after, opens, value_step, value_ends, kind_of, content_step, name_at, less_step, tag_step, name_step_at, attribute_at, space_step, equals_step, attribute_step, quote_step, value_at, value_step_at, entity_at, entity_step, close_step, end_step, only, step_of, State, dead, live, moved, next, run, start, is_content, accepts, is_text}
 use Rattle.grammar.specs.Words.{and_left, and_right, both, choose, no, AllBelow, each, stays_dead}
-use Rattle.grammar.specs.Levels.{inner, stack_good, stack_below}
-use Rattle.grammar.specs.Reached.{Good, good_run}
+use Rattle.grammar.proofs.Levels.{inner, stack_good, stack_below}
+use Rattle.grammar.proofs.Reached.{Good, good_run}
 use Rattle.reading.specs.declared.Zone.{Zone}
 use Rattle.reading.specs.declared.Zone.TheVariants as zones
 use Rattle.reading.specs.Zones.{zone, landing, element_in}

@@ -12,8 +12,8 @@ use Rattle.grammar.specs.declared.Step.{Step}
 use Rattle.grammar.specs.declared.Step.TheVariants.{Fault, Go, Open, Shut}
 use Rattle.grammar.specs.Grammar.{is_char, has, owner, only, step_of, State, dead, live, moved, next, run, start, accepts, is_text}
 use Rattle.grammar.specs.Words.{and_left, and_right, both, no}
-use Rattle.grammar.specs.Levels.{inner, stack_good, stack_below}
-use Rattle.grammar.specs.Reached.{Good, good_run}
+use Rattle.grammar.proofs.Levels.{inner, stack_good, stack_below}
+use Rattle.grammar.proofs.Reached.{Good, good_run}
 use Rattle.reading.specs.declared.Zone.{Zone}
 use Rattle.reading.specs.declared.Zone.TheVariants as zones
 use Rattle.reading.specs.Zones.{zone, landing}

@@ -12,7 +12,7 @@ use Rattle.reading.specs.Content.{place_of}
 use Rattle.laws.specs.Bools.{bool_case, not_so}
 use Rattle.laws.specs.Lists.{same_eq}
 use Rattle.laws.specs.Orders.{lt_case}
-use Rattle.values.specs.Trees.{hash_from, key_of, tag_of, key_low, side_of, side_at, side_low, Asked, asked_begin, asked_turn, asked_none, asked_first}
+use Rattle.values.specs.Trees.{hash_from, key_of, tag_of, key_low, side_of, side_at, Asked, asked_begin, asked_turn, asked_none, asked_first}
 use Rattle.values.specs.Ids.{id_at, ids_from, ids_length, head_at, next_at, tag_at, Noted}
 
 -- ---- the first of those that are the same

@@ -12,8 +12,8 @@ use Rattle.grammar.specs.declared.Step.TheVariants.{Fault, Go, Open, Shut}
 use Rattle.grammar.specs.Tables.{menus, ends, owners, needed, bits}
 use Rattle.grammar.specs.Grammar.{is_space, is_char, is_token, word_byte, follows, pick_from, pick, attribute, has, added, pick_attribute, is_complete, may_end, owner, after, opens, value_step, value_ends, kind_of, content_step, name_at, less_step, tag_step, name_step_at, attribute_at, space_step, equals_step, attribute_step, quote_step, value_at, value_step_at, entity_at, entity_step, close_step, end_step, only, step_of, State, dead, live, moved, next, run, start}
 use Rattle.grammar.specs.Words.{and_left, and_right, choose, no, AllBelow, each}
-use Rattle.grammar.specs.Levels.{stack_good, stack_below}
-use Rattle.grammar.specs.Reached.{Good, good_run}
+use Rattle.grammar.proofs.Levels.{stack_good, stack_below}
+use Rattle.grammar.proofs.Reached.{Good, good_run}
 use Rattle.reading.specs.declared.Zone.{Zone}
 use Rattle.reading.specs.declared.Zone.TheVariants as zones
 use Rattle.reading.specs.Zones.{zone, landing}

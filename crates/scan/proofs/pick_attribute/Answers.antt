@@ -1,7 +1,6 @@
 use Rattle.scan.specs.Words.{attribute_returns, attribute_goes, attribute_ends}
 use borrow.Author.Rules.{rules}
 use mathlib.Core.Path.{refl}
-use Prim.Native.Nat.{◌-◌}
 use Rattle.scan.proofs.pick_attribute.Goals as goal
 
 pub loop-j-init : goal.loop-j-init

@@ -1,7 +1,6 @@
 use Rattle.scan.specs.Words.{pick_start, pick_returns, pick_goes, pick_ends}
 use borrow.Author.Rules.{rules}
 use mathlib.Core.Path.{refl}
-use Prim.Native.Nat.{◌-◌}
 use Rattle.scan.proofs.pick_word.Goals as goal
 
 pub loop-j-init : goal.loop-j-init
