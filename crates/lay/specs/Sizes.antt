@@ -27,9 +27,9 @@ abbrev pub actions : Content → List Act
 actions c = flat row_acts c.rows ++ flat transition_acts c.transitions
 
 module _ (slots : List (List ℕ)) (c : Content) where
-  pub row_count : row_count (numbers_of slots c) ≡ length c.rows
+  pub row_count_lem : row_count (numbers_of slots c) ≡ length c.rows
   unfolding row_count numbers_of
-  row_count = refl
+  row_count_lem = refl
 
   pub transition_count_lem : transition_count (numbers_of slots c) ≡ length c.transitions
   unfolding transition_count numbers_of
@@ -190,7 +190,7 @@ module _ (slots : List (List ℕ)) (c : Content) where
   many_rows h =
       no_fit
       (second (leb 1 (row_count N)) (leb (row_count N) most_rows) (leb (transition_count N) most_transitions) (leb (name_count N) most_names) few_references few_descriptors few_actions
-      (ap (λ (n : ℕ). leb n most_rows) (row_count slots c) ∙ lt-leb (length c.rows) most_rows h))
+      (ap (λ (n : ℕ). leb n most_rows) (row_count_lem slots c) ∙ lt-leb (length c.rows) most_rows h))
 
   pub many_transitions : most_transitions < length c.transitions → keeps_rules (numbers_of slots c) (names_of slots) ≡ Size
   unfolding counts_fit

@@ -4,7 +4,7 @@ use Rattle.std.specs.Prelude.{refl, Bool, true, false, not, List, ℕ, ◌-◌, 
 use Rattle.std.proofs.Common.{◌∙◌, arith, length-take, take-take}
 use Rattle.std.proofs.Math.Option.{Option, none, some}
 use borrow.Author.Tests.{not-true, not-false, lt-leb}
-use Rattle.grammar.specs.Grammar.{is_text, in_grammar, grammar_fault, start, live_bytes}
+use Rattle.grammar.specs.Grammar.{in_grammar, grammar_fault, start, live_bytes}
 use Rattle.markup.specs.Passes.{Found}
 use Rattle.reading.specs.Tags.{tags_of}
 use Rattle.reading.specs.Faults.{first_fault}

@@ -1,15 +1,14 @@
 -- What the call answers, by what is found on the way: a fault, too small a place, a rule that is broken, or none of them.
 use Rattle.std.specs.Prelude.{◌≡◌, Bool, List, ◌++◌, ℕ, zero, suc, length, drop}
 use Rattle.std.proofs.Math.Path.{refl, ap}
-use Rattle.std.proofs.Common.{sym, ◌∙◌}
+use Rattle.std.proofs.Common.{◌∙◌}
 use Rattle.std.proofs.Math.Bool.{true, false, cond}
-use Rattle.std.proofs.Math.Option.{Option, none, some}
-use Rattle.definition.specs.declared.Answer.{Answer}
+use Rattle.std.proofs.Math.Option.{Option}
 use Rattle.definition.specs.declared.Answer.TheVariants.{Done, Size}
 use Rattle.definition.specs.Rules.{keeps_rules}
 use Rattle.definition.specs.Answers.{answer_no}
-use Rattle.grammar.specs.Grammar.{in_grammar, grammar_fault}
-use Rattle.reading.specs.Tags.{Markup, tags_of}
+use Rattle.grammar.specs.Grammar.{grammar_fault}
+use Rattle.reading.specs.Tags.{tags_of}
 use Rattle.reading.specs.Faults.{first_fault}
 use Rattle.reading.specs.Content.{content_of, slots_of}
 use Rattle.reading.specs.Layout.{numbers_of, names_of, Reading, faulty, refused, tables, judged, meaning, searched, read_of}
