@@ -39,7 +39,7 @@ chart-a: second
 lib: build/libauttervil.a
 
 # Proved anew whenever code, contract or proof has changed.
-build/libauttervil.a: crates.txt $(shell find crates -name '*.rt' -o -name '*.antt')
+build/libauttervil.a: crates.txt $(shell find crates -path '*/out' -prune -o \( -name '*.rt' -o -name '*.antt' \) -print)
 	@bash prove
 
 build/lifecycle: $(LIFECYCLE)/lifecycle.c $(LIFECYCLE)/text.h $(LIFECYCLE)/chart.h include/auttervil.h $(LIB)
@@ -83,10 +83,8 @@ linked: lib
 	@$(CARGO) --release $(LINKED) --bin linked
 
 # Two ways to match four descriptors, for the benchmark alone.
-build/libmatch_bench.a: crates.txt $(shell find crates/match_bench crates/onepass crates/names crates/places -name '*.rt' -o -name '*.antt')
-	@rt staticlib match_bench
-	@mkdir -p build
-	@cp target/staticlib/libmatch_bench.a build/libmatch_bench.a
+build/libmatch_bench.a: crates.txt $(shell find crates/match_bench crates/onepass crates/names crates/places -path '*/out' -prune -o \( -name '*.rt' -o -name '*.antt' \) -print)
+	@bash prove match_bench
 
 bench-matching: lib build/libmatch_bench.a
 	@AUTTERVIL_LIBRARY=$(CURDIR)/build $(CARGO) $(BENCH) --bin matches
@@ -154,4 +152,4 @@ cases: second
 	@build/second/release/write-cases crates
 
 clean:
-	rm -rf target build
+	rm -rf build crates/*/out

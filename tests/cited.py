@@ -20,7 +20,7 @@ def margin(line):
 
 def parts(name):
     """What stands for a name in a text: an operator is written by its parts too."""
-    return [name, *filter(None, name.split("_"))] if "_" in name else [name]
+    return [name, *filter(None, name.split("◌"))] if "◌" in name else [name]
 
 
 def imports(text, keyword):
@@ -41,7 +41,7 @@ def imports(text, keyword):
     return names, modules
 
 
-KNOWN = set('_ : = → -> × ⊥ "C" | ↦ Type Unit abbrev bool data ensures enum extern elim fn in let module mut now pub record struct u8 u16 u32 u64 unfoldable usize where'.split())
+KNOWN = set('_ : = → -> × ⊥ "C" | ↦ result Type Unit abbrev bool data ensures enum extern elim fn in let module mut now pub record struct u8 u16 u32 u64 unfoldable usize where'.split())
 
 
 class Declaration:
@@ -54,15 +54,20 @@ class Declaration:
         return [self.file.lines[number] for number in self.numbers if is_counted(self.file.lines[number])]
 
 
+def module_file(crate, name):
+    """A module stands in specs/, or, where theorems stand behind a definition, in proofs/."""
+    return next((path for part in ("specs", "proofs") if (path := Path(f"crates/{crate}/{part}/{name}.antt")).exists()), None)
+
+
 class Specs:
-    """A module of crates/CRATE/specs: what it declares, and from which path it has each other name."""
+    """A module of crates/CRATE/specs or proofs: what it declares, and from which path it has each other name."""
 
     DECLARES = re.compile(r"((?:abbrev |unfoldable )*)(?:pub )?(?:(record |data )([^\s:({]+)|([^\s:({]+)(?: \{[^{}]*\})* :)")
     UNKNOWN = re.compile(r" *(?:(?:unfoldable|abbrev|pub) )*(?:open|mutual|axiom|module (?!_ ))\b")
 
     def __init__(self, crate, name):
         self.crate, self.name, self.declared = crate, name, {}
-        self.lines = Path(f"crates/{crate}/specs/{name}.antt").read_text().splitlines()
+        self.lines = module_file(crate, name).read_text().splitlines()
         text = "\n".join(self.lines)
         self.paths, self.aliases = imports(text, "(?:unfoldable |pub )*use")
         lost = next((line for line in self.lines if self.UNKNOWN.match(line)), None)
@@ -105,8 +110,10 @@ class Specs:
         if alias in self.aliases and rest:
             below, _, last = rest.rpartition(".")
             return f"{self.aliases[alias]}.{below}" if below else self.aliases[alias], last
-        if name.startswith("Rattle·"):
+        if name.startswith("Rattle."):
             return name.rpartition(".")[::2]
+        # A field stands tight behind a value, as in `c.row`.
+        name = name if name in self.paths else name.partition(".")[0] or name
         return self.paths.get(name, (None, name))
 
 
@@ -121,7 +128,8 @@ class Source:
             self.lines += file.read_text().splitlines()
         text = "\n".join(self.lines)
         self.paths, self.aliases = imports(text, "ghost use")
-        self.paths.update({name: (f"Rattle·{path}.specs.declared.{name}", name) for path, name in re.findall(r"^use (?!crate\b)(\w+)::(\w+);", text, re.M)})
+        for path, names in re.findall(r"^use (?!crate\b)(\w+)::(?:\w+::)*(\w+|\{[^}]*\});", text, re.M):
+            self.paths.update({name: (f"Rattle.{path}.specs.declared.{name}", name) for name in re.findall(r"\b[A-Z]\w*", names)})
         for at, line in enumerate(self.lines):
             found = self.BEGINS.match(line)
             if found:
@@ -131,12 +139,12 @@ class Source:
 
     def cited(self, name):
         crate, _, rest = name.partition("::")
-        return (f"Rattle·{crate}.specs.declared.{rest}", rest) if rest else Specs.cited(self, name)
+        return (f"Rattle.{crate}.specs.declared.{rest}", rest) if rest else Specs.cited(self, name)
 
     def exports(self):
         """Each has to have a contract and may ask for nothing."""
         for at, line in enumerate(self.lines):
-            if line == "#[no_mangle]":
+            if line == "#[unsafe(no_mangle)]":
                 one = self.declared[self.BEGINS.match(self.lines[at + 1])[1]]
                 if not any(re.match(r" +ensures ", each) for each in one.lines()) or any(re.match(r" +requires ", each) for each in one.lines()):
                     sys.exit(f"{one.name} has no contract, or asks for something")
@@ -148,13 +156,14 @@ source = lru_cache(None)(Source)
 
 
 def declaration(path, name):
-    """What is declared under a path such as Rattle·definition.specs.Rules or Rattle·session·specs.specs.declared.Ran; None for the kit's own."""
-    found = re.fullmatch(r"Rattle·(\w+?)(?:·specs)?\.specs\.(declared\.)?(\w+)(\.the-variants)?", path)
-    if not found:
-        if path.startswith("Rattle·"):
-            sys.exit(f"no path of this repository: {path}")
+    """What is declared under a path such as Rattle.definition.specs.Rules or Rattle.session.specs.declared.Ran; None for the kit's own."""
+    crate = path.split(".")[1] if path.startswith("Rattle.") else None
+    if not crate or not Path(f"crates/{crate}").is_dir():
         return None
-    crate, is_declared, last, _ = found.groups()
+    found = re.fullmatch(r"Rattle\.\w+\.(?:specs|proofs)\.(declared\.(?:\w+\.)*)?(\w+)", path.removesuffix(".TheVariants"))
+    if not found:
+        sys.exit(f"no path of this repository: {path}")
+    is_declared, last = found.groups()
     file = source(crate) if is_declared else specs(crate, last)
     return within(file, last if is_declared else name)
 
@@ -191,8 +200,9 @@ def words(one):
         tokens = re.findall(r"[^\s(){}\[\];,&⌜⌝λ]+", around + "\n" + clause)
         for at, token in enumerate(tokens):
             word = token.rstrip(".")
-            if not token.startswith(".") and tokens[at + 1 : at + 2] not in (["="], [":"]) and (word not in variables or word in one.file.paths):
-                yield word
+            head = word.partition(".")[0]
+            if not token.startswith(".") and tokens[at + 1 : at + 2] not in (["="], [":"]) and (head not in variables or head in one.file.paths):
+                yield word if word.startswith("Rattle.") or head in one.file.aliases else head
 
 
 def is_known(one, word):
@@ -215,7 +225,7 @@ def reached(crate, statements):
         for word in words(one):
             path, name = one.file.cited(word)
             cited = declaration(path, name) if path else within(one.file, word)
-            if path and path.startswith("Rattle·") and not cited:
+            if path and path.startswith("Rattle.") and Path("crates", path.split(".")[1]).is_dir() and not cited:
                 sys.exit(f"{one.file.crate}: {one.file.name}.{one.name} cites {name} of {path}, which is not found")
             if not path and not cited and not is_known(one, word):
                 sys.exit(f"{one.file.crate}: {one.file.name}.{one.name} has the word {word}, which is not found")

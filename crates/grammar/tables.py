@@ -116,7 +116,7 @@ MEANING = {
 
 def definition():
     text = "-- The tables of the grammar, as crates/grammar/tables.py writes them from the elements, attributes and levels that it lists.\n"
-    text += "use mathlib.Core.List.{List, [], _∷_}\nuse Prim.Native.Nat.{ℕ}\n"
+    text += "use Rattle.std.specs.Prelude.{List, [], ◌∷◌, ℕ}\n"
     for name, cells in tables().items():
         lines = textwrap.fill(" ∷ ".join(map(str, cells + ["[]"])), 150, initial_indent="    ", subsequent_indent="    ")
         text += "\n-- %s\nunfoldable pub %s : List ℕ\n%s =\n%s\n" % (MEANING[name], name, name, lines)

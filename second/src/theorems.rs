@@ -27,19 +27,16 @@ pub struct Module {
 }
 
 const HEADER: &str = "\
-use mathlib.Core.Path.{_≡_, refl}
-use mathlib.Core.Bool.{Bool, true, false}
-use mathlib.Core.List.{List, [], _∷_, _++_}
-use Prim.Native.Nat.{ℕ}
-use Rattle·definition.specs.Rows.{same}
-use Rattle·definition.specs.declared.Mode.{Mode}
-use Rattle·definition.specs.declared.Mode.the-variants.{Running, Closing, Ended}
-use Rattle·definition.specs.Tables.{slotOf}
-use Rattle·follower.specs.Follower.{Follower}
-use Rattle·follower.specs.Clock.{Timer, Clock}
-use Rattle·follower.specs.Calls.{starts, posts, clocks, runs}
-use Rattle·follower.specs.Open.{everything}
-use Rattle·examples·specs.specs.Play.{joined, historyShown, queueShown, pendingShown, shown, playedIf, played, judged, countsKept, compiledSets, opens, fits, timer, recordFits, alike}
+use Rattle.std.specs.Prelude.{◌≡◌, refl, Bool, true, false, List, [], ◌∷◌, ◌++◌, ℕ}
+use Rattle.definition.specs.Rows.{same}
+use Rattle.definition.specs.declared.Mode.{Mode}
+use Rattle.definition.specs.declared.Mode.TheVariants.{Running, Closing, Ended}
+use Rattle.definition.specs.Tables.{slot_of}
+use Rattle.follower.specs.Follower.{Follower}
+use Rattle.follower.specs.Clock.{Timer, Clock}
+use Rattle.follower.specs.Calls.{starts, posts, clocks, runs}
+use Rattle.follower.specs.Open.{everything}
+use Rattle.examples.specs.Play.{joined, history_shown, queue_shown, pending_shown, shown, played_if, played, judged, counts_kept, compiled_sets, opens, fits, timer, record_fits, alike}
 ";
 
 /// How many played charts are written, and how many to a module.
@@ -243,7 +240,7 @@ fn list_of_lists<'a>(lists: impl IntoIterator<Item = &'a Vec<u64>>) -> String {
 fn slot(bytes: &[u8]) -> String {
     match text_of(bytes) {
         Some(text) if slot_holds_descriptor(bytes) && bytes.len() == 64 => {
-            format!("slotOf {}", bracketed(text))
+            format!("slot_of {}", bracketed(text))
         }
         _ => bracketed(bytes),
     }
@@ -252,12 +249,12 @@ fn slot(bytes: &[u8]) -> String {
 // Theorems
 
 fn numbers_definition(number: usize, spelt: &Spelt) -> String {
-    format!("abbrev numbers-{number:03} : List ℕ\nnumbers-{number:03} = {}\n", list(&spelt.numbers))
+    format!("abbrev numbers_{number:03} : List ℕ\nnumbers_{number:03} = {}\n", list(&spelt.numbers))
 }
 
 fn names_definition<'a>(number: usize, slots: impl Iterator<Item = &'a [u8]>) -> String {
     let slots = list(slots.map(slot));
-    format!("abbrev names-{number:03} : List ℕ\nnames-{number:03} = joined {}\n", in_brackets(&slots))
+    format!("abbrev names_{number:03} : List ℕ\nnames_{number:03} = joined {}\n", in_brackets(&slots))
 }
 
 fn in_brackets(text: &str) -> String {
@@ -286,9 +283,9 @@ fn expected(example: &Example) -> String {
 fn played(number: usize, example: &Example) -> String {
     let calls = in_brackets(&list(example.calls.iter().map(call)));
     format!(
-        "-- {}\n{}\n{}\nexample-{number:03} : alike (played numbers-{number:03} names-{number:03} {calls}) ({}) ≡ true\n\
-         unfolding everything joined historyShown queueShown pendingShown shown playedIf played alike\n\
-         example-{number:03} = refl\n",
+        "-- {}\n{}\n{}\nexample_{number:03} : alike (played numbers_{number:03} names_{number:03} {calls}) ({}) ≡ true\n\
+         unfolding everything joined history_shown queue_shown pending_shown shown played_if played alike\n\
+         example_{number:03} = refl\n",
         example.about,
         numbers_definition(number, &example.spelt),
         names_definition(number, example.slots()),
@@ -301,8 +298,8 @@ fn compiled_sets(number: usize, spelt: &Spelt) -> String {
     let places = compile(&spelt.numbers, &spelt.names, place).expect("the chart is accepted");
     let words = list(&places.numbers[spelt.numbers.len()..]);
     format!(
-        "{}\ncompiled-{number:03} : same (compiledSets numbers-{number:03}) {} ≡ true\n\
-         unfolding everything compiledSets\ncompiled-{number:03} = refl\n",
+        "{}\ncompiled_{number:03} : same (compiled_sets numbers_{number:03}) {} ≡ true\n\
+         unfolding everything compiled_sets\ncompiled_{number:03} = refl\n",
         numbers_definition(number, spelt),
         in_brackets(&words),
     )
@@ -310,7 +307,7 @@ fn compiled_sets(number: usize, spelt: &Spelt) -> String {
 
 fn counts_kept(number: usize, header: &Header) -> String {
     format!(
-        "-- {}\nheader-{number:03} : countsKept {} ≡ {}\nunfolding everything countsKept\nheader-{number:03} = refl\n",
+        "-- {}\nheader_{number:03} : counts_kept {} ≡ {}\nunfolding everything counts_kept\nheader_{number:03} = refl\n",
         header.about,
         bracketed(header.counts),
         header.fits,
@@ -320,8 +317,8 @@ fn counts_kept(number: usize, header: &Header) -> String {
 fn judged(number: usize, example: &LentPlaces) -> String {
     let Place { numbers, names } = example.place;
     format!(
-        "-- {}\njudged-{number:03} : judged numbers-001 names-001 {numbers} {names} ≡ {}\n\
-         unfolding everything joined judged\njudged-{number:03} = refl\n",
+        "-- {}\njudged_{number:03} : judged numbers_001 names_001 {numbers} {names} ≡ {}\n\
+         unfolding everything joined judged\njudged_{number:03} = refl\n",
         example.about, example.verdict,
     )
 }
@@ -330,8 +327,8 @@ fn opens(number: usize, example: &Opened) -> String {
     let Places { numbers, names } = &example.places;
     let slots = in_brackets(&list(names.chunks(SLOT_BYTES).map(slot)));
     format!(
-        "-- {}\nopens-{number:03} : opens {} (joined {slots}) ≡ {}\n\
-         unfolding everything joined opens\nopens-{number:03} = refl\n",
+        "-- {}\nopens_{number:03} : opens {} (joined {slots}) ≡ {}\n\
+         unfolding everything joined opens\nopens_{number:03} = refl\n",
         example.about,
         bracketed(numbers),
         example.opens,
@@ -358,8 +355,8 @@ fn session_theorem(number: usize, chart: usize, example: &SessionExample) -> Str
         names(&session.external),
     );
     format!(
-        "-- {}\nsession-{number:03} : fits numbers-{chart:03} ({record}) ≡ {}\n\
-         unfolding everything fits\nsession-{number:03} = refl\n",
+        "-- {}\nsession_{number:03} : fits numbers_{chart:03} ({record}) ≡ {}\n\
+         unfolding everything fits\nsession_{number:03} = refl\n",
         example.about, example.fits,
     )
 }
@@ -370,8 +367,8 @@ fn record_theorem(number: usize, example: &RecordExample) -> String {
     };
     let pending = bracketed(example.record.pending.iter().map(send));
     format!(
-        "-- {}\nrecord-{number:03} : recordFits {} {} {pending} ≡ {}\n\
-         unfolding everything recordFits\nrecord-{number:03} = refl\n",
+        "-- {}\nrecord_{number:03} : record_fits {} {} {pending} ≡ {}\n\
+         unfolding everything record_fits\nrecord_{number:03} = refl\n",
         example.about,
         mode_word(example.mode),
         example.record.ticks,

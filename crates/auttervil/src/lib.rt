@@ -14,8 +14,8 @@ ghost use Rattle.lent.specs.Places.{session_in, record_in, places_fit, start_in,
 ghost use Rattle.calls.specs.Calls.{calls_of};
 ghost use Rattle.calls.specs.Performing.{both_in, Performs, calls_in};
 ghost use Rattle.reading.specs.Calls.{call_of};
-ghost use Rattle.writing.specs.Calls.{call_of as writeOf};
-ghost use Rattle.read_text.specs.Whole.{places_fit as workFits, read_with, WorkKept};
+ghost use Rattle.writing.specs.Calls.{call_of as write_of};
+ghost use Rattle.read_text.specs.Whole.{places_fit as work_fits, read_with, WorkKept};
 ghost use Rattle.auttervil.specs.Exports.{CompilesTo, chart_answer, StartsTo, PostsTo, ClocksTo, RunsTo, StepsTo, read_outcome, write_outcome};
 
 use definition::Answer;
@@ -302,7 +302,7 @@ pub extern "C" fn auttervil_raw3_read_with(
     noted: &mut [u16],
     ranks: &mut [u16],
 ) -> ReadResult
-    ensures { (read_outcome result place.new name_place.new ≡ read_with (workFits (length work.old) (length name_work.old) (length ids.old) (length spots.old) (length noted.old) (length ranks.old)) text.now place.old name_place.old) × WorkKept (workFits (length work.old) (length name_work.old) (length ids.old) (length spots.old) (length noted.old) (length ranks.old)) work.old name_work.old ids.old spots.old noted.old ranks.old work.new name_work.new ids.new spots.new noted.new ranks.new }
+    ensures { (read_outcome result place.new name_place.new ≡ read_with (work_fits (length work.old) (length name_work.old) (length ids.old) (length spots.old) (length noted.old) (length ranks.old)) text.now place.old name_place.old) × WorkKept (work_fits (length work.old) (length name_work.old) (length ids.old) (length spots.old) (length noted.old) (length ranks.old)) work.old name_work.old ids.old spots.old noted.old ranks.old work.new name_work.new ids.new spots.new noted.new ranks.new }
 {
     let read = read_text::read_with(
         text, place, name_place, work, name_work, ids, spots, noted, ranks,
@@ -334,7 +334,7 @@ pub extern "C" fn auttervil_raw3_write(
     names: &[u8],
     buffer: &mut [u8],
 ) -> WriteResult
-    ensures { write_outcome result buffer.new ≡ writeOf numbers.now names.now buffer.old }
+    ensures { write_outcome result buffer.new ≡ write_of numbers.now names.now buffer.old }
 {
     let written = write_text::write(numbers, names, buffer);
     let answer = written.answer;

@@ -115,22 +115,18 @@ pub fn with_external(mut s: Session, text: &[u8]) -> Session {
 
 fn make_words(words: &mut [u64], from: u64) -> u64 {
     let mut v = from;
-    let mut i = 0;
-    while i < words.len() {
+    for (i, word) in words.iter_mut().enumerate() {
         v = lines::mix(v, i as u64);
-        words[i] = v;
-        i += 1;
+        *word = v;
     }
     v
 }
 
 fn make_bytes(bytes: &mut [u8], from: u64) -> u64 {
     let mut v = from;
-    let mut i = 0;
-    while i < bytes.len() {
+    for (i, byte) in bytes.iter_mut().enumerate() {
         v = lines::mix(v, i as u64);
-        bytes[i] = (v % 256) as u8;
-        i += 1;
+        *byte = (v % 256) as u8;
     }
     v
 }

@@ -30,12 +30,13 @@ mod show;
 mod steps;
 
 use definition::Answer;
-use libc::STDIN_FILENO;
 use lines::{behind_guard, least, size};
 use session::{Clock, Session};
+use std::io;
+use std::io::Read;
 
-// Room for all lines.
-const TEXT: usize = 524288;
+// The most bytes that are read.
+const TEXT: u64 = 524288;
 
 // How much of each buffer is lent.
 #[derive(Clone, Copy)]
@@ -118,9 +119,16 @@ fn compile(
     )
 }
 
-fn compile_shown(l: Lent, numbers: &[u64], names: &[u8], place: &mut [u64], name_place: &mut [u8]) {
-    show::answer(compile(l, numbers, names, place, name_place));
-    lines::put(b'\n');
+fn compile_shown(
+    rt: &impl Print,
+    l: Lent,
+    numbers: &[u64],
+    names: &[u8],
+    place: &mut [u64],
+    name_place: &mut [u8],
+) -> io::Result<()> {
+    show::answer(rt, compile(l, numbers, names, place, name_place))?;
+    lines::put(rt, b'\n')
 }
 
 fn set_number(rest: &[u8], l: Lent, place: &mut [u64]) {
@@ -143,12 +151,13 @@ fn set_byte(rest: &[u8], l: Lent, name_place: &mut [u8]) {
     );
 }
 
-fn show_title(text: &[u8]) {
-    lines::show(text);
-    lines::show(b": ");
+fn show_title(rt: &impl Print, text: &[u8]) -> io::Result<()> {
+    lines::show(rt, text)?;
+    lines::show(rt, b": ")
 }
 
 fn chart_line(
+    rt: &impl Print,
     case: u8,
     rest: &[u8],
     l: Lent,
@@ -156,31 +165,31 @@ fn chart_line(
     names: &mut [u8],
     place: &mut [u64],
     name_place: &mut [u8],
-) -> Lent {
+) -> io::Result<Lent> {
     if case == b'c' {
-        show_title(rest);
-        return l;
+        show_title(rt, rest)?;
+        return Ok(l);
     }
     if case == b'n' {
-        return l.with_numbers(lines::read_numbers(rest, numbers));
+        return Ok(l.with_numbers(lines::read_numbers(rest, numbers)));
     }
     if case == b's' {
-        return l.with_names(lines::read_slots(rest, names));
+        return Ok(l.with_names(lines::read_slots(rest, names)));
     }
     if case == b'p' {
         let lent = l.with_places(rest);
-        compile_shown(lent, numbers, names, place, name_place);
-        return lent;
+        compile_shown(rt, lent, numbers, names, place, name_place)?;
+        return Ok(lent);
     }
     if case == b'l' {
-        return l.with_places(rest);
+        return Ok(l.with_places(rest));
     }
     if case == b'k' {
         set_number(rest, l, place);
-        return l;
+        return Ok(l);
     }
     set_byte(rest, l, name_place);
-    l
+    Ok(l)
 }
 
 // ---- lines of the session
@@ -217,44 +226,53 @@ fn clock_line(case: u8, rest: &[u8], k: Clock) -> Clock {
 
 // Those that leave the clock record as it is.
 fn session_call(
+    rt: &impl Print,
     case: u8,
     rest: &[u8],
     l: Lent,
     s: Session,
     place: &[u64],
     name_place: &[u8],
-) -> Session {
+) -> io::Result<Session> {
     if case == b'o' {
-        return posts::post_line(rest, l, s, place, name_place);
+        return posts::post_line(rt, rest, l, s, place, name_place);
     }
     if case == b'd' {
-        posts::each_way(rest, l, s, place, name_place);
-        return s;
+        posts::each_way(rt, rest, l, s, place, name_place)?;
+        return Ok(s);
     }
     if case == b'v' {
-        posts::each_place(rest, l, s, place, name_place);
-        return s;
+        posts::each_place(rt, rest, l, s, place, name_place)?;
+        return Ok(s);
     }
-    show::cells_line(rest, s);
-    s
+    show::cells_line(rt, rest, s)?;
+    Ok(s)
 }
 
-fn call_line(case: u8, rest: &[u8], l: Lent, h: Held, place: &[u64], name_place: &[u8]) -> Held {
+fn call_line(
+    rt: &impl Print,
+    case: u8,
+    rest: &[u8],
+    l: Lent,
+    h: Held,
+    place: &[u64],
+    name_place: &[u8],
+) -> io::Result<Held> {
     if case == b't' {
-        return steps::start_line(rest, l, h, place, name_place);
+        return steps::start_line(rt, rest, l, h, place, name_place);
     }
     if case == b'u' {
-        return steps::run_line(rest, l, h, place, name_place);
+        return steps::run_line(rt, rest, l, h, place, name_place);
     }
     if case == b'y' {
-        return steps::clock_line(rest, l, h, place, name_place);
+        return steps::clock_line(rt, rest, l, h, place, name_place);
     }
     let s = h.session;
     let k = h.clock;
-    Held {
-        session: session_call(case, rest, l, s, place, name_place),
+    Ok(Held {
+        session: session_call(rt, case, rest, l, s, place, name_place)?,
         clock: k,
-    }
+    })
 }
 
 // ---- all lines
@@ -296,33 +314,34 @@ fn held_line(case: u8, rest: &[u8], h: Held) -> Held {
 }
 
 fn run_line(
+    rt: &impl Print,
     line: &[u8],
     scene: Scene,
     numbers: &mut [u64],
     names: &mut [u8],
     place: &mut [u64],
     name_place: &mut [u8],
-) -> Scene {
+) -> io::Result<Scene> {
     if line.len() < 2 {
-        return scene;
+        return Ok(scene);
     }
     let case = line[0];
     let rest = &line[2..];
     let lent = scene.lent;
     let held = scene.held;
     match kind_of(case) {
-        Line::OfChart => Scene {
-            lent: chart_line(case, rest, lent, numbers, names, place, name_place),
+        Line::OfChart => Ok(Scene {
+            lent: chart_line(rt, case, rest, lent, numbers, names, place, name_place)?,
             held,
-        },
-        Line::OfCall => Scene {
+        }),
+        Line::OfCall => Ok(Scene {
             lent,
-            held: call_line(case, rest, lent, held, place, name_place),
-        },
-        _ => Scene {
+            held: call_line(rt, case, rest, lent, held, place, name_place)?,
+        }),
+        _ => Ok(Scene {
             lent,
             held: held_line(case, rest, held),
-        },
+        }),
     }
 }
 
@@ -348,36 +367,35 @@ fn first_scene() -> Scene {
 }
 
 fn run_all(
+    rt: &impl Print,
     text: &[u8],
     first: Scene,
     numbers: &mut [u64],
     names: &mut [u8],
     place: &mut [u64],
     name_place: &mut [u8],
-) {
+) -> io::Result<()> {
     let mut scene = first;
-    let mut at = 0;
-    while at < text.len() {
-        let end = bytes::scan::find(text, at, text.len(), b'\n');
-        let next = end + 1;
-        scene = run_line(&text[at..end], scene, numbers, names, place, name_place);
-        at = next;
+    for line in text.split(|b| *b == b'\n') {
+        scene = run_line(rt, line, scene, numbers, names, place, name_place)?;
     }
+    Ok(())
 }
 
-fn main() {
-    let mut text = [0u8; TEXT];
+fn main(rt: HostRuntime) -> io::Result<()> {
+    let mut text = Vec::new(rt.alloc());
+    rt.reader().take(TEXT).read_to_end(&mut text)?;
     let mut numbers = [0u64; lines::NUMBERS];
     let mut names = [0u8; lines::NAMES];
     let mut place = [0u64; lines::PLACE];
     let mut name_place = [0u8; lines::NAMES];
-    let n = io::read_full(STDIN_FILENO, &mut text);
     run_all(
-        &text[..n],
+        &rt,
+        &text,
         first_scene(),
         &mut numbers,
         &mut names,
         &mut place,
         &mut name_place,
-    );
+    )
 }

@@ -2,6 +2,7 @@
 use crate::{Lent, cells, show};
 use lines::{behind_guard, least, put};
 use session::{Posted, Session};
+use std::io;
 
 const ROOM: usize = 512;
 
@@ -16,32 +17,47 @@ fn post(l: Lent, s: Session, place: &[u64], name_place: &[u8], name: &[u8]) -> P
     s.post(&place[begin..end], &name_place[name_begin..name_end], name)
 }
 
-fn post_shown(l: Lent, s: Session, place: &[u64], name_place: &[u8], name: &[u8]) -> Session {
+fn post_shown(
+    rt: &impl Print,
+    l: Lent,
+    s: Session,
+    place: &[u64],
+    name_place: &[u8],
+    name: &[u8],
+) -> io::Result<Session> {
     let posted = post(l, s, place, name_place, name);
     let after = posted.session;
     let answer = posted.answer;
     let number = show::number_of(answer);
-    lines::show(b"post ");
-    lines::show_number(number);
-    show::session(after, number);
-    after
+    lines::show(rt, b"post ")?;
+    lines::show_number(rt, number)?;
+    show::session(rt, after, number)?;
+    Ok(after)
 }
 
 fn post_read(
+    rt: &impl Print,
     rest: &[u8],
     l: Lent,
     s: Session,
     place: &[u64],
     name_place: &[u8],
     name: &mut [u8],
-) -> Session {
+) -> io::Result<Session> {
     let n = least(lines::read_name(rest, name), name.len());
-    post_shown(l, s, place, name_place, &name[0..n])
+    post_shown(rt, l, s, place, name_place, &name[0..n])
 }
 
-pub fn post_line(rest: &[u8], l: Lent, s: Session, place: &[u64], name_place: &[u8]) -> Session {
+pub fn post_line(
+    rt: &impl Print,
+    rest: &[u8],
+    l: Lent,
+    s: Session,
+    place: &[u64],
+    name_place: &[u8],
+) -> io::Result<Session> {
     let mut name = [0u8; ROOM];
-    post_read(rest, l, s, place, name_place, &mut name)
+    post_read(rt, rest, l, s, place, name_place, &mut name)
 }
 
 // ---- answers one after the other
@@ -63,59 +79,60 @@ impl Seen {
         }
     }
 
-    fn show(self) {
+    fn show(self, rt: &impl Print) -> io::Result<()> {
         if self.count == 0 {
-            return;
+            return Ok(());
         }
-        put(b' ');
-        lines::show_number(self.count);
-        put(b'*');
-        lines::show_number(self.answer);
+        put(rt, b' ')?;
+        lines::show_number(rt, self.count)?;
+        put(rt, b'*')?;
+        lines::show_number(rt, self.answer)
     }
 
-    fn with(self, answer: u64, after: Session) -> Seen {
+    fn with(self, rt: &impl Print, answer: u64, after: Session) -> io::Result<Seen> {
         let sum = cells::sum(self.sum, after);
         if answer == self.answer {
-            return Seen {
+            return Ok(Seen {
                 answer,
                 count: std::num::wrapping_add_u64(self.count, 1),
                 sum,
-            };
+            });
         }
-        self.show();
-        Seen {
+        self.show(rt)?;
+        Ok(Seen {
             answer,
             count: 1,
             sum,
-        }
+        })
     }
 
-    fn end(self) {
-        self.show();
-        lines::show_sum(self.sum);
-        put(b'\n');
+    fn end(self, rt: &impl Print) -> io::Result<()> {
+        self.show(rt)?;
+        lines::show_sum(rt, self.sum)?;
+        put(rt, b'\n')
     }
 }
 
 // A line's number: of the way, or of the place.
-fn begin(number: usize) -> Seen {
-    lines::show_number(number as u64);
-    put(b':');
-    Seen::none()
+fn begin(rt: &impl Print, number: usize) -> io::Result<Seen> {
+    lines::show_number(rt, number as u64)?;
+    put(rt, b':')?;
+    Ok(Seen::none())
 }
 
 fn post_seen(
+    rt: &impl Print,
     seen: Seen,
     l: Lent,
     s: Session,
     place: &[u64],
     name_place: &[u8],
     name: &[u8],
-) -> Seen {
+) -> io::Result<Seen> {
     let posted = post(l, s, place, name_place, name);
     let after = posted.session;
     let answer = posted.answer;
-    seen.with(show::number_of(answer), after)
+    seen.with(rt, show::number_of(answer), after)
 }
 
 // ---- each cell changed
@@ -134,52 +151,74 @@ fn session_changed(s: Session, way: usize, at: usize) -> Session {
     cells::with_cell(s, at, changed(way, at, cells::cell(s, at)))
 }
 
-fn each_cell(way: usize, l: Lent, s: Session, place: &[u64], name_place: &[u8], name: &[u8]) {
-    let mut seen = begin(way);
-    let mut at: usize = 0;
-    while at < cells::CELLS {
+fn each_cell(
+    rt: &impl Print,
+    way: usize,
+    l: Lent,
+    s: Session,
+    place: &[u64],
+    name_place: &[u8],
+    name: &[u8],
+) -> io::Result<()> {
+    let mut seen = begin(rt, way)?;
+    for at in 0..cells::CELLS {
         seen = post_seen(
+            rt,
             seen,
             l,
             session_changed(s, way, at),
             place,
             name_place,
             name,
-        );
-        at += 1;
+        )?;
     }
-    seen.end();
+    seen.end(rt)
 }
 
-fn each_way_of(l: Lent, s: Session, place: &[u64], name_place: &[u8], name: &[u8]) {
-    let mut way: usize = 0;
-    while way < lines::WAYS {
-        each_cell(way, l, s, place, name_place, name);
-        way += 1;
+fn each_way_of(
+    rt: &impl Print,
+    l: Lent,
+    s: Session,
+    place: &[u64],
+    name_place: &[u8],
+    name: &[u8],
+) -> io::Result<()> {
+    for way in 0..lines::WAYS {
+        each_cell(rt, way, l, s, place, name_place, name)?;
     }
+    Ok(())
 }
 
 fn each_way_read(
+    rt: &impl Print,
     rest: &[u8],
     l: Lent,
     s: Session,
     place: &[u64],
     name_place: &[u8],
     name: &mut [u8],
-) {
+) -> io::Result<()> {
     let n = least(lines::read_name(rest, name), name.len());
-    each_way_of(l, s, place, name_place, &name[0..n]);
+    each_way_of(rt, l, s, place, name_place, &name[0..n])
 }
 
-pub fn each_way(rest: &[u8], l: Lent, s: Session, place: &[u64], name_place: &[u8]) {
+pub fn each_way(
+    rt: &impl Print,
+    rest: &[u8],
+    l: Lent,
+    s: Session,
+    place: &[u64],
+    name_place: &[u8],
+) -> io::Result<()> {
     let mut name = [0u8; ROOM];
-    each_way_read(rest, l, s, place, name_place, &mut name);
+    each_way_read(rt, rest, l, s, place, name_place, &mut name)
 }
 
 // ---- each place of the name with every byte value
 
 // The first n bytes of the name, with another one at a place.
 fn post_changed(
+    rt: &impl Print,
     seen: Seen,
     n: usize,
     at: usize,
@@ -189,13 +228,14 @@ fn post_changed(
     place: &[u64],
     name_place: &[u8],
     name: &mut [u8],
-) -> Seen {
+) -> io::Result<Seen> {
     lines::put_byte(name, at, (v % 256) as u8);
     let end = least(n, name.len());
-    post_seen(seen, l, s, place, name_place, &name[0..end])
+    post_seen(rt, seen, l, s, place, name_place, &name[0..end])
 }
 
 fn each_value_read(
+    rt: &impl Print,
     rest: &[u8],
     at: usize,
     l: Lent,
@@ -203,27 +243,39 @@ fn each_value_read(
     place: &[u64],
     name_place: &[u8],
     name: &mut [u8],
-) {
+) -> io::Result<()> {
     let n = lines::read_name(rest, name);
-    let mut seen = begin(at);
-    let mut v: u64 = 0;
-    while v < 256 {
-        seen = post_changed(seen, n, at, v, l, s, place, name_place, name);
-        v += 1;
+    let mut seen = begin(rt, at)?;
+    for v in 0..256u64 {
+        seen = post_changed(rt, seen, n, at, v, l, s, place, name_place, name)?;
     }
-    seen.end();
+    seen.end(rt)
 }
 
-fn each_value(rest: &[u8], at: usize, l: Lent, s: Session, place: &[u64], name_place: &[u8]) {
+fn each_value(
+    rt: &impl Print,
+    rest: &[u8],
+    at: usize,
+    l: Lent,
+    s: Session,
+    place: &[u64],
+    name_place: &[u8],
+) -> io::Result<()> {
     let mut name = [0u8; ROOM];
-    each_value_read(rest, at, l, s, place, name_place, &mut name);
+    each_value_read(rt, rest, at, l, s, place, name_place, &mut name)
 }
 
 // The name is spelt without %, so that it is as long as what is left of the line.
-pub fn each_place(rest: &[u8], l: Lent, s: Session, place: &[u64], name_place: &[u8]) {
-    let mut at = 0;
-    while at < rest.len() {
-        each_value(rest, at, l, s, place, name_place);
-        at += 1;
+pub fn each_place(
+    rt: &impl Print,
+    rest: &[u8],
+    l: Lent,
+    s: Session,
+    place: &[u64],
+    name_place: &[u8],
+) -> io::Result<()> {
+    for at in 0..rest.len() {
+        each_value(rt, rest, at, l, s, place, name_place)?;
     }
+    Ok(())
 }

@@ -5,6 +5,7 @@ ghost use Rattle.std.specs.Prelude.{◌≡◌, ◌<◌, length};
 use crate::{cells, show};
 use lines::put;
 use session::Clock;
+use std::io;
 
 const NUMBERS: usize = 34;
 
@@ -102,40 +103,39 @@ fn number(bytes: &[u8], place: usize) -> u64
     low | high << 32
 }
 
-fn send(bytes: &[u8], i: usize)
+fn send(rt: &impl Print, bytes: &[u8], i: usize) -> io::Result<()>
     requires { (i < 32) × (length bytes.now ≡ 4368) }
 {
-    lines::show(b", due");
-    show::blank_number(number(bytes, DUE + i));
-    show::slot(&bytes[EVENTS..IDS], i);
-    show::slot(&bytes[IDS..], i);
+    lines::show(rt, b", due")?;
+    show::blank_number(rt, number(bytes, DUE + i))?;
+    show::slot(rt, &bytes[EVENTS..IDS], i)?;
+    show::slot(rt, &bytes[IDS..], i)
 }
 
-fn sends(bytes: &[u8], count: u64)
+fn sends(rt: &impl Print, bytes: &[u8], count: u64) -> io::Result<()>
     requires { length bytes.now ≡ 4368 }
 {
-    let mut i: usize = 0;
-    while i < MOST_PENDING {
+    for i in 0..MOST_PENDING {
         if show::wide(i) < count {
-            send(bytes, i);
+            send(rt, bytes, i)?;
         }
-        i += 1;
     }
+    Ok(())
 }
 
-fn parts(bytes: &[u8])
+fn parts(rt: &impl Print, bytes: &[u8]) -> io::Result<()>
     requires { length bytes.now ≡ 4368 }
 {
-    lines::show(b", clock");
-    show::blank_number(number(bytes, 0));
-    sends(bytes, number(bytes, COUNT));
+    lines::show(rt, b", clock")?;
+    show::blank_number(rt, number(bytes, 0))?;
+    sends(rt, bytes, number(bytes, COUNT))
 }
 
 // Whole, unless the answer is 8 or 9: then it may be anything, and its sum alone is printed.
-pub fn show_clock(k: Clock, answer: u64) {
+pub fn show_clock(rt: &impl Print, k: Clock, answer: u64) -> io::Result<()> {
     if answer != 8 && answer != 9 {
-        parts(&k.bytes);
+        parts(rt, &k.bytes)?;
     }
-    put(b',');
-    lines::show_sum(lines::sum_bytes(lines::FIRST_SUM, &k.bytes));
+    put(rt, b',')?;
+    lines::show_sum(rt, lines::sum_bytes(lines::FIRST_SUM, &k.bytes))
 }

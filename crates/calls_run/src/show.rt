@@ -5,6 +5,7 @@ use crate::cells;
 use definition::Answer;
 use lines::{put, show_number};
 use session::Session;
+use std::io;
 
 const SLOT: usize = 64;
 
@@ -18,13 +19,12 @@ pub fn number_of(a: Answer) -> u64 {
     answers::answer_number(a) as u64
 }
 
-pub fn answer(a: Answer) {
-    show_number(number_of(a));
+pub fn answer(rt: &impl Print, a: Answer) -> io::Result<()> {
+    show_number(rt, number_of(a))
 }
 
-pub fn blank_number(n: u64) {
-    put(b' ');
-    show_number(n);
+pub fn blank_number(rt: &impl Print, n: u64) -> io::Result<()> {
+    print!(rt; " {n}")
 }
 
 pub fn wide(n: usize) -> u64 {
@@ -39,14 +39,13 @@ fn holds(words: &[u64], set: usize, row: usize) -> bool {
 }
 
 // The rows of the set that begins at a word.
-fn rows(words: &[u64], set: usize) {
-    let mut row: usize = 0;
-    while row < ROWS {
+fn rows(rt: &impl Print, words: &[u64], set: usize) -> io::Result<()> {
+    for row in 0..ROWS {
         if holds(words, set, row) {
-            blank_number(wide(row));
+            blank_number(rt, wide(row))?;
         }
-        row += 1;
     }
+    Ok(())
 }
 
 fn is_empty(words: &[u64], set: usize) -> bool {
@@ -57,85 +56,81 @@ fn is_empty(words: &[u64], set: usize) -> bool {
     a | b | c | d == 0
 }
 
-fn stored_of(words: &[u64], row: usize)
+fn stored_of(rt: &impl Print, words: &[u64], row: usize) -> io::Result<()>
     requires { row < 256 }
 {
     let set = row * SET_WIDTH;
     if is_empty(words, set) {
-        return;
+        return Ok(());
     }
-    lines::show(b", stored");
-    blank_number(wide(row));
-    put(b':');
-    rows(words, set);
+    lines::show(rt, b", stored")?;
+    blank_number(rt, wide(row))?;
+    put(rt, b':')?;
+    rows(rt, words, set)
 }
 
-fn stored(words: &[u64]) {
-    let mut row: usize = 0;
-    while row < ROWS {
-        stored_of(words, row);
-        row += 1;
+fn stored(rt: &impl Print, words: &[u64]) -> io::Result<()> {
+    for row in 0..ROWS {
+        stored_of(rt, words, row)?;
     }
+    Ok(())
 }
 
 // ---- queues
 
-pub fn slot(queue: &[u8], at: usize)
+pub fn slot(rt: &impl Print, queue: &[u8], at: usize) -> io::Result<()>
     requires { at < 32 }
 {
     let begin = at * SLOT;
     let end = begin + SLOT;
     if queue.len() < end {
-        return;
+        return Ok(());
     }
-    put(b' ');
-    lines::show(names::name_of(&queue[begin..end]));
+    put(rt, b' ')?;
+    lines::show(rt, names::name_of(&queue[begin..end]))
 }
 
-fn names_of(queue: &[u8], count: u64) {
-    let mut at: usize = 0;
-    while at < MOST_NAMES {
+fn names_of(rt: &impl Print, queue: &[u8], count: u64) -> io::Result<()> {
+    for at in 0..MOST_NAMES {
         if wide(at) < count {
-            slot(queue, at);
+            slot(rt, queue, at)?;
         }
-        at += 1;
     }
+    Ok(())
 }
 
 // ---- sessions
 
-fn parts(s: Session) {
-    lines::show(b", mode");
-    blank_number(s.mode);
-    lines::show(b", rows");
-    rows(&s.configuration, 0);
-    stored(&s.history);
-    lines::show(b", internal");
-    names_of(&s.internal, s.internal_count);
-    lines::show(b", external");
-    names_of(&s.external, s.external_count);
+fn parts(rt: &impl Print, s: Session) -> io::Result<()> {
+    lines::show(rt, b", mode")?;
+    blank_number(rt, s.mode)?;
+    lines::show(rt, b", rows")?;
+    rows(rt, &s.configuration, 0)?;
+    stored(rt, &s.history)?;
+    lines::show(rt, b", internal")?;
+    names_of(rt, &s.internal, s.internal_count)?;
+    lines::show(rt, b", external")?;
+    names_of(rt, &s.external, s.external_count)
 }
 
 // Whole, unless the answer is 8 or 9: then it may be anything, and its sum alone is printed.
-pub fn session(s: Session, answer: u64) {
+pub fn session(rt: &impl Print, s: Session, answer: u64) -> io::Result<()> {
     if answer != 8 && answer != 9 {
-        parts(s);
+        parts(rt, s)?;
     }
-    put(b',');
-    lines::show_sum(cells::sum(lines::FIRST_SUM, s));
-    put(b'\n');
+    put(rt, b',')?;
+    lines::show_sum(rt, cells::sum(lines::FIRST_SUM, s))?;
+    put(rt, b'\n')
 }
 
-fn some_cells(s: Session, first: usize, count: usize) {
-    let mut i: usize = 0;
-    while i < count {
-        blank_number(cells::cell(s, std::num::wrapping_add_usize(first, i)));
-        i += 1;
+fn some_cells(rt: &impl Print, s: Session, first: usize, count: usize) -> io::Result<()> {
+    for i in 0..count {
+        blank_number(rt, cells::cell(s, std::num::wrapping_add_usize(first, i)))?;
     }
-    put(b'\n');
+    put(rt, b'\n')
 }
 
-pub fn cells_line(rest: &[u8], s: Session) {
+pub fn cells_line(rt: &impl Print, rest: &[u8], s: Session) -> io::Result<()> {
     let part = lines::read_two(rest);
-    some_cells(s, lines::size(part.first), lines::size(part.next));
+    some_cells(rt, s, lines::size(part.first), lines::size(part.next))
 }

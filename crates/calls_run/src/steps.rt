@@ -2,6 +2,7 @@
 use crate::{Held, Lent, records, show};
 use lines::behind_guard;
 use session::{Clocked, Ran, Started};
+use std::io;
 
 // Room for every trace of the lists, and guards.
 const ROOM: usize = 2048;
@@ -17,41 +18,39 @@ fn is_kept(n: u32, at: usize, begin: usize, end: usize) -> bool {
 
 // Nothing but the part from begin to end was written.
 fn others_kept(trace: &[u32], begin: usize, end: usize) -> bool {
-    let mut i = 0;
-    while i < trace.len() {
-        if !is_kept(trace[i], i, begin, end) {
+    for (i, n) in trace.iter().enumerate() {
+        if !is_kept(*n, i, begin, end) {
             return false;
         }
-        i += 1;
     }
     true
 }
 
-fn entry(n: u32) {
-    show::blank_number(n as u64);
+fn entry(rt: &impl Print, n: u32) -> io::Result<()> {
+    show::blank_number(rt, n as u64)
 }
 
-fn entries(trace: &[u32], count: usize) {
+fn entries(rt: &impl Print, trace: &[u32], count: usize) -> io::Result<()> {
     let p = behind_guard(count, trace.len());
     let end = p.end;
-    let mut at = p.begin;
-    while at < end {
-        entry(trace[at]);
-        at += 1;
+    for at in p.begin..end {
+        entry(rt, trace[at])?;
     }
+    Ok(())
 }
 
-fn written(trace: &[u32], count: usize) {
-    lines::show(b", ");
-    lines::show_number(count as u64);
-    lines::show(b" entries");
-    entries(trace, count);
+fn written(rt: &impl Print, trace: &[u32], count: usize) -> io::Result<()> {
+    lines::show(rt, b", ")?;
+    lines::show_number(rt, count as u64)?;
+    lines::show(rt, b" entries")?;
+    entries(rt, trace, count)?;
     let p = behind_guard(count, trace.len());
     let begin = p.begin;
     let end = p.end;
     if others_kept(trace, begin, end) {
-        lines::show(b", the others kept");
+        lines::show(rt, b", the others kept")?;
     }
+    Ok(())
 }
 
 // ---- starts
@@ -84,13 +83,14 @@ fn start(
 }
 
 fn start_shown(
+    rt: &impl Print,
     rest: &[u8],
     l: Lent,
     h: Held,
     place: &[u64],
     name_place: &[u8],
     trace: &mut [u32],
-) -> Held {
+) -> io::Result<Held> {
     let room = lines::read_two(rest);
     lines::fill_trace(trace);
     let started = start(l, h, lines::size(room.first), place, name_place, trace);
@@ -98,17 +98,24 @@ fn start_shown(
     let clock = started.clock;
     let answer = started.answer;
     let number = show::number_of(answer);
-    lines::show(b"start ");
-    lines::show_number(number);
-    written(trace, started.count);
-    records::show_clock(clock, number);
-    show::session(session, number);
-    Held { session, clock }
+    lines::show(rt, b"start ")?;
+    lines::show_number(rt, number)?;
+    written(rt, trace, started.count)?;
+    records::show_clock(rt, clock, number)?;
+    show::session(rt, session, number)?;
+    Ok(Held { session, clock })
 }
 
-pub fn start_line(rest: &[u8], l: Lent, h: Held, place: &[u64], name_place: &[u8]) -> Held {
+pub fn start_line(
+    rt: &impl Print,
+    rest: &[u8],
+    l: Lent,
+    h: Held,
+    place: &[u64],
+    name_place: &[u8],
+) -> io::Result<Held> {
     let mut trace = [0u32; ROOM];
-    start_shown(rest, l, h, place, name_place, &mut trace)
+    start_shown(rt, rest, l, h, place, name_place, &mut trace)
 }
 
 // ---- runs
@@ -147,13 +154,14 @@ fn rounds_of(v: u64) -> u32 {
 }
 
 fn run_shown(
+    rt: &impl Print,
     rest: &[u8],
     l: Lent,
     h: Held,
     place: &[u64],
     name_place: &[u8],
     trace: &mut [u32],
-) -> Held {
+) -> io::Result<Held> {
     let asked = lines::read_two(rest);
     lines::fill_trace(trace);
     let ran = run(
@@ -169,20 +177,27 @@ fn run_shown(
     let clock = ran.clock;
     let status = ran.status;
     let number = answers::status_number(status) as u64;
-    lines::show(b"run ");
-    lines::show_number(number);
-    lines::show(b", ");
-    lines::show_number(ran.rounds as u64);
-    lines::show(b" rounds");
-    written(trace, ran.count);
-    records::show_clock(clock, number);
-    show::session(session, number);
-    Held { session, clock }
+    lines::show(rt, b"run ")?;
+    lines::show_number(rt, number)?;
+    lines::show(rt, b", ")?;
+    lines::show_number(rt, ran.rounds as u64)?;
+    lines::show(rt, b" rounds")?;
+    written(rt, trace, ran.count)?;
+    records::show_clock(rt, clock, number)?;
+    show::session(rt, session, number)?;
+    Ok(Held { session, clock })
 }
 
-pub fn run_line(rest: &[u8], l: Lent, h: Held, place: &[u64], name_place: &[u8]) -> Held {
+pub fn run_line(
+    rt: &impl Print,
+    rest: &[u8],
+    l: Lent,
+    h: Held,
+    place: &[u64],
+    name_place: &[u8],
+) -> io::Result<Held> {
     let mut trace = [0u32; ROOM];
-    run_shown(rest, l, h, place, name_place, &mut trace)
+    run_shown(rt, rest, l, h, place, name_place, &mut trace)
 }
 
 // ---- clock calls
@@ -204,16 +219,23 @@ fn clock(l: Lent, h: Held, ticks: u64, place: &[u64], name_place: &[u8]) -> Cloc
     )
 }
 
-pub fn clock_line(rest: &[u8], l: Lent, h: Held, place: &[u64], name_place: &[u8]) -> Held {
+pub fn clock_line(
+    rt: &impl Print,
+    rest: &[u8],
+    l: Lent,
+    h: Held,
+    place: &[u64],
+    name_place: &[u8],
+) -> io::Result<Held> {
     let asked = lines::read_two(rest);
     let clocked = clock(l, h, asked.first, place, name_place);
     let session = clocked.session;
     let clock = clocked.clock;
     let answer = clocked.answer;
     let number = show::number_of(answer);
-    lines::show(b"clock ");
-    lines::show_number(number);
-    records::show_clock(clock, number);
-    show::session(session, number);
-    Held { session, clock }
+    lines::show(rt, b"clock ")?;
+    lines::show_number(rt, number)?;
+    records::show_clock(rt, clock, number)?;
+    show::session(rt, session, number)?;
+    Ok(Held { session, clock })
 }

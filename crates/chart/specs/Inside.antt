@@ -1,6 +1,6 @@
 -- The rows that a compiled set lists are rows of the chart.
 use Rattle.std.specs.Prelude.{◌≡◌, true, ℕ, zero, suc, ◌<◌}
-use Rattle.std.proofs.Common.{sym, ◌∙◌, arith}
+use Rattle.std.proofs.Common.{sym, ◌∙◌, arith, subst}
 use mathlib.Core.List.{List, [], ◌∷◌, map}
 use Rattle.definition.specs.Rows.{mem, is_empty, first_of}
 use Rattle.definition.specs.Chart.{Chart, kind, is_history}
@@ -24,7 +24,7 @@ map_mem f P (x ∷ xs) h a m =
 first_mem : (xs : List ℕ) (a : ℕ) → mem a (first_of xs) ≡ true → mem a xs ≡ true
 unfolding first_of mem
 first_mem [] a m = m
-first_mem (x ∷ xs) a m = mem_cases a x [] (λ e. rw e (mem_head x xs)) (λ k. absurd (no k)) m
+first_mem (x ∷ xs) a m = mem_cases a x [] (λ e. subst (λ z. mem z (x ∷ xs) ≡ true) (sym e) (mem_head x xs)) (λ k. absurd (no k)) m
 
 module _ (c : Chart) (g : Sound c) where
   pub ancestor_inside : (i : ℕ) → i < c.rows → (a : ℕ) → mem a (ancestors c i) ≡ true → a < c.rows

@@ -1,16 +1,15 @@
 -- A chart that passes the check behind refusal 8 is ready to be read.
-use Rattle.std.specs.Prelude.{◌≡◌, refl, true, ℕ, ◌+◌, ◌*◌, ◌≤◌, ◌<◌, eqb, length, take}
+use Rattle.std.specs.Prelude.{◌≡◌, true, ℕ, ◌+◌, ◌*◌, ◌≤◌, ◌<◌, eqb, length, take}
 use Rattle.std.proofs.Math.Path.{sym, ap}
 use Rattle.std.proofs.Common.{◌∙◌, le_refl, length-append, take-take, eqb-true}
 use mathlib.Core.List.{List, [], ◌++◌, map, append_assoc, append-nil}
 use native.Mathlib.Omega.{arith}
-use Rattle.definition.specs.declared.Answer.{Answer}
 use Rattle.definition.specs.declared.Answer.TheVariants.{Done}
 use Rattle.definition.specs.Rows.{union}
 use Rattle.definition.specs.Chart.{Chart}
 use Rattle.definition.specs.Tables.{slot_size, row_count, transition_count, name_count, tables_size, chart_of}
 use Rattle.definition.specs.Tree.{ancestors, is_descendant, is_child, descendants, children, default_targets, anchor, anchors}
-use Rattle.definition.specs.Rules.{compiled_size, sizes_fit, counts_fit, rule1, rule2, verdict}
+use Rattle.definition.specs.Rules.{compiled_size, sizes_fit, counts_fit, rule1, verdict}
 use Rattle.definition.specs.Answers.{answer_no}
 use Rattle.definition.specs.Compiled.{column, columns, compiled, own_numbers, is_compiled}
 use Rattle.laws.specs.Bools.{and_left, and_right, and4, and7}

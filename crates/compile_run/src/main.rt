@@ -10,11 +10,12 @@
 //   m            each number of the chart changed in each way, and compiled: a line of answers for each way, and a sum of what all of them left in the buffers
 #![tactic(auto)]
 
-use libc::STDIN_FILENO;
 use lines::{behind_guard, least, put, read_numbers, show_answer, show_sum, sum_bytes, sum_words};
+use std::io;
+use std::io::Read;
 
-// Room for all lines.
-const TEXT: usize = 524288;
+// The most bytes that are read.
+const TEXT: u64 = 524288;
 
 // How much of each buffer is lent.
 #[derive(Clone, Copy)]
@@ -65,67 +66,99 @@ fn check(l: Lent, place: &[u64], name_place: &[u8]) -> u32 {
     }
 }
 
-fn compile_fresh(l: Lent, numbers: &[u64], names: &[u8], place: &mut [u64], name_place: &mut [u8]) {
+fn compile_fresh(
+    rt: &impl Print,
+    l: Lent,
+    numbers: &[u64],
+    names: &[u8],
+    place: &mut [u64],
+    name_place: &mut [u8],
+) -> io::Result<()> {
     lines::fill_words(place);
     lines::fill_bytes(name_place);
-    show_answer(compile(l, numbers, names, place, name_place));
-    put(b' ');
-    show_answer(check(l, place, name_place));
-    show_sum(sum_words(lines::FIRST_SUM, place));
-    show_sum(sum_bytes(lines::FIRST_SUM, name_place));
-    put(b'\n');
+    show_answer(rt, compile(l, numbers, names, place, name_place))?;
+    put(rt, b' ')?;
+    show_answer(rt, check(l, place, name_place))?;
+    show_sum(rt, sum_words(lines::FIRST_SUM, place))?;
+    show_sum(rt, sum_bytes(lines::FIRST_SUM, name_place))?;
+    put(rt, b'\n')
 }
 
-fn check_part(l: Lent, place: &[u64], name_place: &[u8]) {
-    show_answer(check(l, place, name_place));
-    put(b'\n');
+fn check_part(rt: &impl Print, l: Lent, place: &[u64], name_place: &[u8]) -> io::Result<()> {
+    show_answer(rt, check(l, place, name_place))?;
+    put(rt, b'\n')
 }
 
 // ---- damage
 
-fn check_changed(way: usize, at: usize, l: Lent, place: &mut [u64], name_place: &[u8]) {
+fn check_changed(
+    rt: &impl Print,
+    way: usize,
+    at: usize,
+    l: Lent,
+    place: &mut [u64],
+    name_place: &[u8],
+) -> io::Result<()> {
     if place.len() <= at {
-        return;
+        return Ok(());
     }
     let old = place[at];
     place[at] = lines::changed(way, old);
-    show_answer(check(l, place, name_place));
+    let answer = check(l, place, name_place);
     place[at] = old;
+    show_answer(rt, answer)
 }
 
-fn check_each_number(way: usize, l: Lent, place: &mut [u64], name_place: &[u8]) {
+fn check_each_number(
+    rt: &impl Print,
+    way: usize,
+    l: Lent,
+    place: &mut [u64],
+    name_place: &[u8],
+) -> io::Result<()> {
     let p = behind_guard(l.place, place.len());
     let end = p.end;
-    let mut at = p.begin;
-    while at < end {
-        check_changed(way, at, l, place, name_place);
-        at += 1;
+    for at in p.begin..end {
+        check_changed(rt, way, at, l, place, name_place)?;
     }
-    put(b'\n');
+    put(rt, b'\n')
 }
 
-fn check_changed_byte(way: usize, at: usize, l: Lent, place: &[u64], name_place: &mut [u8]) {
+fn check_changed_byte(
+    rt: &impl Print,
+    way: usize,
+    at: usize,
+    l: Lent,
+    place: &[u64],
+    name_place: &mut [u8],
+) -> io::Result<()> {
     if name_place.len() <= at {
-        return;
+        return Ok(());
     }
     let old = name_place[at];
     name_place[at] = lines::changed_byte(way, old);
-    show_answer(check(l, place, name_place));
+    let answer = check(l, place, name_place);
     name_place[at] = old;
+    show_answer(rt, answer)
 }
 
-fn check_each_byte(way: usize, l: Lent, place: &[u64], name_place: &mut [u8]) {
+fn check_each_byte(
+    rt: &impl Print,
+    way: usize,
+    l: Lent,
+    place: &[u64],
+    name_place: &mut [u8],
+) -> io::Result<()> {
     let p = behind_guard(l.name_place, name_place.len());
     let end = p.end;
-    let mut at = p.begin;
-    while at < end {
-        check_changed_byte(way, at, l, place, name_place);
-        at += 1;
+    for at in p.begin..end {
+        check_changed_byte(rt, way, at, l, place, name_place)?;
     }
-    put(b'\n');
+    put(rt, b'\n')
 }
 
 fn compile_changed(
+    rt: &impl Print,
     way: usize,
     at: usize,
     l: Lent,
@@ -133,37 +166,38 @@ fn compile_changed(
     names: &[u8],
     place: &mut [u64],
     name_place: &mut [u8],
-) {
+) -> io::Result<()> {
     if numbers.len() <= at {
-        return;
+        return Ok(());
     }
     let old = numbers[at];
     numbers[at] = lines::changed(way, old);
-    show_answer(compile(l, numbers, names, place, name_place));
+    let answer = compile(l, numbers, names, place, name_place);
     numbers[at] = old;
+    show_answer(rt, answer)
 }
 
 fn compile_each(
+    rt: &impl Print,
     way: usize,
     l: Lent,
     numbers: &mut [u64],
     names: &[u8],
     place: &mut [u64],
     name_place: &mut [u8],
-) {
+) -> io::Result<()> {
     let count = l.numbers;
     let mut sum = lines::FIRST_SUM;
-    let mut at = 0;
-    while at < count {
-        compile_changed(way, at, l, numbers, names, place, name_place);
+    for at in 0..count {
+        compile_changed(rt, way, at, l, numbers, names, place, name_place)?;
         sum = sum_bytes(sum_words(sum, place), name_place);
-        at += 1;
     }
-    show_sum(sum);
-    put(b'\n');
+    show_sum(rt, sum)?;
+    put(rt, b'\n')
 }
 
 fn damage_in(
+    rt: &impl Print,
     case: u8,
     way: usize,
     l: Lent,
@@ -171,27 +205,27 @@ fn damage_in(
     names: &[u8],
     place: &mut [u64],
     name_place: &mut [u8],
-) {
+) -> io::Result<()> {
     match case {
-        b'd' => check_each_number(way, l, place, name_place),
-        b'b' => check_each_byte(way, l, place, name_place),
-        _ => compile_each(way, l, numbers, names, place, name_place),
+        b'd' => check_each_number(rt, way, l, place, name_place),
+        b'b' => check_each_byte(rt, way, l, place, name_place),
+        _ => compile_each(rt, way, l, numbers, names, place, name_place),
     }
 }
 
 fn damage(
+    rt: &impl Print,
     case: u8,
     l: Lent,
     numbers: &mut [u64],
     names: &[u8],
     place: &mut [u64],
     name_place: &mut [u8],
-) {
-    let mut way: usize = 0;
-    while way < lines::WAYS {
-        damage_in(case, way, l, numbers, names, place, name_place);
-        way += 1;
+) -> io::Result<()> {
+    for way in 0..lines::WAYS {
+        damage_in(rt, case, way, l, numbers, names, place, name_place)?;
     }
+    Ok(())
 }
 
 // ---- lines
@@ -232,12 +266,13 @@ fn one_size(line: &[u8]) -> usize {
     lines::size(counts.first)
 }
 
-fn show_text(text: &[u8]) {
-    lines::show(text);
-    lines::show(b": ");
+fn show_text(rt: &impl Print, text: &[u8]) -> io::Result<()> {
+    lines::show(rt, text)?;
+    lines::show(rt, b": ")
 }
 
 fn run_case(
+    rt: &impl Print,
     case: u8,
     rest: &[u8],
     l: Lent,
@@ -245,80 +280,90 @@ fn run_case(
     names: &mut [u8],
     place: &mut [u64],
     name_place: &mut [u8],
-) -> Lent {
+) -> io::Result<Lent> {
     if case == b'c' {
-        show_text(rest);
-        return l;
+        show_text(rt, rest)?;
+        return Ok(l);
     }
     if case == b'n' {
-        return l.with_numbers(read_numbers(rest, numbers));
+        return Ok(l.with_numbers(read_numbers(rest, numbers)));
     }
     if case == b's' {
-        return l.with_names(lines::read_slots(rest, names));
+        return Ok(l.with_names(lines::read_slots(rest, names)));
     }
     if case == b'e' {
-        return l.with_names(one_size(rest));
+        return Ok(l.with_names(one_size(rest)));
     }
     if case == b'p' {
         let lent = l.with_places(rest);
-        compile_fresh(lent, numbers, names, place, name_place);
-        return lent;
+        compile_fresh(rt, lent, numbers, names, place, name_place)?;
+        return Ok(lent);
     }
     if case == b'k' {
-        check_part(l.with_places(rest), place, name_place);
-        return l;
+        check_part(rt, l.with_places(rest), place, name_place)?;
+        return Ok(l);
     }
-    damage(case, l, numbers, names, place, name_place);
-    l
+    damage(rt, case, l, numbers, names, place, name_place)?;
+    Ok(l)
 }
 
 fn run_line(
+    rt: &impl Print,
     line: &[u8],
     l: Lent,
     numbers: &mut [u64],
     names: &mut [u8],
     place: &mut [u64],
     name_place: &mut [u8],
-) -> Lent {
+) -> io::Result<Lent> {
     if line.len() < 2 {
-        return l;
+        return Ok(l);
     }
-    run_case(line[0], &line[2..], l, numbers, names, place, name_place)
+    run_case(
+        rt,
+        line[0],
+        &line[2..],
+        l,
+        numbers,
+        names,
+        place,
+        name_place,
+    )
 }
 
 fn run_all(
+    rt: &impl Print,
     text: &[u8],
     numbers: &mut [u64],
     names: &mut [u8],
     place: &mut [u64],
     name_place: &mut [u8],
-) {
+) -> io::Result<()> {
     let mut l = Lent {
         numbers: 0,
         names: 0,
         place: 0,
         name_place: 0,
     };
-    let mut at = 0;
-    while at < text.len() {
-        let end = bytes::scan::find(text, at, text.len(), b'\n');
-        l = run_line(&text[at..end], l, numbers, names, place, name_place);
-        at = end + 1;
+    for line in text.split(|b| *b == b'\n') {
+        l = run_line(rt, line, l, numbers, names, place, name_place)?;
     }
+    Ok(())
 }
 
-fn main() {
-    let mut text = [0u8; TEXT];
+fn main(rt: HostRuntime) -> io::Result<()> {
+    let mut text = Vec::new(rt.alloc());
+    rt.reader().take(TEXT).read_to_end(&mut text)?;
     let mut numbers = [0u64; lines::NUMBERS];
     let mut names = [0u8; lines::NAMES];
     let mut place = [0u64; lines::PLACE];
     let mut name_place = [0u8; lines::NAMES];
-    let n = io::read_full(STDIN_FILENO, &mut text);
     run_all(
-        &text[..n],
+        &rt,
+        &text,
         &mut numbers,
         &mut names,
         &mut place,
         &mut name_place,
-    );
+    )
 }

@@ -1,6 +1,6 @@
 -- Passes that write the effects of each element: over the rows of a set, upward and downward, and over the items of a list.
 use Rattle.std.specs.Prelude.{◌≡◌, List, [], ◌∷◌, ◌++◌, ℕ, suc, ◌+◌, ◌<◌, length, get_or, drop}
-use Rattle.std.proofs.Common.{ap, sym, subst, arith, add-one, drop-cons}
+use Rattle.std.proofs.Common.{ap, sym, subst, add-one, drop-cons}
 use Rattle.definition.specs.Rows.{flat, backwards}
 use Rattle.follower.specs.Blocks.{Effect}
 use Rattle.rowset.specs.declared.RowSet.{RowSet}

@@ -1,5 +1,5 @@
 -- The effect of each kind number, and its entry in the trace.
-use Rattle.std.specs.Prelude.{◌≡◌, List, [], ◌∷◌, map, ℕ, zero, suc, ◌+◌, ◌*◌, ◌^◌, ◌≤◌, length, set}
+use Rattle.std.specs.Prelude.{◌≡◌, List, [], ◌∷◌, ℕ, zero, suc, ◌+◌, ◌*◌, ◌^◌, ◌≤◌, length, set}
 use Rattle.std.proofs.Math.Path.{refl}
 use Rattle.std.proofs.Common.{ap, sym, ◌∙◌, length-set}
 use native.Mathlib.Omega.{arith}
@@ -11,7 +11,7 @@ use Rattle.definition.specs.Tables.{most_delay, no_number}
 use Rattle.follower.specs.Blocks.{Effect, exited, taken, entered, acted, raised, done, chosen, sent, cancelled, trace_no, perform, perform_if}
 use Rattle.paths.specs.Timing.{times, all_times}
 use Rattle.effects.specs.declared.Tally.{Tally}
-use Rattle.effects.specs.Trace.{queues, all_queues, join_at, timer_at, note, notes_one, Places, places, overwrite, overwrite_one, Wrote, Shown, Room}
+use Rattle.effects.specs.Trace.{queues, all_queues, join_at, timer_at, note, notes_one, Places, places, overwrite_one, Wrote, Shown, Room}
 use Rattle.effects.specs.Writing.{wrote_none}
 
 -- "1 exited row, 2 transition, 3 entered row, 4 host action, 5 raised name, 6 done event of row"; 7 the row that chose. The number of a send's entry does not

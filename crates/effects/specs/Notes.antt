@@ -8,7 +8,7 @@ use Rattle.std.proofs.Math.ListN.{get_or-append}
 use Rattle.std.proofs.lemmas.List.{get_or_at}
 use Rattle.definition.specs.Rows.{flat}
 use Rattle.definition.specs.Tables.{no_number}
-use Rattle.laws.specs.Bools.{bool_case, eq_case}
+use Rattle.laws.specs.Bools.{eq_case}
 use Rattle.follower.specs.Blocks.{Effect, exited, taken, entered, acted, raised, done, chosen, sent, cancelled, trace_no}
 use Rattle.paths.specs.Timing.{timing, timers_of, times, all_times}
 use Rattle.effects.specs.declared.Tally.{Tally}

@@ -20,8 +20,8 @@ numbers_001 = 10 ∷ 1 ∷ 1 ∷ 1 ∷ 0 ∷ 10 ∷ 0 ∷ 65535 ∷ 65535 ∷ 0 
 
 abbrev names_001 : List ℕ
 names_001 = joined (slot_of (103 ∷ []) ∷ slot_of (113 ∷ []) ∷ slot_of (114 ∷ 49 ∷ []) ∷ slot_of (102 ∷ 49 ∷ []) ∷
-    slot_of (114 ∷ 50 ∷ []) ∷ slot_of (102 ∷ 50 ∷ []) ∷ slot_of (115 ∷ []) ∷ slot_of (115 ∷ 49 ∷ []) ∷ slot_of (115 ∷ 102 ∷
-    []) ∷ slot_of (101 ∷ []) ∷ [])
+    slot_of (114 ∷ 50 ∷ []) ∷ slot_of (102 ∷ 50 ∷ []) ∷ slot_of (115 ∷ []) ∷ slot_of (115 ∷ 49 ∷ []) ∷ slot_of (115 ∷
+    102 ∷ []) ∷ slot_of (101 ∷ []) ∷ [])
 
 example_001 : alike (played numbers_001 names_001 (starts 200 ∷ posts (101 ∷ []) ∷ runs 9 200 ∷ [])) ((0 ∷ []) ∷ (0 ∷
     0 ∷ []) ∷ (196609 ∷ 196610 ∷ 196611 ∷ 196612 ∷ 393219 ∷ 196613 ∷ 196614 ∷ 393221 ∷ 393218 ∷ 196615 ∷ 196616 ∷ []) ∷
@@ -44,8 +44,8 @@ numbers_002 = 8 ∷ 1 ∷ 1 ∷ 1 ∷ 0 ∷ 8 ∷ 0 ∷ 65535 ∷ 65535 ∷ 0 �
     0 ∷ 3 ∷ 5 ∷ 6 ∷ 0 ∷ 0 ∷ 0 ∷ 0 ∷ 0 ∷ 0 ∷ 0 ∷ 0 ∷ 6 ∷ 0 ∷ 1 ∷ 65535 ∷ 0 ∷ 0 ∷ 1 ∷ 0 ∷ 0 ∷ 7 ∷ 7 ∷ []
 
 abbrev names_002 : List ℕ
-names_002 = joined (slot_of (103 ∷ []) ∷ slot_of (99 ∷ []) ∷ slot_of (100 ∷ []) ∷ slot_of (102 ∷ []) ∷ slot_of (115 ∷ []) ∷
-    slot_of (115 ∷ 49 ∷ []) ∷ slot_of (115 ∷ 102 ∷ []) ∷ slot_of (101 ∷ []) ∷ [])
+names_002 = joined (slot_of (103 ∷ []) ∷ slot_of (99 ∷ []) ∷ slot_of (100 ∷ []) ∷ slot_of (102 ∷ []) ∷ slot_of (115 ∷
+    []) ∷ slot_of (115 ∷ 49 ∷ []) ∷ slot_of (115 ∷ 102 ∷ []) ∷ slot_of (101 ∷ []) ∷ [])
 
 example_002 : alike (played numbers_002 names_002 (starts 200 ∷ posts (101 ∷ []) ∷ runs 9 200 ∷ [])) ((0 ∷ []) ∷ (0 ∷
     0 ∷ []) ∷ (196609 ∷ 196610 ∷ 196611 ∷ 196612 ∷ 393219 ∷ 196613 ∷ 196614 ∷ []) ∷ (1 ∷ 2 ∷ 3 ∷ 4 ∷ 5 ∷ 6 ∷ []) ∷ [] ∷
@@ -67,9 +67,10 @@ numbers_003 = 13 ∷ 1 ∷ 3 ∷ 1 ∷ 1 ∷ 13 ∷ 0 ∷ 65535 ∷ 65535 ∷ 0 
     []
 
 abbrev names_003 : List ℕ
-names_003 = joined (slot_of (122 ∷ []) ∷ slot_of (99 ∷ []) ∷ slot_of (112 ∷ []) ∷ slot_of (114 ∷ 48 ∷ []) ∷ slot_of (117 ∷
-    48 ∷ []) ∷ slot_of (118 ∷ 48 ∷ []) ∷ slot_of (114 ∷ 49 ∷ []) ∷ slot_of (117 ∷ 49 ∷ []) ∷ slot_of (118 ∷ 49 ∷ []) ∷
-    slot_of (114 ∷ 50 ∷ []) ∷ slot_of (117 ∷ 50 ∷ []) ∷ slot_of (118 ∷ 50 ∷ []) ∷ slot_of (101 ∷ []) ∷ [])
+names_003 = joined (slot_of (122 ∷ []) ∷ slot_of (99 ∷ []) ∷ slot_of (112 ∷ []) ∷ slot_of (114 ∷ 48 ∷ []) ∷
+    slot_of (117 ∷ 48 ∷ []) ∷ slot_of (118 ∷ 48 ∷ []) ∷ slot_of (114 ∷ 49 ∷ []) ∷ slot_of (117 ∷ 49 ∷ []) ∷
+    slot_of (118 ∷ 49 ∷ []) ∷ slot_of (114 ∷ 50 ∷ []) ∷ slot_of (117 ∷ 50 ∷ []) ∷ slot_of (118 ∷ 50 ∷ []) ∷
+    slot_of (101 ∷ []) ∷ [])
 
 example_003 : alike (played numbers_003 names_003 (starts 200 ∷ posts (101 ∷ []) ∷ runs 1 200 ∷ [])) ((0 ∷ []) ∷ (0 ∷
     0 ∷ []) ∷ (196609 ∷ []) ∷ (1 ∷ []) ∷ [] ∷ [] ∷ [] ∷ (1 ∷ []) ∷ (0 ∷ []) ∷ (0 ∷ 0 ∷ []) ∷ [] ∷ (1 ∷ []) ∷ [] ∷ [] ∷
@@ -91,9 +92,9 @@ numbers_004 = 13 ∷ 3 ∷ 5 ∷ 3 ∷ 1 ∷ 15 ∷ 0 ∷ 65535 ∷ 65535 ∷ 0 
 
 abbrev names_004 : List ℕ
 names_004 = joined (slot_of (122 ∷ []) ∷ slot_of (112 ∷ []) ∷ slot_of (114 ∷ 48 ∷ []) ∷ slot_of (117 ∷ 48 ∷ []) ∷
-    slot_of (118 ∷ 48 ∷ []) ∷ slot_of (114 ∷ 49 ∷ []) ∷ slot_of (117 ∷ 49 ∷ []) ∷ slot_of (118 ∷ 49 ∷ []) ∷ slot_of (114 ∷
-    50 ∷ []) ∷ slot_of (117 ∷ 50 ∷ []) ∷ slot_of (118 ∷ 50 ∷ []) ∷ slot_of (104 ∷ []) ∷ slot_of (101 ∷ []) ∷ slot_of (102 ∷
-    []) ∷ slot_of (103 ∷ []) ∷ [])
+    slot_of (118 ∷ 48 ∷ []) ∷ slot_of (114 ∷ 49 ∷ []) ∷ slot_of (117 ∷ 49 ∷ []) ∷ slot_of (118 ∷ 49 ∷ []) ∷
+    slot_of (114 ∷ 50 ∷ []) ∷ slot_of (117 ∷ 50 ∷ []) ∷ slot_of (118 ∷ 50 ∷ []) ∷ slot_of (104 ∷ []) ∷ slot_of (101 ∷
+    []) ∷ slot_of (102 ∷ []) ∷ slot_of (103 ∷ []) ∷ [])
 
 example_004 : alike (played numbers_004 names_004 (starts 200 ∷ posts (101 ∷ []) ∷ runs 1 200 ∷ posts (103 ∷ []) ∷
     posts (102 ∷ []) ∷ runs 2 200 ∷ posts (101 ∷ []) ∷ runs 1 200 ∷ [])) ((0 ∷ []) ∷ (0 ∷ 0 ∷ []) ∷ (196609 ∷ []) ∷
@@ -121,8 +122,8 @@ numbers_005 = 12 ∷ 1 ∷ 3 ∷ 1 ∷ 0 ∷ 12 ∷ 0 ∷ 65535 ∷ 65535 ∷ 0 
 
 abbrev names_005 : List ℕ
 names_005 = joined (slot_of (122 ∷ []) ∷ slot_of (112 ∷ []) ∷ slot_of (114 ∷ 48 ∷ []) ∷ slot_of (117 ∷ 48 ∷ []) ∷
-    slot_of (118 ∷ 48 ∷ []) ∷ slot_of (114 ∷ 49 ∷ []) ∷ slot_of (117 ∷ 49 ∷ []) ∷ slot_of (118 ∷ 49 ∷ []) ∷ slot_of (114 ∷
-    50 ∷ []) ∷ slot_of (117 ∷ 50 ∷ []) ∷ slot_of (118 ∷ 50 ∷ []) ∷ slot_of (101 ∷ []) ∷ [])
+    slot_of (118 ∷ 48 ∷ []) ∷ slot_of (114 ∷ 49 ∷ []) ∷ slot_of (117 ∷ 49 ∷ []) ∷ slot_of (118 ∷ 49 ∷ []) ∷
+    slot_of (114 ∷ 50 ∷ []) ∷ slot_of (117 ∷ 50 ∷ []) ∷ slot_of (118 ∷ 50 ∷ []) ∷ slot_of (101 ∷ []) ∷ [])
 
 example_005 : alike (played numbers_005 names_005 (starts 200 ∷ posts (101 ∷ []) ∷ runs 1 200 ∷ [])) ((0 ∷ []) ∷ (0 ∷
     0 ∷ []) ∷ (196609 ∷ []) ∷ (1 ∷ []) ∷ [] ∷ [] ∷ [] ∷ (1 ∷ []) ∷ (0 ∷ []) ∷ (0 ∷ 0 ∷ []) ∷ [] ∷ (1 ∷ []) ∷ [] ∷ [] ∷
@@ -140,8 +141,8 @@ numbers_006 = 6 ∷ 3 ∷ 4 ∷ 3 ∷ 0 ∷ 8 ∷ 0 ∷ 65535 ∷ 65535 ∷ 0 �
     2 ∷ 1 ∷ 1 ∷ 65535 ∷ 0 ∷ 2 ∷ 1 ∷ 0 ∷ 0 ∷ 5 ∷ 2 ∷ 1 ∷ 65535 ∷ 0 ∷ 3 ∷ 1 ∷ 0 ∷ 0 ∷ 2 ∷ 5 ∷ 3 ∷ 4 ∷ 6 ∷ 5 ∷ 7 ∷ []
 
 abbrev names_006 : List ℕ
-names_006 = joined (slot_of (97 ∷ []) ∷ slot_of (120 ∷ []) ∷ slot_of (121 ∷ []) ∷ slot_of (104 ∷ []) ∷ slot_of (111 ∷ []) ∷
-    slot_of (101 ∷ []) ∷ slot_of (102 ∷ []) ∷ slot_of (103 ∷ []) ∷ [])
+names_006 = joined (slot_of (97 ∷ []) ∷ slot_of (120 ∷ []) ∷ slot_of (121 ∷ []) ∷ slot_of (104 ∷ []) ∷ slot_of (111 ∷
+    []) ∷ slot_of (101 ∷ []) ∷ slot_of (102 ∷ []) ∷ slot_of (103 ∷ []) ∷ [])
 
 example_006 : alike (played numbers_006 names_006 (starts 200 ∷ posts (101 ∷ []) ∷ posts (102 ∷ []) ∷ runs 2 200 ∷
     starts 200 ∷ posts (101 ∷ []) ∷ posts (102 ∷ []) ∷ runs 2 200 ∷ starts 0 ∷ [])) ((0 ∷ []) ∷ (0 ∷ 0 ∷ []) ∷
@@ -165,7 +166,8 @@ numbers_007 = 5 ∷ 2 ∷ 0 ∷ 2 ∷ 2 ∷ 5 ∷ 0 ∷ 65535 ∷ 65535 ∷ 0 �
     4 ∷ 1 ∷ 1 ∷ 0 ∷ 0 ∷ 1 ∷ 2 ∷ 0 ∷ 0 ∷ []
 
 abbrev names_007 : List ℕ
-names_007 = joined (slot_of (112 ∷ []) ∷ slot_of (97 ∷ []) ∷ slot_of (98 ∷ []) ∷ slot_of (99 ∷ []) ∷ slot_of (101 ∷ []) ∷ [])
+names_007 = joined (slot_of (112 ∷ []) ∷ slot_of (97 ∷ []) ∷ slot_of (98 ∷ []) ∷ slot_of (99 ∷ []) ∷ slot_of (101 ∷
+    []) ∷ [])
 
 example_007 : alike (played numbers_007 names_007 (starts 200 ∷ posts (101 ∷ []) ∷ runs 1 200 ∷ [])) ((0 ∷ []) ∷ (0 ∷
     0 ∷ []) ∷ (196609 ∷ 196610 ∷ 196611 ∷ 196612 ∷ []) ∷ (1 ∷ 2 ∷ 3 ∷ 4 ∷ []) ∷ [] ∷ [] ∷ [] ∷ (1 ∷ []) ∷ (0 ∷ []) ∷
@@ -288,8 +290,8 @@ numbers_010 = 3 ∷ 1 ∷ 1 ∷ 1 ∷ 1 ∷ 3 ∷ 0 ∷ 65535 ∷ 65535 ∷ 0 �
     0 ∷ 0 ∷ []
 
 abbrev names_010 : List ℕ
-names_010 = joined (slot_of (120 ∷ []) ∷ slot_of (122 ∷ []) ∷ slot_of (100 ∷ 111 ∷ 110 ∷ 101 ∷ 46 ∷ 115 ∷ 116 ∷ 97 ∷ 116 ∷
-    101 ∷ 46 ∷ 120 ∷ []) ∷ [])
+names_010 = joined (slot_of (120 ∷ []) ∷ slot_of (122 ∷ []) ∷ slot_of (100 ∷ 111 ∷ 110 ∷ 101 ∷ 46 ∷ 115 ∷ 116 ∷ 97 ∷
+    116 ∷ 101 ∷ 46 ∷ 120 ∷ []) ∷ [])
 
 example_010 : alike (played numbers_010 names_010 (starts 200 ∷ runs 2 200 ∷ [])) ((0 ∷ []) ∷ (0 ∷ 0 ∷ []) ∷ (196609 ∷
     327682 ∷ []) ∷ (1 ∷ []) ∷ [] ∷ (12 ∷ 100 ∷ 111 ∷ 110 ∷ 101 ∷ 46 ∷ 115 ∷ 116 ∷ 97 ∷ 116 ∷ 101 ∷ 46 ∷ 120 ∷ []) ∷
@@ -325,10 +327,10 @@ numbers_012 = 2 ∷ 1 ∷ 0 ∷ 1 ∷ 1 ∷ 2 ∷ 0 ∷ 65535 ∷ 65535 ∷ 0 �
     0 ∷ 0 ∷ 0 ∷ 0 ∷ 1 ∷ 0 ∷ 1 ∷ 65535 ∷ 0 ∷ 0 ∷ 0 ∷ 0 ∷ 1 ∷ 1 ∷ 1 ∷ 1 ∷ 0 ∷ 0 ∷ []
 
 abbrev names_012 : List ℕ
-names_012 = joined (slot_of (115 ∷ []) ∷ slot_of (100 ∷ 100 ∷ 100 ∷ 100 ∷ 100 ∷ 100 ∷ 100 ∷ 100 ∷ 100 ∷ 100 ∷ 100 ∷ 100 ∷
+names_012 = joined (slot_of (115 ∷ []) ∷ slot_of (100 ∷ 100 ∷ 100 ∷ 100 ∷ 100 ∷ 100 ∷ 100 ∷ 100 ∷ 100 ∷ 100 ∷ 100 ∷
     100 ∷ 100 ∷ 100 ∷ 100 ∷ 100 ∷ 100 ∷ 100 ∷ 100 ∷ 100 ∷ 100 ∷ 100 ∷ 100 ∷ 100 ∷ 100 ∷ 100 ∷ 100 ∷ 100 ∷ 100 ∷ 100 ∷
     100 ∷ 100 ∷ 100 ∷ 100 ∷ 100 ∷ 100 ∷ 100 ∷ 100 ∷ 100 ∷ 100 ∷ 100 ∷ 100 ∷ 100 ∷ 100 ∷ 100 ∷ 100 ∷ 100 ∷ 100 ∷ 100 ∷
-    100 ∷ 100 ∷ 100 ∷ 100 ∷ 100 ∷ 100 ∷ 100 ∷ 100 ∷ 100 ∷ 100 ∷ 100 ∷ 46 ∷ 42 ∷ []) ∷ [])
+    100 ∷ 100 ∷ 100 ∷ 100 ∷ 100 ∷ 100 ∷ 100 ∷ 100 ∷ 100 ∷ 100 ∷ 100 ∷ 100 ∷ 46 ∷ 42 ∷ []) ∷ [])
 
 example_012 : alike (played numbers_012 names_012 (starts 200 ∷ posts (100 ∷ 100 ∷ 100 ∷ 100 ∷ 100 ∷ 100 ∷ 100 ∷ 100 ∷
     100 ∷ 100 ∷ 100 ∷ 100 ∷ 100 ∷ 100 ∷ 100 ∷ 100 ∷ 100 ∷ 100 ∷ 100 ∷ 100 ∷ 100 ∷ 100 ∷ 100 ∷ 100 ∷ 100 ∷ 100 ∷ 100 ∷
@@ -393,8 +395,8 @@ numbers_014 = 7 ∷ 3 ∷ 4 ∷ 3 ∷ 0 ∷ 9 ∷ 0 ∷ 65535 ∷ 65535 ∷ 0 �
     0 ∷ 0 ∷ 5 ∷ 6 ∷ 4 ∷ 5 ∷ 6 ∷ 7 ∷ 8 ∷ []
 
 abbrev names_014 : List ℕ
-names_014 = joined (slot_of (115 ∷ []) ∷ slot_of (98 ∷ []) ∷ slot_of (98 ∷ 49 ∷ []) ∷ slot_of (98 ∷ 50 ∷ []) ∷ slot_of (99 ∷
-    []) ∷ slot_of (104 ∷ []) ∷ slot_of (101 ∷ []) ∷ slot_of (103 ∷ []) ∷ slot_of (107 ∷ []) ∷ [])
+names_014 = joined (slot_of (115 ∷ []) ∷ slot_of (98 ∷ []) ∷ slot_of (98 ∷ 49 ∷ []) ∷ slot_of (98 ∷ 50 ∷ []) ∷
+    slot_of (99 ∷ []) ∷ slot_of (104 ∷ []) ∷ slot_of (101 ∷ []) ∷ slot_of (103 ∷ []) ∷ slot_of (107 ∷ []) ∷ [])
 
 example_014 : alike (played numbers_014 names_014 (starts 200 ∷ posts (103 ∷ []) ∷ runs 1 200 ∷ posts (101 ∷ []) ∷
     runs 1 200 ∷ posts (107 ∷ []) ∷ runs 1 200 ∷ posts (101 ∷ []) ∷ runs 1 200 ∷ [])) ((0 ∷ []) ∷ (0 ∷ 0 ∷ []) ∷
@@ -421,9 +423,9 @@ numbers_015 = 12 ∷ 2 ∷ 5 ∷ 2 ∷ 2 ∷ 13 ∷ 0 ∷ 65535 ∷ 65535 ∷ 0 
     0 ∷ 0 ∷ 1 ∷ 2 ∷ 0 ∷ 0 ∷ []
 
 abbrev names_015 : List ℕ
-names_015 = joined (slot_of (112 ∷ []) ∷ slot_of (97 ∷ []) ∷ slot_of (120 ∷ []) ∷ slot_of (121 ∷ []) ∷ slot_of (104 ∷ 97 ∷
-    []) ∷ slot_of (99 ∷ []) ∷ slot_of (117 ∷ []) ∷ slot_of (100 ∷ []) ∷ slot_of (100 ∷ 49 ∷ []) ∷ slot_of (100 ∷ 50 ∷ []) ∷
-    slot_of (104 ∷ 100 ∷ []) ∷ slot_of (101 ∷ []) ∷ slot_of (103 ∷ []) ∷ [])
+names_015 = joined (slot_of (112 ∷ []) ∷ slot_of (97 ∷ []) ∷ slot_of (120 ∷ []) ∷ slot_of (121 ∷ []) ∷ slot_of (104 ∷
+    97 ∷ []) ∷ slot_of (99 ∷ []) ∷ slot_of (117 ∷ []) ∷ slot_of (100 ∷ []) ∷ slot_of (100 ∷ 49 ∷ []) ∷ slot_of (100 ∷
+    50 ∷ []) ∷ slot_of (104 ∷ 100 ∷ []) ∷ slot_of (101 ∷ []) ∷ slot_of (103 ∷ []) ∷ [])
 
 example_015 : alike (played numbers_015 names_015 (starts 200 ∷ posts (103 ∷ []) ∷ runs 1 200 ∷ posts (101 ∷ []) ∷
     runs 1 200 ∷ posts (101 ∷ []) ∷ runs 1 200 ∷ [])) ((0 ∷ []) ∷ (0 ∷ 0 ∷ []) ∷ (196609 ∷ 196610 ∷ 196611 ∷ 196614 ∷
@@ -448,8 +450,8 @@ numbers_016 = 9 ∷ 1 ∷ 1 ∷ 1 ∷ 0 ∷ 9 ∷ 0 ∷ 65535 ∷ 65535 ∷ 0 �
     0 ∷ 1 ∷ 0 ∷ 0 ∷ 6 ∷ 8 ∷ []
 
 abbrev names_016 : List ℕ
-names_016 = joined (slot_of (115 ∷ []) ∷ slot_of (103 ∷ []) ∷ slot_of (112 ∷ []) ∷ slot_of (97 ∷ []) ∷ slot_of (97 ∷ 49 ∷
-    []) ∷ slot_of (97 ∷ 50 ∷ []) ∷ slot_of (98 ∷ []) ∷ slot_of (99 ∷ []) ∷ slot_of (101 ∷ []) ∷ [])
+names_016 = joined (slot_of (115 ∷ []) ∷ slot_of (103 ∷ []) ∷ slot_of (112 ∷ []) ∷ slot_of (97 ∷ []) ∷ slot_of (97 ∷
+    49 ∷ []) ∷ slot_of (97 ∷ 50 ∷ []) ∷ slot_of (98 ∷ []) ∷ slot_of (99 ∷ []) ∷ slot_of (101 ∷ []) ∷ [])
 
 example_016 : alike (played numbers_016 names_016 (starts 200 ∷ posts (101 ∷ []) ∷ runs 1 200 ∷ [])) ((0 ∷ []) ∷ (0 ∷
     0 ∷ []) ∷ (196609 ∷ 196610 ∷ 196611 ∷ 196612 ∷ 196613 ∷ 196615 ∷ 196616 ∷ []) ∷ (1 ∷ 2 ∷ 3 ∷ 4 ∷ 5 ∷ 7 ∷ 8 ∷ []) ∷

@@ -21,8 +21,8 @@ numbers_001 = 11 ∷ 1 ∷ 4 ∷ 1 ∷ 0 ∷ 11 ∷ 0 ∷ 65535 ∷ 65535 ∷ 0 
 
 abbrev names_001 : List ℕ
 names_001 = joined (slot_of (122 ∷ []) ∷ slot_of (112 ∷ []) ∷ slot_of (114 ∷ 48 ∷ []) ∷ slot_of (117 ∷ 48 ∷ []) ∷
-    slot_of (118 ∷ 48 ∷ []) ∷ slot_of (114 ∷ 49 ∷ []) ∷ slot_of (117 ∷ 49 ∷ []) ∷ slot_of (118 ∷ 49 ∷ []) ∷ slot_of (104 ∷
-    []) ∷ slot_of (107 ∷ []) ∷ slot_of (101 ∷ []) ∷ [])
+    slot_of (118 ∷ 48 ∷ []) ∷ slot_of (114 ∷ 49 ∷ []) ∷ slot_of (117 ∷ 49 ∷ []) ∷ slot_of (118 ∷ 49 ∷ []) ∷
+    slot_of (104 ∷ []) ∷ slot_of (107 ∷ []) ∷ slot_of (101 ∷ []) ∷ [])
 
 example_001 : alike (played numbers_001 names_001 []) ((4 ∷ []) ∷ []) ≡ true
 unfolding everything joined history_shown queue_shown pending_shown shown played_if played alike
@@ -39,8 +39,8 @@ numbers_002 = 11 ∷ 1 ∷ 4 ∷ 1 ∷ 0 ∷ 11 ∷ 0 ∷ 65535 ∷ 65535 ∷ 0 
 
 abbrev names_002 : List ℕ
 names_002 = joined (slot_of (122 ∷ []) ∷ slot_of (112 ∷ []) ∷ slot_of (114 ∷ 48 ∷ []) ∷ slot_of (117 ∷ 48 ∷ []) ∷
-    slot_of (118 ∷ 48 ∷ []) ∷ slot_of (114 ∷ 49 ∷ []) ∷ slot_of (117 ∷ 49 ∷ []) ∷ slot_of (118 ∷ 49 ∷ []) ∷ slot_of (104 ∷
-    []) ∷ slot_of (107 ∷ []) ∷ slot_of (101 ∷ []) ∷ [])
+    slot_of (118 ∷ 48 ∷ []) ∷ slot_of (114 ∷ 49 ∷ []) ∷ slot_of (117 ∷ 49 ∷ []) ∷ slot_of (118 ∷ 49 ∷ []) ∷
+    slot_of (104 ∷ []) ∷ slot_of (107 ∷ []) ∷ slot_of (101 ∷ []) ∷ [])
 
 example_002 : alike (played numbers_002 names_002 []) ((4 ∷ []) ∷ []) ≡ true
 unfolding everything joined history_shown queue_shown pending_shown shown played_if played alike
@@ -57,8 +57,8 @@ numbers_003 = 11 ∷ 1 ∷ 4 ∷ 1 ∷ 0 ∷ 11 ∷ 0 ∷ 65535 ∷ 65535 ∷ 0 
 
 abbrev names_003 : List ℕ
 names_003 = joined (slot_of (122 ∷ []) ∷ slot_of (112 ∷ []) ∷ slot_of (114 ∷ 48 ∷ []) ∷ slot_of (117 ∷ 48 ∷ []) ∷
-    slot_of (118 ∷ 48 ∷ []) ∷ slot_of (114 ∷ 49 ∷ []) ∷ slot_of (117 ∷ 49 ∷ []) ∷ slot_of (118 ∷ 49 ∷ []) ∷ slot_of (104 ∷
-    []) ∷ slot_of (107 ∷ []) ∷ slot_of (101 ∷ []) ∷ [])
+    slot_of (118 ∷ 48 ∷ []) ∷ slot_of (114 ∷ 49 ∷ []) ∷ slot_of (117 ∷ 49 ∷ []) ∷ slot_of (118 ∷ 49 ∷ []) ∷
+    slot_of (104 ∷ []) ∷ slot_of (107 ∷ []) ∷ slot_of (101 ∷ []) ∷ [])
 
 example_003 : alike (played numbers_003 names_003 []) ((4 ∷ []) ∷ []) ≡ true
 unfolding everything joined history_shown queue_shown pending_shown shown played_if played alike
@@ -75,8 +75,8 @@ numbers_004 = 11 ∷ 1 ∷ 4 ∷ 1 ∷ 0 ∷ 11 ∷ 0 ∷ 65535 ∷ 65535 ∷ 0 
 
 abbrev names_004 : List ℕ
 names_004 = joined (slot_of (122 ∷ []) ∷ slot_of (112 ∷ []) ∷ slot_of (114 ∷ 48 ∷ []) ∷ slot_of (117 ∷ 48 ∷ []) ∷
-    slot_of (118 ∷ 48 ∷ []) ∷ slot_of (114 ∷ 49 ∷ []) ∷ slot_of (117 ∷ 49 ∷ []) ∷ slot_of (118 ∷ 49 ∷ []) ∷ slot_of (104 ∷
-    []) ∷ slot_of (107 ∷ []) ∷ slot_of (101 ∷ []) ∷ [])
+    slot_of (118 ∷ 48 ∷ []) ∷ slot_of (114 ∷ 49 ∷ []) ∷ slot_of (117 ∷ 49 ∷ []) ∷ slot_of (118 ∷ 49 ∷ []) ∷
+    slot_of (104 ∷ []) ∷ slot_of (107 ∷ []) ∷ slot_of (101 ∷ []) ∷ [])
 
 example_004 : alike (played numbers_004 names_004 []) ((4 ∷ []) ∷ []) ≡ true
 unfolding everything joined history_shown queue_shown pending_shown shown played_if played alike
@@ -93,8 +93,8 @@ numbers_005 = 11 ∷ 1 ∷ 4 ∷ 1 ∷ 0 ∷ 11 ∷ 0 ∷ 65535 ∷ 65535 ∷ 0 
 
 abbrev names_005 : List ℕ
 names_005 = joined (slot_of (122 ∷ []) ∷ slot_of (112 ∷ []) ∷ slot_of (114 ∷ 48 ∷ []) ∷ slot_of (117 ∷ 48 ∷ []) ∷
-    slot_of (118 ∷ 48 ∷ []) ∷ slot_of (114 ∷ 49 ∷ []) ∷ slot_of (117 ∷ 49 ∷ []) ∷ slot_of (118 ∷ 49 ∷ []) ∷ slot_of (104 ∷
-    []) ∷ slot_of (107 ∷ []) ∷ slot_of (101 ∷ []) ∷ [])
+    slot_of (118 ∷ 48 ∷ []) ∷ slot_of (114 ∷ 49 ∷ []) ∷ slot_of (117 ∷ 49 ∷ []) ∷ slot_of (118 ∷ 49 ∷ []) ∷
+    slot_of (104 ∷ []) ∷ slot_of (107 ∷ []) ∷ slot_of (101 ∷ []) ∷ [])
 
 example_005 : alike (played numbers_005 names_005 []) ((4 ∷ []) ∷ []) ≡ true
 unfolding everything joined history_shown queue_shown pending_shown shown played_if played alike
@@ -111,8 +111,8 @@ numbers_006 = 11 ∷ 1 ∷ 4 ∷ 1 ∷ 0 ∷ 11 ∷ 0 ∷ 65535 ∷ 65535 ∷ 0 
 
 abbrev names_006 : List ℕ
 names_006 = joined (slot_of (122 ∷ []) ∷ slot_of (112 ∷ []) ∷ slot_of (114 ∷ 48 ∷ []) ∷ slot_of (117 ∷ 48 ∷ []) ∷
-    slot_of (118 ∷ 48 ∷ []) ∷ slot_of (114 ∷ 49 ∷ []) ∷ slot_of (117 ∷ 49 ∷ []) ∷ slot_of (118 ∷ 49 ∷ []) ∷ slot_of (104 ∷
-    []) ∷ slot_of (107 ∷ []) ∷ slot_of (101 ∷ []) ∷ [])
+    slot_of (118 ∷ 48 ∷ []) ∷ slot_of (114 ∷ 49 ∷ []) ∷ slot_of (117 ∷ 49 ∷ []) ∷ slot_of (118 ∷ 49 ∷ []) ∷
+    slot_of (104 ∷ []) ∷ slot_of (107 ∷ []) ∷ slot_of (101 ∷ []) ∷ [])
 
 example_006 : alike (played numbers_006 names_006 []) ((4 ∷ []) ∷ []) ≡ true
 unfolding everything joined history_shown queue_shown pending_shown shown played_if played alike
@@ -129,8 +129,8 @@ numbers_007 = 11 ∷ 1 ∷ 5 ∷ 1 ∷ 0 ∷ 11 ∷ 0 ∷ 65535 ∷ 65535 ∷ 0 
 
 abbrev names_007 : List ℕ
 names_007 = joined (slot_of (122 ∷ []) ∷ slot_of (112 ∷ []) ∷ slot_of (114 ∷ 48 ∷ []) ∷ slot_of (117 ∷ 48 ∷ []) ∷
-    slot_of (118 ∷ 48 ∷ []) ∷ slot_of (114 ∷ 49 ∷ []) ∷ slot_of (117 ∷ 49 ∷ []) ∷ slot_of (118 ∷ 49 ∷ []) ∷ slot_of (104 ∷
-    []) ∷ slot_of (107 ∷ []) ∷ slot_of (101 ∷ []) ∷ [])
+    slot_of (118 ∷ 48 ∷ []) ∷ slot_of (114 ∷ 49 ∷ []) ∷ slot_of (117 ∷ 49 ∷ []) ∷ slot_of (118 ∷ 49 ∷ []) ∷
+    slot_of (104 ∷ []) ∷ slot_of (107 ∷ []) ∷ slot_of (101 ∷ []) ∷ [])
 
 example_007 : alike (played numbers_007 names_007 []) ((4 ∷ []) ∷ []) ≡ true
 unfolding everything joined history_shown queue_shown pending_shown shown played_if played alike
@@ -147,8 +147,8 @@ numbers_008 = 11 ∷ 1 ∷ 5 ∷ 1 ∷ 0 ∷ 11 ∷ 0 ∷ 65535 ∷ 65535 ∷ 0 
 
 abbrev names_008 : List ℕ
 names_008 = joined (slot_of (122 ∷ []) ∷ slot_of (112 ∷ []) ∷ slot_of (114 ∷ 48 ∷ []) ∷ slot_of (117 ∷ 48 ∷ []) ∷
-    slot_of (118 ∷ 48 ∷ []) ∷ slot_of (114 ∷ 49 ∷ []) ∷ slot_of (117 ∷ 49 ∷ []) ∷ slot_of (118 ∷ 49 ∷ []) ∷ slot_of (104 ∷
-    []) ∷ slot_of (107 ∷ []) ∷ slot_of (101 ∷ []) ∷ [])
+    slot_of (118 ∷ 48 ∷ []) ∷ slot_of (114 ∷ 49 ∷ []) ∷ slot_of (117 ∷ 49 ∷ []) ∷ slot_of (118 ∷ 49 ∷ []) ∷
+    slot_of (104 ∷ []) ∷ slot_of (107 ∷ []) ∷ slot_of (101 ∷ []) ∷ [])
 
 example_008 : alike (played numbers_008 names_008 []) ((4 ∷ []) ∷ []) ≡ true
 unfolding everything joined history_shown queue_shown pending_shown shown played_if played alike
@@ -182,10 +182,10 @@ numbers_010 = 4 ∷ 1 ∷ 1 ∷ 1 ∷ 33 ∷ 5 ∷ 0 ∷ 65535 ∷ 65535 ∷ 0 �
     0 ∷ 0 ∷ 1 ∷ 1 ∷ 0 ∷ 0 ∷ 1 ∷ 1 ∷ 0 ∷ 0 ∷ 1 ∷ 1 ∷ 0 ∷ 0 ∷ 1 ∷ 1 ∷ 0 ∷ 0 ∷ 1 ∷ 1 ∷ 0 ∷ 0 ∷ 1 ∷ 1 ∷ 0 ∷ 0 ∷ []
 
 abbrev names_010 : List ℕ
-names_010 = joined (slot_of (115 ∷ []) ∷ slot_of (97 ∷ []) ∷ slot_of (98 ∷ []) ∷ slot_of (101 ∷ []) ∷ (97 ∷ 32 ∷ 98 ∷ 0 ∷
+names_010 = joined (slot_of (115 ∷ []) ∷ slot_of (97 ∷ []) ∷ slot_of (98 ∷ []) ∷ slot_of (101 ∷ []) ∷ (97 ∷ 32 ∷ 98 ∷
     0 ∷ 0 ∷ 0 ∷ 0 ∷ 0 ∷ 0 ∷ 0 ∷ 0 ∷ 0 ∷ 0 ∷ 0 ∷ 0 ∷ 0 ∷ 0 ∷ 0 ∷ 0 ∷ 0 ∷ 0 ∷ 0 ∷ 0 ∷ 0 ∷ 0 ∷ 0 ∷ 0 ∷ 0 ∷ 0 ∷ 0 ∷ 0 ∷ 0 ∷
     0 ∷ 0 ∷ 0 ∷ 0 ∷ 0 ∷ 0 ∷ 0 ∷ 0 ∷ 0 ∷ 0 ∷ 0 ∷ 0 ∷ 0 ∷ 0 ∷ 0 ∷ 0 ∷ 0 ∷ 0 ∷ 0 ∷ 0 ∷ 0 ∷ 0 ∷ 0 ∷ 0 ∷ 0 ∷ 0 ∷ 0 ∷ 0 ∷ 0 ∷
-    0 ∷ 0 ∷ []) ∷ [])
+    0 ∷ 0 ∷ 0 ∷ []) ∷ [])
 
 example_010 : alike (played numbers_010 names_010 []) ((1 ∷ []) ∷ []) ≡ true
 unfolding everything joined history_shown queue_shown pending_shown shown played_if played alike
@@ -203,8 +203,8 @@ numbers_011 = 5 ∷ 1 ∷ 2 ∷ 1 ∷ 33 ∷ 5 ∷ 0 ∷ 65535 ∷ 65535 ∷ 0 �
     0 ∷ 1 ∷ 1 ∷ 0 ∷ 0 ∷ 1 ∷ 1 ∷ 0 ∷ 0 ∷ []
 
 abbrev names_011 : List ℕ
-names_011 = joined (slot_of (115 ∷ []) ∷ slot_of (97 ∷ []) ∷ slot_of (98 ∷ []) ∷ slot_of (101 ∷ []) ∷ slot_of (104 ∷ []) ∷
-    [])
+names_011 = joined (slot_of (115 ∷ []) ∷ slot_of (97 ∷ []) ∷ slot_of (98 ∷ []) ∷ slot_of (101 ∷ []) ∷ slot_of (104 ∷
+    []) ∷ [])
 
 example_011 : alike (played numbers_011 names_011 []) ((1 ∷ []) ∷ []) ≡ true
 unfolding everything joined history_shown queue_shown pending_shown shown played_if played alike
@@ -251,10 +251,10 @@ numbers_014 = 4 ∷ 1 ∷ 1 ∷ 1 ∷ 0 ∷ 5 ∷ 0 ∷ 65535 ∷ 65535 ∷ 0 �
     65535 ∷ 0 ∷ 0 ∷ 1 ∷ 0 ∷ 0 ∷ 3 ∷ 3 ∷ []
 
 abbrev names_014 : List ℕ
-names_014 = joined (slot_of (115 ∷ []) ∷ slot_of (97 ∷ []) ∷ slot_of (98 ∷ []) ∷ slot_of (101 ∷ []) ∷ (97 ∷ 32 ∷ 98 ∷ 0 ∷
+names_014 = joined (slot_of (115 ∷ []) ∷ slot_of (97 ∷ []) ∷ slot_of (98 ∷ []) ∷ slot_of (101 ∷ []) ∷ (97 ∷ 32 ∷ 98 ∷
     0 ∷ 0 ∷ 0 ∷ 0 ∷ 0 ∷ 0 ∷ 0 ∷ 0 ∷ 0 ∷ 0 ∷ 0 ∷ 0 ∷ 0 ∷ 0 ∷ 0 ∷ 0 ∷ 0 ∷ 0 ∷ 0 ∷ 0 ∷ 0 ∷ 0 ∷ 0 ∷ 0 ∷ 0 ∷ 0 ∷ 0 ∷ 0 ∷ 0 ∷
     0 ∷ 0 ∷ 0 ∷ 0 ∷ 0 ∷ 0 ∷ 0 ∷ 0 ∷ 0 ∷ 0 ∷ 0 ∷ 0 ∷ 0 ∷ 0 ∷ 0 ∷ 0 ∷ 0 ∷ 0 ∷ 0 ∷ 0 ∷ 0 ∷ 0 ∷ 0 ∷ 0 ∷ 0 ∷ 0 ∷ 0 ∷ 0 ∷ 0 ∷
-    0 ∷ 0 ∷ []) ∷ [])
+    0 ∷ 0 ∷ 0 ∷ []) ∷ [])
 
 example_014 : alike (played numbers_014 names_014 []) ((2 ∷ []) ∷ []) ≡ true
 unfolding everything joined history_shown queue_shown pending_shown shown played_if played alike
@@ -267,10 +267,10 @@ numbers_015 = 5 ∷ 1 ∷ 2 ∷ 1 ∷ 0 ∷ 6 ∷ 0 ∷ 65535 ∷ 65535 ∷ 0 �
     0 ∷ 0 ∷ 0 ∷ 0 ∷ 0 ∷ 1 ∷ 0 ∷ 0 ∷ 2 ∷ 0 ∷ 1 ∷ 65535 ∷ 0 ∷ 1 ∷ 1 ∷ 0 ∷ 0 ∷ 1 ∷ 3 ∷ 3 ∷ []
 
 abbrev names_015 : List ℕ
-names_015 = joined (slot_of (115 ∷ []) ∷ slot_of (97 ∷ []) ∷ slot_of (98 ∷ []) ∷ slot_of (101 ∷ []) ∷ (97 ∷ 32 ∷ 98 ∷ 0 ∷
+names_015 = joined (slot_of (115 ∷ []) ∷ slot_of (97 ∷ []) ∷ slot_of (98 ∷ []) ∷ slot_of (101 ∷ []) ∷ (97 ∷ 32 ∷ 98 ∷
     0 ∷ 0 ∷ 0 ∷ 0 ∷ 0 ∷ 0 ∷ 0 ∷ 0 ∷ 0 ∷ 0 ∷ 0 ∷ 0 ∷ 0 ∷ 0 ∷ 0 ∷ 0 ∷ 0 ∷ 0 ∷ 0 ∷ 0 ∷ 0 ∷ 0 ∷ 0 ∷ 0 ∷ 0 ∷ 0 ∷ 0 ∷ 0 ∷ 0 ∷
     0 ∷ 0 ∷ 0 ∷ 0 ∷ 0 ∷ 0 ∷ 0 ∷ 0 ∷ 0 ∷ 0 ∷ 0 ∷ 0 ∷ 0 ∷ 0 ∷ 0 ∷ 0 ∷ 0 ∷ 0 ∷ 0 ∷ 0 ∷ 0 ∷ 0 ∷ 0 ∷ 0 ∷ 0 ∷ 0 ∷ 0 ∷ 0 ∷ 0 ∷
-    0 ∷ 0 ∷ []) ∷ slot_of (104 ∷ []) ∷ [])
+    0 ∷ 0 ∷ 0 ∷ []) ∷ slot_of (104 ∷ []) ∷ [])
 
 example_015 : alike (played numbers_015 names_015 []) ((2 ∷ []) ∷ []) ≡ true
 unfolding everything joined history_shown queue_shown pending_shown shown played_if played alike
@@ -283,10 +283,10 @@ numbers_016 = 4 ∷ 1 ∷ 2 ∷ 1 ∷ 0 ∷ 5 ∷ 0 ∷ 65535 ∷ 65535 ∷ 0 �
     65535 ∷ 0 ∷ 1 ∷ 1 ∷ 0 ∷ 0 ∷ 1 ∷ 3 ∷ 3 ∷ []
 
 abbrev names_016 : List ℕ
-names_016 = joined (slot_of (115 ∷ []) ∷ slot_of (97 ∷ []) ∷ slot_of (98 ∷ []) ∷ slot_of (101 ∷ []) ∷ (97 ∷ 32 ∷ 98 ∷ 0 ∷
+names_016 = joined (slot_of (115 ∷ []) ∷ slot_of (97 ∷ []) ∷ slot_of (98 ∷ []) ∷ slot_of (101 ∷ []) ∷ (97 ∷ 32 ∷ 98 ∷
     0 ∷ 0 ∷ 0 ∷ 0 ∷ 0 ∷ 0 ∷ 0 ∷ 0 ∷ 0 ∷ 0 ∷ 0 ∷ 0 ∷ 0 ∷ 0 ∷ 0 ∷ 0 ∷ 0 ∷ 0 ∷ 0 ∷ 0 ∷ 0 ∷ 0 ∷ 0 ∷ 0 ∷ 0 ∷ 0 ∷ 0 ∷ 0 ∷ 0 ∷
     0 ∷ 0 ∷ 0 ∷ 0 ∷ 0 ∷ 0 ∷ 0 ∷ 0 ∷ 0 ∷ 0 ∷ 0 ∷ 0 ∷ 0 ∷ 0 ∷ 0 ∷ 0 ∷ 0 ∷ 0 ∷ 0 ∷ 0 ∷ 0 ∷ 0 ∷ 0 ∷ 0 ∷ 0 ∷ 0 ∷ 0 ∷ 0 ∷ 0 ∷
-    0 ∷ 0 ∷ []) ∷ [])
+    0 ∷ 0 ∷ 0 ∷ []) ∷ [])
 
 example_016 : alike (played numbers_016 names_016 []) ((2 ∷ []) ∷ []) ≡ true
 unfolding everything joined history_shown queue_shown pending_shown shown played_if played alike
@@ -299,10 +299,10 @@ numbers_017 = 4 ∷ 1 ∷ 0 ∷ 0 ∷ 0 ∷ 5 ∷ 0 ∷ 65535 ∷ 65535 ∷ 0 �
     65535 ∷ 0 ∷ 0 ∷ 0 ∷ 0 ∷ 0 ∷ []
 
 abbrev names_017 : List ℕ
-names_017 = joined (slot_of (115 ∷ []) ∷ slot_of (97 ∷ []) ∷ slot_of (98 ∷ []) ∷ slot_of (101 ∷ []) ∷ (97 ∷ 32 ∷ 98 ∷ 0 ∷
+names_017 = joined (slot_of (115 ∷ []) ∷ slot_of (97 ∷ []) ∷ slot_of (98 ∷ []) ∷ slot_of (101 ∷ []) ∷ (97 ∷ 32 ∷ 98 ∷
     0 ∷ 0 ∷ 0 ∷ 0 ∷ 0 ∷ 0 ∷ 0 ∷ 0 ∷ 0 ∷ 0 ∷ 0 ∷ 0 ∷ 0 ∷ 0 ∷ 0 ∷ 0 ∷ 0 ∷ 0 ∷ 0 ∷ 0 ∷ 0 ∷ 0 ∷ 0 ∷ 0 ∷ 0 ∷ 0 ∷ 0 ∷ 0 ∷ 0 ∷
     0 ∷ 0 ∷ 0 ∷ 0 ∷ 0 ∷ 0 ∷ 0 ∷ 0 ∷ 0 ∷ 0 ∷ 0 ∷ 0 ∷ 0 ∷ 0 ∷ 0 ∷ 0 ∷ 0 ∷ 0 ∷ 0 ∷ 0 ∷ 0 ∷ 0 ∷ 0 ∷ 0 ∷ 0 ∷ 0 ∷ 0 ∷ 0 ∷ 0 ∷
-    0 ∷ 0 ∷ []) ∷ [])
+    0 ∷ 0 ∷ 0 ∷ []) ∷ [])
 
 example_017 : alike (played numbers_017 names_017 []) ((2 ∷ []) ∷ []) ≡ true
 unfolding everything joined history_shown queue_shown pending_shown shown played_if played alike
@@ -315,8 +315,8 @@ numbers_018 = 5 ∷ 1 ∷ 2 ∷ 1 ∷ 0 ∷ 5 ∷ 0 ∷ 65535 ∷ 65535 ∷ 0 �
     0 ∷ 0 ∷ 0 ∷ 0 ∷ 0 ∷ 1 ∷ 0 ∷ 0 ∷ 2 ∷ 0 ∷ 1 ∷ 65535 ∷ 0 ∷ 1 ∷ 1 ∷ 0 ∷ 0 ∷ 1 ∷ 3 ∷ 3 ∷ []
 
 abbrev names_018 : List ℕ
-names_018 = joined (slot_of (115 ∷ []) ∷ slot_of (97 ∷ []) ∷ slot_of (98 ∷ []) ∷ slot_of (101 ∷ []) ∷ slot_of (104 ∷ []) ∷
-    [])
+names_018 = joined (slot_of (115 ∷ []) ∷ slot_of (97 ∷ []) ∷ slot_of (98 ∷ []) ∷ slot_of (101 ∷ []) ∷ slot_of (104 ∷
+    []) ∷ [])
 
 example_018 : alike (played numbers_018 names_018 []) ((3 ∷ []) ∷ []) ≡ true
 unfolding everything joined history_shown queue_shown pending_shown shown played_if played alike
@@ -329,8 +329,8 @@ numbers_019 = 5 ∷ 1 ∷ 3 ∷ 1 ∷ 0 ∷ 5 ∷ 0 ∷ 65535 ∷ 65535 ∷ 0 �
     0 ∷ 0 ∷ 0 ∷ 0 ∷ 1 ∷ 1 ∷ 0 ∷ 0 ∷ 2 ∷ 0 ∷ 1 ∷ 65535 ∷ 0 ∷ 2 ∷ 1 ∷ 0 ∷ 0 ∷ 1 ∷ 1 ∷ 3 ∷ 3 ∷ []
 
 abbrev names_019 : List ℕ
-names_019 = joined (slot_of (115 ∷ []) ∷ slot_of (97 ∷ []) ∷ slot_of (98 ∷ []) ∷ slot_of (101 ∷ []) ∷ slot_of (104 ∷ []) ∷
-    [])
+names_019 = joined (slot_of (115 ∷ []) ∷ slot_of (97 ∷ []) ∷ slot_of (98 ∷ []) ∷ slot_of (101 ∷ []) ∷ slot_of (104 ∷
+    []) ∷ [])
 
 example_019 : alike (played numbers_019 names_019 []) ((3 ∷ []) ∷ []) ≡ true
 unfolding everything joined history_shown queue_shown pending_shown shown played_if played alike
@@ -343,8 +343,8 @@ numbers_020 = 5 ∷ 1 ∷ 1 ∷ 0 ∷ 0 ∷ 5 ∷ 0 ∷ 65535 ∷ 65535 ∷ 0 �
     0 ∷ 0 ∷ 0 ∷ 0 ∷ 0 ∷ 1 ∷ 0 ∷ 0 ∷ 2 ∷ 0 ∷ 0 ∷ 65535 ∷ 0 ∷ 0 ∷ 0 ∷ 0 ∷ 0 ∷ 1 ∷ []
 
 abbrev names_020 : List ℕ
-names_020 = joined (slot_of (115 ∷ []) ∷ slot_of (97 ∷ []) ∷ slot_of (98 ∷ []) ∷ slot_of (101 ∷ []) ∷ slot_of (104 ∷ []) ∷
-    [])
+names_020 = joined (slot_of (115 ∷ []) ∷ slot_of (97 ∷ []) ∷ slot_of (98 ∷ []) ∷ slot_of (101 ∷ []) ∷ slot_of (104 ∷
+    []) ∷ [])
 
 example_020 : alike (played numbers_020 names_020 []) ((3 ∷ []) ∷ []) ≡ true
 unfolding everything joined history_shown queue_shown pending_shown shown played_if played alike
@@ -422,10 +422,10 @@ numbers_026 = 4 ∷ 1 ∷ 1 ∷ 1 ∷ 0 ∷ 5 ∷ 0 ∷ 65535 ∷ 65535 ∷ 0 �
     65535 ∷ 0 ∷ 0 ∷ 1 ∷ 0 ∷ 0 ∷ 3 ∷ 3 ∷ []
 
 abbrev names_026 : List ℕ
-names_026 = joined (slot_of (115 ∷ []) ∷ slot_of (97 ∷ []) ∷ slot_of (98 ∷ []) ∷ slot_of (101 ∷ []) ∷ (97 ∷ 64 ∷ 0 ∷ 0 ∷
+names_026 = joined (slot_of (115 ∷ []) ∷ slot_of (97 ∷ []) ∷ slot_of (98 ∷ []) ∷ slot_of (101 ∷ []) ∷ (97 ∷ 64 ∷ 0 ∷
     0 ∷ 0 ∷ 0 ∷ 0 ∷ 0 ∷ 0 ∷ 0 ∷ 0 ∷ 0 ∷ 0 ∷ 0 ∷ 0 ∷ 0 ∷ 0 ∷ 0 ∷ 0 ∷ 0 ∷ 0 ∷ 0 ∷ 0 ∷ 0 ∷ 0 ∷ 0 ∷ 0 ∷ 0 ∷ 0 ∷ 0 ∷ 0 ∷ 0 ∷
     0 ∷ 0 ∷ 0 ∷ 0 ∷ 0 ∷ 0 ∷ 0 ∷ 0 ∷ 0 ∷ 0 ∷ 0 ∷ 0 ∷ 0 ∷ 0 ∷ 0 ∷ 0 ∷ 0 ∷ 0 ∷ 0 ∷ 0 ∷ 0 ∷ 0 ∷ 0 ∷ 0 ∷ 0 ∷ 0 ∷ 0 ∷ 0 ∷ 0 ∷
-    0 ∷ 0 ∷ []) ∷ [])
+    0 ∷ 0 ∷ 0 ∷ []) ∷ [])
 
 example_026 : alike (played numbers_026 names_026 []) ((2 ∷ []) ∷ []) ≡ true
 unfolding everything joined history_shown queue_shown pending_shown shown played_if played alike
@@ -438,10 +438,10 @@ numbers_027 = 4 ∷ 1 ∷ 1 ∷ 1 ∷ 0 ∷ 5 ∷ 0 ∷ 65535 ∷ 65535 ∷ 0 �
     65535 ∷ 0 ∷ 0 ∷ 1 ∷ 0 ∷ 0 ∷ 3 ∷ 3 ∷ []
 
 abbrev names_027 : List ℕ
-names_027 = joined (slot_of (115 ∷ []) ∷ slot_of (97 ∷ []) ∷ slot_of (98 ∷ []) ∷ slot_of (101 ∷ []) ∷ (97 ∷ 91 ∷ 0 ∷ 0 ∷
+names_027 = joined (slot_of (115 ∷ []) ∷ slot_of (97 ∷ []) ∷ slot_of (98 ∷ []) ∷ slot_of (101 ∷ []) ∷ (97 ∷ 91 ∷ 0 ∷
     0 ∷ 0 ∷ 0 ∷ 0 ∷ 0 ∷ 0 ∷ 0 ∷ 0 ∷ 0 ∷ 0 ∷ 0 ∷ 0 ∷ 0 ∷ 0 ∷ 0 ∷ 0 ∷ 0 ∷ 0 ∷ 0 ∷ 0 ∷ 0 ∷ 0 ∷ 0 ∷ 0 ∷ 0 ∷ 0 ∷ 0 ∷ 0 ∷ 0 ∷
     0 ∷ 0 ∷ 0 ∷ 0 ∷ 0 ∷ 0 ∷ 0 ∷ 0 ∷ 0 ∷ 0 ∷ 0 ∷ 0 ∷ 0 ∷ 0 ∷ 0 ∷ 0 ∷ 0 ∷ 0 ∷ 0 ∷ 0 ∷ 0 ∷ 0 ∷ 0 ∷ 0 ∷ 0 ∷ 0 ∷ 0 ∷ 0 ∷ 0 ∷
-    0 ∷ 0 ∷ []) ∷ [])
+    0 ∷ 0 ∷ 0 ∷ []) ∷ [])
 
 example_027 : alike (played numbers_027 names_027 []) ((2 ∷ []) ∷ []) ≡ true
 unfolding everything joined history_shown queue_shown pending_shown shown played_if played alike
@@ -454,10 +454,10 @@ numbers_028 = 4 ∷ 1 ∷ 1 ∷ 1 ∷ 0 ∷ 5 ∷ 0 ∷ 65535 ∷ 65535 ∷ 0 �
     65535 ∷ 0 ∷ 0 ∷ 1 ∷ 0 ∷ 0 ∷ 3 ∷ 3 ∷ []
 
 abbrev names_028 : List ℕ
-names_028 = joined (slot_of (115 ∷ []) ∷ slot_of (97 ∷ []) ∷ slot_of (98 ∷ []) ∷ slot_of (101 ∷ []) ∷ (97 ∷ 94 ∷ 0 ∷ 0 ∷
+names_028 = joined (slot_of (115 ∷ []) ∷ slot_of (97 ∷ []) ∷ slot_of (98 ∷ []) ∷ slot_of (101 ∷ []) ∷ (97 ∷ 94 ∷ 0 ∷
     0 ∷ 0 ∷ 0 ∷ 0 ∷ 0 ∷ 0 ∷ 0 ∷ 0 ∷ 0 ∷ 0 ∷ 0 ∷ 0 ∷ 0 ∷ 0 ∷ 0 ∷ 0 ∷ 0 ∷ 0 ∷ 0 ∷ 0 ∷ 0 ∷ 0 ∷ 0 ∷ 0 ∷ 0 ∷ 0 ∷ 0 ∷ 0 ∷ 0 ∷
     0 ∷ 0 ∷ 0 ∷ 0 ∷ 0 ∷ 0 ∷ 0 ∷ 0 ∷ 0 ∷ 0 ∷ 0 ∷ 0 ∷ 0 ∷ 0 ∷ 0 ∷ 0 ∷ 0 ∷ 0 ∷ 0 ∷ 0 ∷ 0 ∷ 0 ∷ 0 ∷ 0 ∷ 0 ∷ 0 ∷ 0 ∷ 0 ∷ 0 ∷
-    0 ∷ 0 ∷ []) ∷ [])
+    0 ∷ 0 ∷ 0 ∷ []) ∷ [])
 
 example_028 : alike (played numbers_028 names_028 []) ((2 ∷ []) ∷ []) ≡ true
 unfolding everything joined history_shown queue_shown pending_shown shown played_if played alike
@@ -470,10 +470,10 @@ numbers_029 = 4 ∷ 1 ∷ 1 ∷ 1 ∷ 0 ∷ 5 ∷ 0 ∷ 65535 ∷ 65535 ∷ 0 �
     65535 ∷ 0 ∷ 0 ∷ 1 ∷ 0 ∷ 0 ∷ 3 ∷ 3 ∷ []
 
 abbrev names_029 : List ℕ
-names_029 = joined (slot_of (115 ∷ []) ∷ slot_of (97 ∷ []) ∷ slot_of (98 ∷ []) ∷ slot_of (101 ∷ []) ∷ (97 ∷ 96 ∷ 0 ∷ 0 ∷
+names_029 = joined (slot_of (115 ∷ []) ∷ slot_of (97 ∷ []) ∷ slot_of (98 ∷ []) ∷ slot_of (101 ∷ []) ∷ (97 ∷ 96 ∷ 0 ∷
     0 ∷ 0 ∷ 0 ∷ 0 ∷ 0 ∷ 0 ∷ 0 ∷ 0 ∷ 0 ∷ 0 ∷ 0 ∷ 0 ∷ 0 ∷ 0 ∷ 0 ∷ 0 ∷ 0 ∷ 0 ∷ 0 ∷ 0 ∷ 0 ∷ 0 ∷ 0 ∷ 0 ∷ 0 ∷ 0 ∷ 0 ∷ 0 ∷ 0 ∷
     0 ∷ 0 ∷ 0 ∷ 0 ∷ 0 ∷ 0 ∷ 0 ∷ 0 ∷ 0 ∷ 0 ∷ 0 ∷ 0 ∷ 0 ∷ 0 ∷ 0 ∷ 0 ∷ 0 ∷ 0 ∷ 0 ∷ 0 ∷ 0 ∷ 0 ∷ 0 ∷ 0 ∷ 0 ∷ 0 ∷ 0 ∷ 0 ∷ 0 ∷
-    0 ∷ 0 ∷ []) ∷ [])
+    0 ∷ 0 ∷ 0 ∷ []) ∷ [])
 
 example_029 : alike (played numbers_029 names_029 []) ((2 ∷ []) ∷ []) ≡ true
 unfolding everything joined history_shown queue_shown pending_shown shown played_if played alike
@@ -486,10 +486,10 @@ numbers_030 = 4 ∷ 1 ∷ 1 ∷ 1 ∷ 0 ∷ 5 ∷ 0 ∷ 65535 ∷ 65535 ∷ 0 �
     65535 ∷ 0 ∷ 0 ∷ 1 ∷ 0 ∷ 0 ∷ 3 ∷ 3 ∷ []
 
 abbrev names_030 : List ℕ
-names_030 = joined (slot_of (115 ∷ []) ∷ slot_of (97 ∷ []) ∷ slot_of (98 ∷ []) ∷ slot_of (101 ∷ []) ∷ (97 ∷ 123 ∷ 0 ∷ 0 ∷
+names_030 = joined (slot_of (115 ∷ []) ∷ slot_of (97 ∷ []) ∷ slot_of (98 ∷ []) ∷ slot_of (101 ∷ []) ∷ (97 ∷ 123 ∷ 0 ∷
     0 ∷ 0 ∷ 0 ∷ 0 ∷ 0 ∷ 0 ∷ 0 ∷ 0 ∷ 0 ∷ 0 ∷ 0 ∷ 0 ∷ 0 ∷ 0 ∷ 0 ∷ 0 ∷ 0 ∷ 0 ∷ 0 ∷ 0 ∷ 0 ∷ 0 ∷ 0 ∷ 0 ∷ 0 ∷ 0 ∷ 0 ∷ 0 ∷ 0 ∷
     0 ∷ 0 ∷ 0 ∷ 0 ∷ 0 ∷ 0 ∷ 0 ∷ 0 ∷ 0 ∷ 0 ∷ 0 ∷ 0 ∷ 0 ∷ 0 ∷ 0 ∷ 0 ∷ 0 ∷ 0 ∷ 0 ∷ 0 ∷ 0 ∷ 0 ∷ 0 ∷ 0 ∷ 0 ∷ 0 ∷ 0 ∷ 0 ∷ 0 ∷
-    0 ∷ 0 ∷ []) ∷ [])
+    0 ∷ 0 ∷ 0 ∷ []) ∷ [])
 
 example_030 : alike (played numbers_030 names_030 []) ((2 ∷ []) ∷ []) ≡ true
 unfolding everything joined history_shown queue_shown pending_shown shown played_if played alike
@@ -502,10 +502,10 @@ numbers_031 = 4 ∷ 1 ∷ 1 ∷ 1 ∷ 0 ∷ 5 ∷ 0 ∷ 65535 ∷ 65535 ∷ 0 �
     65535 ∷ 0 ∷ 0 ∷ 1 ∷ 0 ∷ 0 ∷ 3 ∷ 3 ∷ []
 
 abbrev names_031 : List ℕ
-names_031 = joined (slot_of (115 ∷ []) ∷ slot_of (97 ∷ []) ∷ slot_of (98 ∷ []) ∷ slot_of (101 ∷ []) ∷ (97 ∷ 58 ∷ 0 ∷ 0 ∷
+names_031 = joined (slot_of (115 ∷ []) ∷ slot_of (97 ∷ []) ∷ slot_of (98 ∷ []) ∷ slot_of (101 ∷ []) ∷ (97 ∷ 58 ∷ 0 ∷
     0 ∷ 0 ∷ 0 ∷ 0 ∷ 0 ∷ 0 ∷ 0 ∷ 0 ∷ 0 ∷ 0 ∷ 0 ∷ 0 ∷ 0 ∷ 0 ∷ 0 ∷ 0 ∷ 0 ∷ 0 ∷ 0 ∷ 0 ∷ 0 ∷ 0 ∷ 0 ∷ 0 ∷ 0 ∷ 0 ∷ 0 ∷ 0 ∷ 0 ∷
     0 ∷ 0 ∷ 0 ∷ 0 ∷ 0 ∷ 0 ∷ 0 ∷ 0 ∷ 0 ∷ 0 ∷ 0 ∷ 0 ∷ 0 ∷ 0 ∷ 0 ∷ 0 ∷ 0 ∷ 0 ∷ 0 ∷ 0 ∷ 0 ∷ 0 ∷ 0 ∷ 0 ∷ 0 ∷ 0 ∷ 0 ∷ 0 ∷ 0 ∷
-    0 ∷ 0 ∷ []) ∷ [])
+    0 ∷ 0 ∷ 0 ∷ []) ∷ [])
 
 example_031 : alike (played numbers_031 names_031 []) ((2 ∷ []) ∷ []) ≡ true
 unfolding everything joined history_shown queue_shown pending_shown shown played_if played alike
@@ -518,10 +518,10 @@ numbers_032 = 4 ∷ 1 ∷ 1 ∷ 1 ∷ 0 ∷ 5 ∷ 0 ∷ 65535 ∷ 65535 ∷ 0 �
     65535 ∷ 0 ∷ 0 ∷ 1 ∷ 0 ∷ 0 ∷ 3 ∷ 3 ∷ []
 
 abbrev names_032 : List ℕ
-names_032 = joined (slot_of (115 ∷ []) ∷ slot_of (97 ∷ []) ∷ slot_of (98 ∷ []) ∷ slot_of (101 ∷ []) ∷ (97 ∷ 44 ∷ 0 ∷ 0 ∷
+names_032 = joined (slot_of (115 ∷ []) ∷ slot_of (97 ∷ []) ∷ slot_of (98 ∷ []) ∷ slot_of (101 ∷ []) ∷ (97 ∷ 44 ∷ 0 ∷
     0 ∷ 0 ∷ 0 ∷ 0 ∷ 0 ∷ 0 ∷ 0 ∷ 0 ∷ 0 ∷ 0 ∷ 0 ∷ 0 ∷ 0 ∷ 0 ∷ 0 ∷ 0 ∷ 0 ∷ 0 ∷ 0 ∷ 0 ∷ 0 ∷ 0 ∷ 0 ∷ 0 ∷ 0 ∷ 0 ∷ 0 ∷ 0 ∷ 0 ∷
     0 ∷ 0 ∷ 0 ∷ 0 ∷ 0 ∷ 0 ∷ 0 ∷ 0 ∷ 0 ∷ 0 ∷ 0 ∷ 0 ∷ 0 ∷ 0 ∷ 0 ∷ 0 ∷ 0 ∷ 0 ∷ 0 ∷ 0 ∷ 0 ∷ 0 ∷ 0 ∷ 0 ∷ 0 ∷ 0 ∷ 0 ∷ 0 ∷ 0 ∷
-    0 ∷ 0 ∷ []) ∷ [])
+    0 ∷ 0 ∷ 0 ∷ []) ∷ [])
 
 example_032 : alike (played numbers_032 names_032 []) ((2 ∷ []) ∷ []) ≡ true
 unfolding everything joined history_shown queue_shown pending_shown shown played_if played alike
@@ -534,10 +534,10 @@ numbers_033 = 4 ∷ 1 ∷ 1 ∷ 1 ∷ 0 ∷ 5 ∷ 0 ∷ 65535 ∷ 65535 ∷ 0 �
     65535 ∷ 0 ∷ 0 ∷ 1 ∷ 0 ∷ 0 ∷ 3 ∷ 3 ∷ []
 
 abbrev names_033 : List ℕ
-names_033 = joined (slot_of (115 ∷ []) ∷ slot_of (97 ∷ []) ∷ slot_of (98 ∷ []) ∷ slot_of (101 ∷ []) ∷ (97 ∷ 43 ∷ 0 ∷ 0 ∷
+names_033 = joined (slot_of (115 ∷ []) ∷ slot_of (97 ∷ []) ∷ slot_of (98 ∷ []) ∷ slot_of (101 ∷ []) ∷ (97 ∷ 43 ∷ 0 ∷
     0 ∷ 0 ∷ 0 ∷ 0 ∷ 0 ∷ 0 ∷ 0 ∷ 0 ∷ 0 ∷ 0 ∷ 0 ∷ 0 ∷ 0 ∷ 0 ∷ 0 ∷ 0 ∷ 0 ∷ 0 ∷ 0 ∷ 0 ∷ 0 ∷ 0 ∷ 0 ∷ 0 ∷ 0 ∷ 0 ∷ 0 ∷ 0 ∷ 0 ∷
     0 ∷ 0 ∷ 0 ∷ 0 ∷ 0 ∷ 0 ∷ 0 ∷ 0 ∷ 0 ∷ 0 ∷ 0 ∷ 0 ∷ 0 ∷ 0 ∷ 0 ∷ 0 ∷ 0 ∷ 0 ∷ 0 ∷ 0 ∷ 0 ∷ 0 ∷ 0 ∷ 0 ∷ 0 ∷ 0 ∷ 0 ∷ 0 ∷ 0 ∷
-    0 ∷ 0 ∷ []) ∷ [])
+    0 ∷ 0 ∷ 0 ∷ []) ∷ [])
 
 example_033 : alike (played numbers_033 names_033 []) ((2 ∷ []) ∷ []) ≡ true
 unfolding everything joined history_shown queue_shown pending_shown shown played_if played alike

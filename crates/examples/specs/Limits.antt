@@ -71,8 +71,9 @@ numbers_001 = 11 ∷ 1 ∷ 8 ∷ 4 ∷ 32 ∷ 14 ∷ 0 ∷ 65535 ∷ 65535 ∷ 0
 
 abbrev names_001 : List ℕ
 names_001 = joined (slot_of (122 ∷ []) ∷ slot_of (112 ∷ []) ∷ slot_of (114 ∷ 48 ∷ []) ∷ slot_of (114 ∷ 49 ∷ []) ∷
-    slot_of (114 ∷ 50 ∷ []) ∷ slot_of (114 ∷ 51 ∷ []) ∷ slot_of (114 ∷ 52 ∷ []) ∷ slot_of (114 ∷ 53 ∷ []) ∷ slot_of (114 ∷
-    54 ∷ []) ∷ slot_of (114 ∷ 55 ∷ []) ∷ slot_of (97 ∷ []) ∷ slot_of (98 ∷ []) ∷ slot_of (99 ∷ []) ∷ slot_of (100 ∷ []) ∷ [])
+    slot_of (114 ∷ 50 ∷ []) ∷ slot_of (114 ∷ 51 ∷ []) ∷ slot_of (114 ∷ 52 ∷ []) ∷ slot_of (114 ∷ 53 ∷ []) ∷
+    slot_of (114 ∷ 54 ∷ []) ∷ slot_of (114 ∷ 55 ∷ []) ∷ slot_of (97 ∷ []) ∷ slot_of (98 ∷ []) ∷ slot_of (99 ∷ []) ∷
+    slot_of (100 ∷ []) ∷ [])
 
 example_001 : alike (played numbers_001 names_001 (starts 200 ∷ posts (100 ∷ []) ∷ runs 1 200 ∷ [])) ((0 ∷ []) ∷ (0 ∷
     0 ∷ []) ∷ (196609 ∷ []) ∷ (1 ∷ []) ∷ [] ∷ [] ∷ [] ∷ (1 ∷ []) ∷ (0 ∷ []) ∷ (0 ∷ 0 ∷ []) ∷ [] ∷ (1 ∷ []) ∷ [] ∷ [] ∷
@@ -99,11 +100,11 @@ numbers_002 = 22 ∷ 0 ∷ 20 ∷ 0 ∷ 0 ∷ 21 ∷ 0 ∷ 65535 ∷ 65535 ∷ 0
 
 abbrev names_002 : List ℕ
 names_002 = joined (slot_of (112 ∷ []) ∷ slot_of (114 ∷ 48 ∷ []) ∷ slot_of (114 ∷ 49 ∷ []) ∷ slot_of (114 ∷ 50 ∷ []) ∷
-    slot_of (114 ∷ 51 ∷ []) ∷ slot_of (114 ∷ 52 ∷ []) ∷ slot_of (114 ∷ 53 ∷ []) ∷ slot_of (114 ∷ 54 ∷ []) ∷ slot_of (114 ∷
-    55 ∷ []) ∷ slot_of (114 ∷ 56 ∷ []) ∷ slot_of (114 ∷ 57 ∷ []) ∷ slot_of (114 ∷ 49 ∷ 48 ∷ []) ∷ slot_of (114 ∷ 49 ∷ 49 ∷
-    []) ∷ slot_of (114 ∷ 49 ∷ 50 ∷ []) ∷ slot_of (114 ∷ 49 ∷ 51 ∷ []) ∷ slot_of (114 ∷ 49 ∷ 52 ∷ []) ∷ slot_of (114 ∷ 49 ∷
-    53 ∷ []) ∷ slot_of (114 ∷ 49 ∷ 54 ∷ []) ∷ slot_of (114 ∷ 49 ∷ 55 ∷ []) ∷ slot_of (114 ∷ 49 ∷ 56 ∷ []) ∷ slot_of (114 ∷
-    49 ∷ 57 ∷ []) ∷ [])
+    slot_of (114 ∷ 51 ∷ []) ∷ slot_of (114 ∷ 52 ∷ []) ∷ slot_of (114 ∷ 53 ∷ []) ∷ slot_of (114 ∷ 54 ∷ []) ∷
+    slot_of (114 ∷ 55 ∷ []) ∷ slot_of (114 ∷ 56 ∷ []) ∷ slot_of (114 ∷ 57 ∷ []) ∷ slot_of (114 ∷ 49 ∷ 48 ∷ []) ∷
+    slot_of (114 ∷ 49 ∷ 49 ∷ []) ∷ slot_of (114 ∷ 49 ∷ 50 ∷ []) ∷ slot_of (114 ∷ 49 ∷ 51 ∷ []) ∷ slot_of (114 ∷ 49 ∷
+    52 ∷ []) ∷ slot_of (114 ∷ 49 ∷ 53 ∷ []) ∷ slot_of (114 ∷ 49 ∷ 54 ∷ []) ∷ slot_of (114 ∷ 49 ∷ 55 ∷ []) ∷
+    slot_of (114 ∷ 49 ∷ 56 ∷ []) ∷ slot_of (114 ∷ 49 ∷ 57 ∷ []) ∷ [])
 
 example_002 : alike (played numbers_002 names_002 []) ((0 ∷ []) ∷ []) ≡ true
 unfolding everything joined history_shown queue_shown pending_shown shown played_if played alike

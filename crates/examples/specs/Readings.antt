@@ -20,9 +20,9 @@ numbers_001 = 10 ∷ 2 ∷ 3 ∷ 2 ∷ 0 ∷ 11 ∷ 0 ∷ 65535 ∷ 65535 ∷ 0 
     10 ∷ 9 ∷ []
 
 abbrev names_001 : List ℕ
-names_001 = joined (slot_of (115 ∷ []) ∷ slot_of (113 ∷ []) ∷ slot_of (100 ∷ []) ∷ slot_of (120 ∷ []) ∷ slot_of (121 ∷ []) ∷
-    slot_of (114 ∷ []) ∷ slot_of (117 ∷ []) ∷ slot_of (118 ∷ []) ∷ slot_of (104 ∷ []) ∷ slot_of (102 ∷ []) ∷ slot_of (101 ∷
-    []) ∷ [])
+names_001 = joined (slot_of (115 ∷ []) ∷ slot_of (113 ∷ []) ∷ slot_of (100 ∷ []) ∷ slot_of (120 ∷ []) ∷ slot_of (121 ∷
+    []) ∷ slot_of (114 ∷ []) ∷ slot_of (117 ∷ []) ∷ slot_of (118 ∷ []) ∷ slot_of (104 ∷ []) ∷ slot_of (102 ∷ []) ∷
+    slot_of (101 ∷ []) ∷ [])
 
 example_001 : alike (played numbers_001 names_001 (starts 200 ∷ posts (102 ∷ []) ∷ posts (101 ∷ []) ∷ runs 5 200 ∷
     [])) ((0 ∷ []) ∷ (0 ∷ 0 ∷ []) ∷ (196609 ∷ 196610 ∷ 196611 ∷ 196612 ∷ 196614 ∷ 196615 ∷ []) ∷ (1 ∷ 2 ∷ 3 ∷ 4 ∷ 6 ∷
@@ -41,8 +41,8 @@ numbers_002 = 6 ∷ 1 ∷ 2 ∷ 1 ∷ 0 ∷ 6 ∷ 0 ∷ 65535 ∷ 65535 ∷ 0 �
     2 ∷ 5 ∷ 5 ∷ []
 
 abbrev names_002 : List ℕ
-names_002 = joined (slot_of (112 ∷ []) ∷ slot_of (115 ∷ []) ∷ slot_of (97 ∷ []) ∷ slot_of (98 ∷ []) ∷ slot_of (104 ∷ []) ∷
-    slot_of (101 ∷ []) ∷ [])
+names_002 = joined (slot_of (112 ∷ []) ∷ slot_of (115 ∷ []) ∷ slot_of (97 ∷ []) ∷ slot_of (98 ∷ []) ∷ slot_of (104 ∷
+    []) ∷ slot_of (101 ∷ []) ∷ [])
 
 example_002 : alike (played numbers_002 names_002 (starts 200 ∷ posts (101 ∷ []) ∷ runs 2 200 ∷ posts (101 ∷ []) ∷
     runs 1 200 ∷ [])) ((0 ∷ []) ∷ (0 ∷ 0 ∷ []) ∷ (196609 ∷ 196610 ∷ 196611 ∷ []) ∷ (1 ∷ 2 ∷ 3 ∷ []) ∷ [] ∷ [] ∷ [] ∷
@@ -64,9 +64,9 @@ numbers_003 = 11 ∷ 3 ∷ 3 ∷ 3 ∷ 0 ∷ 11 ∷ 0 ∷ 65535 ∷ 65535 ∷ 0 
     65535 ∷ 1 ∷ 1 ∷ 1 ∷ 0 ∷ 0 ∷ 8 ∷ 2 ∷ 1 ∷ 65535 ∷ 0 ∷ 2 ∷ 1 ∷ 0 ∷ 0 ∷ 4 ∷ 9 ∷ 10 ∷ 10 ∷ 10 ∷ 10 ∷ []
 
 abbrev names_003 : List ℕ
-names_003 = joined (slot_of (112 ∷ []) ∷ slot_of (98 ∷ []) ∷ slot_of (98 ∷ 49 ∷ []) ∷ slot_of (98 ∷ 50 ∷ []) ∷ slot_of (97 ∷
-    []) ∷ slot_of (113 ∷ []) ∷ slot_of (113 ∷ 49 ∷ []) ∷ slot_of (113 ∷ 50 ∷ []) ∷ slot_of (97 ∷ 50 ∷ []) ∷ slot_of (122 ∷
-    []) ∷ slot_of (101 ∷ []) ∷ [])
+names_003 = joined (slot_of (112 ∷ []) ∷ slot_of (98 ∷ []) ∷ slot_of (98 ∷ 49 ∷ []) ∷ slot_of (98 ∷ 50 ∷ []) ∷
+    slot_of (97 ∷ []) ∷ slot_of (113 ∷ []) ∷ slot_of (113 ∷ 49 ∷ []) ∷ slot_of (113 ∷ 50 ∷ []) ∷ slot_of (97 ∷ 50 ∷
+    []) ∷ slot_of (122 ∷ []) ∷ slot_of (101 ∷ []) ∷ [])
 
 example_003 : alike (played numbers_003 names_003 (starts 200 ∷ posts (101 ∷ []) ∷ runs 3 200 ∷ [])) ((0 ∷ []) ∷ (0 ∷
     0 ∷ []) ∷ (196609 ∷ 196610 ∷ 196611 ∷ 196613 ∷ 196614 ∷ 196615 ∷ 196616 ∷ []) ∷ (1 ∷ 2 ∷ 3 ∷ 5 ∷ 6 ∷ 7 ∷ 8 ∷ []) ∷
@@ -84,8 +84,8 @@ numbers_004 = 4 ∷ 2 ∷ 0 ∷ 2 ∷ 4 ∷ 6 ∷ 0 ∷ 65535 ∷ 65535 ∷ 0 �
     11 ∷ 0 ∷ 0 ∷ 0 ∷ 5 ∷ 0 ∷ 0 ∷ []
 
 abbrev names_004 : List ℕ
-names_004 = joined (slot_of (112 ∷ []) ∷ slot_of (97 ∷ []) ∷ slot_of (98 ∷ []) ∷ slot_of (101 ∷ []) ∷ slot_of (103 ∷ []) ∷
-    slot_of (102 ∷ []) ∷ [])
+names_004 = joined (slot_of (112 ∷ []) ∷ slot_of (97 ∷ []) ∷ slot_of (98 ∷ []) ∷ slot_of (101 ∷ []) ∷ slot_of (103 ∷
+    []) ∷ slot_of (102 ∷ []) ∷ [])
 
 example_004 : alike (played numbers_004 names_004 (starts 200 ∷ posts (101 ∷ []) ∷ runs 1 200 ∷ runs 4 200 ∷ [])) ((0 ∷
     []) ∷ (0 ∷ 0 ∷ []) ∷ (196609 ∷ 196610 ∷ 196611 ∷ []) ∷ (1 ∷ 2 ∷ 3 ∷ []) ∷ [] ∷ [] ∷ [] ∷ (1 ∷ []) ∷ (0 ∷ []) ∷ (0 ∷
@@ -107,8 +107,8 @@ numbers_005 = 9 ∷ 3 ∷ 3 ∷ 3 ∷ 0 ∷ 10 ∷ 0 ∷ 65535 ∷ 65535 ∷ 0 �
 
 abbrev names_005 : List ℕ
 names_005 = joined (slot_of (112 ∷ []) ∷ slot_of (97 ∷ []) ∷ slot_of (97 ∷ 49 ∷ []) ∷ slot_of (97 ∷ 102 ∷ []) ∷
-    slot_of (98 ∷ []) ∷ slot_of (98 ∷ 49 ∷ []) ∷ slot_of (98 ∷ 102 ∷ []) ∷ slot_of (122 ∷ []) ∷ slot_of (100 ∷ 111 ∷ 110 ∷
-    101 ∷ 46 ∷ 115 ∷ 116 ∷ 97 ∷ 116 ∷ 101 ∷ 46 ∷ 112 ∷ []) ∷ slot_of (101 ∷ []) ∷ [])
+    slot_of (98 ∷ []) ∷ slot_of (98 ∷ 49 ∷ []) ∷ slot_of (98 ∷ 102 ∷ []) ∷ slot_of (122 ∷ []) ∷ slot_of (100 ∷ 111 ∷
+    110 ∷ 101 ∷ 46 ∷ 115 ∷ 116 ∷ 97 ∷ 116 ∷ 101 ∷ 46 ∷ 112 ∷ []) ∷ slot_of (101 ∷ []) ∷ [])
 
 example_005 : alike (played numbers_005 names_005 (starts 200 ∷ posts (101 ∷ []) ∷ runs 1 200 ∷ runs 9 200 ∷ [])) ((0 ∷
     []) ∷ (0 ∷ 0 ∷ []) ∷ (196609 ∷ 196610 ∷ 196611 ∷ 196613 ∷ 196614 ∷ []) ∷ (1 ∷ 2 ∷ 3 ∷ 5 ∷ 6 ∷ []) ∷ [] ∷ [] ∷ [] ∷
@@ -129,8 +129,8 @@ numbers_006 = 6 ∷ 2 ∷ 3 ∷ 2 ∷ 1 ∷ 6 ∷ 0 ∷ 65535 ∷ 65535 ∷ 0 �
     4 ∷ 1 ∷ 1 ∷ 65535 ∷ 0 ∷ 2 ∷ 1 ∷ 0 ∷ 0 ∷ 4 ∷ 5 ∷ 5 ∷ 5 ∷ 5 ∷ 1 ∷ 5 ∷ 0 ∷ 0 ∷ []
 
 abbrev names_006 : List ℕ
-names_006 = joined (slot_of (115 ∷ []) ∷ slot_of (112 ∷ []) ∷ slot_of (120 ∷ []) ∷ slot_of (121 ∷ []) ∷ slot_of (104 ∷ []) ∷
-    slot_of (102 ∷ []) ∷ [])
+names_006 = joined (slot_of (115 ∷ []) ∷ slot_of (112 ∷ []) ∷ slot_of (120 ∷ []) ∷ slot_of (121 ∷ []) ∷ slot_of (104 ∷
+    []) ∷ slot_of (102 ∷ []) ∷ [])
 
 example_006 : alike (played numbers_006 names_006 (starts 200 ∷ posts (102 ∷ []) ∷ posts (102 ∷ []) ∷ runs 1 200 ∷
     runs 1 200 ∷ [])) ((0 ∷ []) ∷ (0 ∷ 0 ∷ []) ∷ (196609 ∷ []) ∷ (1 ∷ []) ∷ [] ∷ [] ∷ [] ∷ (1 ∷ []) ∷ (0 ∷ []) ∷ (0 ∷
@@ -149,8 +149,8 @@ numbers_007 = 5 ∷ 1 ∷ 2 ∷ 1 ∷ 2 ∷ 5 ∷ 0 ∷ 65535 ∷ 65535 ∷ 0 �
     []
 
 abbrev names_007 : List ℕ
-names_007 = joined (slot_of (112 ∷ []) ∷ slot_of (120 ∷ []) ∷ slot_of (121 ∷ []) ∷ slot_of (104 ∷ []) ∷ slot_of (101 ∷ []) ∷
-    [])
+names_007 = joined (slot_of (112 ∷ []) ∷ slot_of (120 ∷ []) ∷ slot_of (121 ∷ []) ∷ slot_of (104 ∷ []) ∷ slot_of (101 ∷
+    []) ∷ [])
 
 example_007 : alike (played numbers_007 names_007 (starts 200 ∷ posts (101 ∷ []) ∷ runs 2 200 ∷ [])) ((0 ∷ []) ∷ (0 ∷
     0 ∷ []) ∷ (196609 ∷ 262145 ∷ 196610 ∷ []) ∷ (1 ∷ 2 ∷ []) ∷ [] ∷ [] ∷ [] ∷ (1 ∷ []) ∷ (0 ∷ []) ∷ (0 ∷ 0 ∷ []) ∷ [] ∷
@@ -170,8 +170,8 @@ numbers_008 = 13 ∷ 0 ∷ 9 ∷ 0 ∷ 0 ∷ 12 ∷ 0 ∷ 65535 ∷ 65535 ∷ 0 
 
 abbrev names_008 : List ℕ
 names_008 = joined (slot_of (112 ∷ []) ∷ slot_of (114 ∷ 49 ∷ []) ∷ slot_of (114 ∷ 50 ∷ []) ∷ slot_of (114 ∷ 51 ∷ []) ∷
-    slot_of (114 ∷ 52 ∷ []) ∷ slot_of (114 ∷ 53 ∷ []) ∷ slot_of (114 ∷ 54 ∷ []) ∷ slot_of (114 ∷ 55 ∷ []) ∷ slot_of (114 ∷
-    56 ∷ []) ∷ slot_of (114 ∷ 57 ∷ []) ∷ slot_of (120 ∷ []) ∷ slot_of (121 ∷ []) ∷ [])
+    slot_of (114 ∷ 52 ∷ []) ∷ slot_of (114 ∷ 53 ∷ []) ∷ slot_of (114 ∷ 54 ∷ []) ∷ slot_of (114 ∷ 55 ∷ []) ∷
+    slot_of (114 ∷ 56 ∷ []) ∷ slot_of (114 ∷ 57 ∷ []) ∷ slot_of (120 ∷ []) ∷ slot_of (121 ∷ []) ∷ [])
 
 example_008 : alike (played numbers_008 names_008 (starts 200 ∷ runs 1 200 ∷ [])) ((0 ∷ []) ∷ (0 ∷ 0 ∷ []) ∷ (196609 ∷
     196610 ∷ 196611 ∷ 196612 ∷ 196613 ∷ 196614 ∷ 196615 ∷ 196616 ∷ 196617 ∷ 196618 ∷ 196620 ∷ []) ∷ (1 ∷ 2 ∷ 3 ∷ 4 ∷
@@ -276,8 +276,8 @@ numbers_016 = 8 ∷ 2 ∷ 5 ∷ 2 ∷ 0 ∷ 8 ∷ 0 ∷ 65535 ∷ 65535 ∷ 0 �
     1 ∷ 0 ∷ 0 ∷ 3 ∷ 6 ∷ 5 ∷ 7 ∷ 2 ∷ 7 ∷ 7 ∷ []
 
 abbrev names_016 : List ℕ
-names_016 = joined (slot_of (112 ∷ []) ∷ slot_of (104 ∷ []) ∷ slot_of (97 ∷ []) ∷ slot_of (103 ∷ []) ∷ slot_of (97 ∷ 49 ∷
-    []) ∷ slot_of (99 ∷ []) ∷ slot_of (122 ∷ []) ∷ slot_of (101 ∷ []) ∷ [])
+names_016 = joined (slot_of (112 ∷ []) ∷ slot_of (104 ∷ []) ∷ slot_of (97 ∷ []) ∷ slot_of (103 ∷ []) ∷ slot_of (97 ∷
+    49 ∷ []) ∷ slot_of (99 ∷ []) ∷ slot_of (122 ∷ []) ∷ slot_of (101 ∷ []) ∷ [])
 
 example_016 : alike (played numbers_016 names_016 (starts 200 ∷ posts (101 ∷ []) ∷ posts (101 ∷ []) ∷ runs 1 200 ∷
     runs 1 200 ∷ [])) ((0 ∷ []) ∷ (0 ∷ 0 ∷ []) ∷ (196609 ∷ 196611 ∷ 196613 ∷ 196614 ∷ []) ∷ (1 ∷ 3 ∷ 5 ∷ 6 ∷ []) ∷ [] ∷
@@ -299,8 +299,8 @@ numbers_017 = 7 ∷ 3 ∷ 4 ∷ 3 ∷ 2 ∷ 9 ∷ 0 ∷ 65535 ∷ 65535 ∷ 0 �
     0 ∷ 0 ∷ 2 ∷ 5 ∷ 3 ∷ 6 ∷ 8 ∷ 7 ∷ 8 ∷ 0 ∷ 6 ∷ 0 ∷ 0 ∷ 1 ∷ 3 ∷ 0 ∷ 0 ∷ []
 
 abbrev names_017 : List ℕ
-names_017 = joined (slot_of (112 ∷ []) ∷ slot_of (120 ∷ []) ∷ slot_of (121 ∷ []) ∷ slot_of (104 ∷ []) ∷ slot_of (115 ∷ []) ∷
-    slot_of (102 ∷ []) ∷ slot_of (108 ∷ 97 ∷ 116 ∷ 101 ∷ []) ∷ slot_of (101 ∷ []) ∷ slot_of (103 ∷ []) ∷ [])
+names_017 = joined (slot_of (112 ∷ []) ∷ slot_of (120 ∷ []) ∷ slot_of (121 ∷ []) ∷ slot_of (104 ∷ []) ∷ slot_of (115 ∷
+    []) ∷ slot_of (102 ∷ []) ∷ slot_of (108 ∷ 97 ∷ 116 ∷ 101 ∷ []) ∷ slot_of (101 ∷ []) ∷ slot_of (103 ∷ []) ∷ [])
 
 example_017 : alike (played numbers_017 names_017 (starts 200 ∷ posts (101 ∷ []) ∷ posts (103 ∷ []) ∷ posts (103 ∷
     []) ∷ posts (103 ∷ []) ∷ runs 3 200 ∷ runs 3 200 ∷ [])) ((0 ∷ []) ∷ (0 ∷ 0 ∷ []) ∷ (196609 ∷ 196610 ∷ []) ∷ (1 ∷
@@ -327,8 +327,8 @@ numbers_018 = 5 ∷ 1 ∷ 1 ∷ 1 ∷ 40 ∷ 6 ∷ 0 ∷ 65535 ∷ 65535 ∷ 0 �
     0 ∷ 4 ∷ 0 ∷ 0 ∷ 0 ∷ 4 ∷ 0 ∷ 0 ∷ []
 
 abbrev names_018 : List ℕ
-names_018 = joined (slot_of (115 ∷ []) ∷ slot_of (97 ∷ []) ∷ slot_of (98 ∷ []) ∷ slot_of (99 ∷ []) ∷ slot_of (120 ∷ []) ∷
-    slot_of (101 ∷ []) ∷ [])
+names_018 = joined (slot_of (115 ∷ []) ∷ slot_of (97 ∷ []) ∷ slot_of (98 ∷ []) ∷ slot_of (99 ∷ []) ∷ slot_of (120 ∷
+    []) ∷ slot_of (101 ∷ []) ∷ [])
 
 example_018 : alike (played numbers_018 names_018 (starts 200 ∷ posts (101 ∷ []) ∷ runs 1 0 ∷ runs 1 200 ∷ starts 0 ∷
     [])) ((0 ∷ []) ∷ (0 ∷ 0 ∷ []) ∷ (196609 ∷ []) ∷ (1 ∷ []) ∷ [] ∷ [] ∷ [] ∷ (1 ∷ []) ∷ (0 ∷ []) ∷ (0 ∷ 0 ∷ []) ∷ [] ∷
@@ -392,8 +392,8 @@ numbers_021 = 9 ∷ 3 ∷ 5 ∷ 3 ∷ 0 ∷ 9 ∷ 0 ∷ 65535 ∷ 65535 ∷ 0 �
     8 ∷ 6 ∷ 5 ∷ []
 
 abbrev names_021 : List ℕ
-names_021 = joined (slot_of (112 ∷ []) ∷ slot_of (97 ∷ []) ∷ slot_of (97 ∷ 49 ∷ []) ∷ slot_of (97 ∷ 50 ∷ []) ∷ slot_of (99 ∷
-    []) ∷ slot_of (104 ∷ []) ∷ slot_of (103 ∷ []) ∷ slot_of (122 ∷ []) ∷ slot_of (101 ∷ []) ∷ [])
+names_021 = joined (slot_of (112 ∷ []) ∷ slot_of (97 ∷ []) ∷ slot_of (97 ∷ 49 ∷ []) ∷ slot_of (97 ∷ 50 ∷ []) ∷
+    slot_of (99 ∷ []) ∷ slot_of (104 ∷ []) ∷ slot_of (103 ∷ []) ∷ slot_of (122 ∷ []) ∷ slot_of (101 ∷ []) ∷ [])
 
 example_021 : alike (played numbers_021 names_021 (starts 200 ∷ posts (101 ∷ []) ∷ runs 1 200 ∷ posts (104 ∷ []) ∷
     runs 1 200 ∷ [])) ((0 ∷ []) ∷ (0 ∷ 0 ∷ []) ∷ (196609 ∷ 196610 ∷ 196611 ∷ 196613 ∷ []) ∷ (1 ∷ 2 ∷ 3 ∷ 5 ∷ []) ∷ [] ∷
@@ -434,8 +434,9 @@ numbers_023 = 10 ∷ 2 ∷ 5 ∷ 2 ∷ 0 ∷ 10 ∷ 0 ∷ 65535 ∷ 65535 ∷ 0 
     9 ∷ 9 ∷ 9 ∷ []
 
 abbrev names_023 : List ℕ
-names_023 = joined (slot_of (112 ∷ []) ∷ slot_of (104 ∷ []) ∷ slot_of (120 ∷ []) ∷ slot_of (113 ∷ []) ∷ slot_of (103 ∷ []) ∷
-    slot_of (97 ∷ []) ∷ slot_of (107 ∷ []) ∷ slot_of (97 ∷ 49 ∷ []) ∷ slot_of (97 ∷ 102 ∷ []) ∷ slot_of (101 ∷ []) ∷ [])
+names_023 = joined (slot_of (112 ∷ []) ∷ slot_of (104 ∷ []) ∷ slot_of (120 ∷ []) ∷ slot_of (113 ∷ []) ∷ slot_of (103 ∷
+    []) ∷ slot_of (97 ∷ []) ∷ slot_of (107 ∷ []) ∷ slot_of (97 ∷ 49 ∷ []) ∷ slot_of (97 ∷ 102 ∷ []) ∷ slot_of (101 ∷
+    []) ∷ [])
 
 example_023 : alike (played numbers_023 names_023 (starts 200 ∷ posts (101 ∷ []) ∷ posts (101 ∷ []) ∷ runs 2 200 ∷
     runs 3 200 ∷ [])) ((0 ∷ []) ∷ (0 ∷ 0 ∷ []) ∷ (196609 ∷ 196611 ∷ []) ∷ (1 ∷ 3 ∷ []) ∷ [] ∷ [] ∷ [] ∷ (1 ∷ []) ∷ (0 ∷
@@ -457,9 +458,9 @@ numbers_024 = 6 ∷ 3 ∷ 3 ∷ 3 ∷ 1 ∷ 9 ∷ 0 ∷ 65535 ∷ 65535 ∷ 0 �
     0 ∷ []
 
 abbrev names_024 : List ℕ
-names_024 = joined (slot_of (112 ∷ 46 ∷ 113 ∷ []) ∷ slot_of (120 ∷ []) ∷ slot_of (120 ∷ 102 ∷ []) ∷ slot_of (122 ∷ []) ∷
-    slot_of (121 ∷ []) ∷ slot_of (102 ∷ []) ∷ slot_of (100 ∷ 111 ∷ 110 ∷ 101 ∷ 46 ∷ 115 ∷ 116 ∷ 97 ∷ 116 ∷ 101 ∷ 46 ∷
-    112 ∷ []) ∷ slot_of (101 ∷ []) ∷ slot_of (101 ∷ []) ∷ [])
+names_024 = joined (slot_of (112 ∷ 46 ∷ 113 ∷ []) ∷ slot_of (120 ∷ []) ∷ slot_of (120 ∷ 102 ∷ []) ∷ slot_of (122 ∷
+    []) ∷ slot_of (121 ∷ []) ∷ slot_of (102 ∷ []) ∷ slot_of (100 ∷ 111 ∷ 110 ∷ 101 ∷ 46 ∷ 115 ∷ 116 ∷ 97 ∷ 116 ∷ 101 ∷
+    46 ∷ 112 ∷ []) ∷ slot_of (101 ∷ []) ∷ slot_of (101 ∷ []) ∷ [])
 
 example_024 : alike (played numbers_024 names_024 (starts 200 ∷ posts (102 ∷ []) ∷ runs 1 200 ∷ runs 1 200 ∷
     runs 2 200 ∷ [])) ((0 ∷ []) ∷ (0 ∷ 0 ∷ []) ∷ (196609 ∷ 196610 ∷ []) ∷ (1 ∷ 2 ∷ []) ∷ [] ∷ [] ∷ [] ∷ (1 ∷ []) ∷ (0 ∷

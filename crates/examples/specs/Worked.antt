@@ -20,8 +20,8 @@ numbers_001 = 7 ∷ 6 ∷ 4 ∷ 6 ∷ 1 ∷ 9 ∷ 0 ∷ 65535 ∷ 65535 ∷ 0 �
     0 ∷ 0 ∷ 0 ∷ 1 ∷ 1 ∷ 4 ∷ 1 ∷ 6 ∷ 7 ∷ 8 ∷ 8 ∷ 7 ∷ 8 ∷ 1 ∷ 1 ∷ 0 ∷ 0 ∷ []
 
 abbrev names_001 : List ℕ
-names_001 = joined (slot_of (112 ∷ []) ∷ slot_of (97 ∷ []) ∷ slot_of (97 ∷ 49 ∷ []) ∷ slot_of (97 ∷ 50 ∷ []) ∷ slot_of (99 ∷
-    []) ∷ slot_of (99 ∷ 49 ∷ []) ∷ slot_of (101 ∷ []) ∷ slot_of (103 ∷ []) ∷ slot_of (107 ∷ []) ∷ [])
+names_001 = joined (slot_of (112 ∷ []) ∷ slot_of (97 ∷ []) ∷ slot_of (97 ∷ 49 ∷ []) ∷ slot_of (97 ∷ 50 ∷ []) ∷
+    slot_of (99 ∷ []) ∷ slot_of (99 ∷ 49 ∷ []) ∷ slot_of (101 ∷ []) ∷ slot_of (103 ∷ []) ∷ slot_of (107 ∷ []) ∷ [])
 
 example_001 : alike (played numbers_001 names_001 (starts 200 ∷ posts (101 ∷ []) ∷ runs 1 200 ∷ [])) ((0 ∷ []) ∷ (0 ∷
     0 ∷ []) ∷ (196609 ∷ 196610 ∷ 196611 ∷ 196613 ∷ 196614 ∷ []) ∷ (1 ∷ 2 ∷ 3 ∷ 5 ∷ 6 ∷ []) ∷ [] ∷ [] ∷ [] ∷ (1 ∷ []) ∷
@@ -41,8 +41,8 @@ numbers_002 = 7 ∷ 6 ∷ 4 ∷ 6 ∷ 1 ∷ 9 ∷ 0 ∷ 65535 ∷ 65535 ∷ 0 �
     0 ∷ 0 ∷ 0 ∷ 1 ∷ 1 ∷ 4 ∷ 1 ∷ 6 ∷ 7 ∷ 8 ∷ 8 ∷ 7 ∷ 8 ∷ 1 ∷ 1 ∷ 0 ∷ 0 ∷ []
 
 abbrev names_002 : List ℕ
-names_002 = joined (slot_of (112 ∷ []) ∷ slot_of (97 ∷ []) ∷ slot_of (97 ∷ 49 ∷ []) ∷ slot_of (97 ∷ 50 ∷ []) ∷ slot_of (99 ∷
-    []) ∷ slot_of (99 ∷ 49 ∷ []) ∷ slot_of (101 ∷ []) ∷ slot_of (103 ∷ []) ∷ slot_of (107 ∷ []) ∷ [])
+names_002 = joined (slot_of (112 ∷ []) ∷ slot_of (97 ∷ []) ∷ slot_of (97 ∷ 49 ∷ []) ∷ slot_of (97 ∷ 50 ∷ []) ∷
+    slot_of (99 ∷ []) ∷ slot_of (99 ∷ 49 ∷ []) ∷ slot_of (101 ∷ []) ∷ slot_of (103 ∷ []) ∷ slot_of (107 ∷ []) ∷ [])
 
 example_002 : alike (played numbers_002 names_002 (starts 200 ∷ posts (103 ∷ []) ∷ runs 1 200 ∷ [])) ((0 ∷ []) ∷ (0 ∷
     0 ∷ []) ∷ (196609 ∷ 196610 ∷ 196611 ∷ 196613 ∷ 196614 ∷ []) ∷ (1 ∷ 2 ∷ 3 ∷ 5 ∷ 6 ∷ []) ∷ [] ∷ [] ∷ [] ∷ (1 ∷ []) ∷
@@ -62,8 +62,8 @@ numbers_003 = 7 ∷ 6 ∷ 4 ∷ 6 ∷ 1 ∷ 9 ∷ 0 ∷ 65535 ∷ 65535 ∷ 0 �
     0 ∷ 0 ∷ 0 ∷ 1 ∷ 1 ∷ 4 ∷ 1 ∷ 6 ∷ 7 ∷ 8 ∷ 8 ∷ 7 ∷ 8 ∷ 1 ∷ 1 ∷ 0 ∷ 0 ∷ []
 
 abbrev names_003 : List ℕ
-names_003 = joined (slot_of (112 ∷ []) ∷ slot_of (97 ∷ []) ∷ slot_of (97 ∷ 49 ∷ []) ∷ slot_of (97 ∷ 50 ∷ []) ∷ slot_of (99 ∷
-    []) ∷ slot_of (99 ∷ 49 ∷ []) ∷ slot_of (101 ∷ []) ∷ slot_of (103 ∷ []) ∷ slot_of (107 ∷ []) ∷ [])
+names_003 = joined (slot_of (112 ∷ []) ∷ slot_of (97 ∷ []) ∷ slot_of (97 ∷ 49 ∷ []) ∷ slot_of (97 ∷ 50 ∷ []) ∷
+    slot_of (99 ∷ []) ∷ slot_of (99 ∷ 49 ∷ []) ∷ slot_of (101 ∷ []) ∷ slot_of (103 ∷ []) ∷ slot_of (107 ∷ []) ∷ [])
 
 example_003 : alike (played numbers_003 names_003 (starts 200 ∷ posts (107 ∷ []) ∷ runs 1 200 ∷ [])) ((0 ∷ []) ∷ (0 ∷
     0 ∷ []) ∷ (196609 ∷ 196610 ∷ 196611 ∷ 196613 ∷ 196614 ∷ []) ∷ (1 ∷ 2 ∷ 3 ∷ 5 ∷ 6 ∷ []) ∷ [] ∷ [] ∷ [] ∷ (1 ∷ []) ∷
@@ -83,8 +83,8 @@ numbers_004 = 7 ∷ 6 ∷ 4 ∷ 6 ∷ 1 ∷ 9 ∷ 0 ∷ 65535 ∷ 65535 ∷ 0 �
     0 ∷ 0 ∷ 0 ∷ 1 ∷ 1 ∷ 4 ∷ 1 ∷ 6 ∷ 7 ∷ 8 ∷ 8 ∷ 7 ∷ 8 ∷ 1 ∷ 1 ∷ 0 ∷ 0 ∷ []
 
 abbrev names_004 : List ℕ
-names_004 = joined (slot_of (112 ∷ []) ∷ slot_of (97 ∷ []) ∷ slot_of (97 ∷ 49 ∷ []) ∷ slot_of (97 ∷ 50 ∷ []) ∷ slot_of (99 ∷
-    []) ∷ slot_of (99 ∷ 49 ∷ []) ∷ slot_of (101 ∷ []) ∷ slot_of (103 ∷ []) ∷ slot_of (107 ∷ []) ∷ [])
+names_004 = joined (slot_of (112 ∷ []) ∷ slot_of (97 ∷ []) ∷ slot_of (97 ∷ 49 ∷ []) ∷ slot_of (97 ∷ 50 ∷ []) ∷
+    slot_of (99 ∷ []) ∷ slot_of (99 ∷ 49 ∷ []) ∷ slot_of (101 ∷ []) ∷ slot_of (103 ∷ []) ∷ slot_of (107 ∷ []) ∷ [])
 
 example_004 : alike (played numbers_004 names_004 (starts 200 ∷ posts (101 ∷ []) ∷ runs 1 2 ∷ runs 1 3 ∷ [])) ((0 ∷
     []) ∷ (0 ∷ 0 ∷ []) ∷ (196609 ∷ 196610 ∷ 196611 ∷ 196613 ∷ 196614 ∷ []) ∷ (1 ∷ 2 ∷ 3 ∷ 5 ∷ 6 ∷ []) ∷ [] ∷ [] ∷ [] ∷
@@ -212,8 +212,8 @@ numbers_013 = 6 ∷ 3 ∷ 5 ∷ 3 ∷ 3 ∷ 8 ∷ 0 ∷ 65535 ∷ 65535 ∷ 0 �
     1 ∷ 0 ∷ 0 ∷ 1 ∷ 2 ∷ 0 ∷ 0 ∷ 1 ∷ 3 ∷ 0 ∷ 0 ∷ []
 
 abbrev names_013 : List ℕ
-names_013 = joined (slot_of (115 ∷ []) ∷ slot_of (97 ∷ []) ∷ slot_of (98 ∷ []) ∷ slot_of (104 ∷ []) ∷ slot_of (111 ∷ []) ∷
-    slot_of (111 ∷ 117 ∷ 116 ∷ []) ∷ slot_of (103 ∷ []) ∷ slot_of (98 ∷ 97 ∷ 99 ∷ 107 ∷ []) ∷ [])
+names_013 = joined (slot_of (115 ∷ []) ∷ slot_of (97 ∷ []) ∷ slot_of (98 ∷ []) ∷ slot_of (104 ∷ []) ∷ slot_of (111 ∷
+    []) ∷ slot_of (111 ∷ 117 ∷ 116 ∷ []) ∷ slot_of (103 ∷ []) ∷ slot_of (98 ∷ 97 ∷ 99 ∷ 107 ∷ []) ∷ [])
 
 example_013 : alike (played numbers_013 names_013 (starts 200 ∷ [])) ((0 ∷ []) ∷ (0 ∷ 0 ∷ []) ∷ (196609 ∷ 262145 ∷
     262146 ∷ 262147 ∷ 196611 ∷ []) ∷ (1 ∷ 3 ∷ []) ∷ [] ∷ [] ∷ [] ∷ (1 ∷ []) ∷ (0 ∷ []) ∷ []) ≡ true
@@ -229,8 +229,8 @@ numbers_014 = 6 ∷ 3 ∷ 5 ∷ 3 ∷ 3 ∷ 8 ∷ 0 ∷ 65535 ∷ 65535 ∷ 0 �
     1 ∷ 0 ∷ 0 ∷ 1 ∷ 2 ∷ 0 ∷ 0 ∷ 1 ∷ 3 ∷ 0 ∷ 0 ∷ []
 
 abbrev names_014 : List ℕ
-names_014 = joined (slot_of (115 ∷ []) ∷ slot_of (97 ∷ []) ∷ slot_of (98 ∷ []) ∷ slot_of (104 ∷ []) ∷ slot_of (111 ∷ []) ∷
-    slot_of (111 ∷ 117 ∷ 116 ∷ []) ∷ slot_of (103 ∷ []) ∷ slot_of (98 ∷ 97 ∷ 99 ∷ 107 ∷ []) ∷ [])
+names_014 = joined (slot_of (115 ∷ []) ∷ slot_of (97 ∷ []) ∷ slot_of (98 ∷ []) ∷ slot_of (104 ∷ []) ∷ slot_of (111 ∷
+    []) ∷ slot_of (111 ∷ 117 ∷ 116 ∷ []) ∷ slot_of (103 ∷ []) ∷ slot_of (98 ∷ 97 ∷ 99 ∷ 107 ∷ []) ∷ [])
 
 example_014 : alike (played numbers_014 names_014 (starts 200 ∷ posts (103 ∷ []) ∷ posts (111 ∷ 117 ∷ 116 ∷ []) ∷
     posts (98 ∷ 97 ∷ 99 ∷ 107 ∷ []) ∷ runs 9 200 ∷ [])) ((0 ∷ []) ∷ (0 ∷ 0 ∷ []) ∷ (196609 ∷ 262145 ∷ 262146 ∷ 262147 ∷
@@ -252,8 +252,8 @@ numbers_015 = 6 ∷ 3 ∷ 5 ∷ 3 ∷ 3 ∷ 8 ∷ 0 ∷ 65535 ∷ 65535 ∷ 0 �
     1 ∷ 0 ∷ 0 ∷ 1 ∷ 2 ∷ 0 ∷ 0 ∷ 1 ∷ 3 ∷ 0 ∷ 0 ∷ []
 
 abbrev names_015 : List ℕ
-names_015 = joined (slot_of (115 ∷ []) ∷ slot_of (97 ∷ []) ∷ slot_of (98 ∷ []) ∷ slot_of (104 ∷ []) ∷ slot_of (111 ∷ []) ∷
-    slot_of (111 ∷ 117 ∷ 116 ∷ []) ∷ slot_of (103 ∷ []) ∷ slot_of (98 ∷ 97 ∷ 99 ∷ 107 ∷ []) ∷ [])
+names_015 = joined (slot_of (115 ∷ []) ∷ slot_of (97 ∷ []) ∷ slot_of (98 ∷ []) ∷ slot_of (104 ∷ []) ∷ slot_of (111 ∷
+    []) ∷ slot_of (111 ∷ 117 ∷ 116 ∷ []) ∷ slot_of (103 ∷ []) ∷ slot_of (98 ∷ 97 ∷ 99 ∷ 107 ∷ []) ∷ [])
 
 example_015 : alike (played numbers_015 names_015 (starts 200 ∷ posts (103 ∷ []) ∷ posts (111 ∷ 117 ∷ 116 ∷ []) ∷
     runs 9 200 ∷ [])) ((0 ∷ []) ∷ (0 ∷ 0 ∷ []) ∷ (196609 ∷ 262145 ∷ 262146 ∷ 262147 ∷ 196611 ∷ []) ∷ (1 ∷ 3 ∷ []) ∷
@@ -272,8 +272,8 @@ numbers_016 = 7 ∷ 0 ∷ 3 ∷ 0 ∷ 5 ∷ 6 ∷ 0 ∷ 65535 ∷ 65535 ∷ 0 �
     1 ∷ 6 ∷ 4 ∷ 5 ∷ 1 ∷ 1 ∷ 0 ∷ 0 ∷ 1 ∷ 2 ∷ 0 ∷ 0 ∷ 1 ∷ 4 ∷ 0 ∷ 0 ∷ 1 ∷ 9 ∷ 0 ∷ 0 ∷ 1 ∷ 3 ∷ 0 ∷ 0 ∷ []
 
 abbrev names_016 : List ℕ
-names_016 = joined (slot_of (115 ∷ []) ∷ slot_of (97 ∷ []) ∷ slot_of (113 ∷ []) ∷ slot_of (113 ∷ 49 ∷ []) ∷ slot_of (113 ∷
-    50 ∷ []) ∷ slot_of (104 ∷ []) ∷ [])
+names_016 = joined (slot_of (115 ∷ []) ∷ slot_of (97 ∷ []) ∷ slot_of (113 ∷ []) ∷ slot_of (113 ∷ 49 ∷ []) ∷
+    slot_of (113 ∷ 50 ∷ []) ∷ slot_of (104 ∷ []) ∷ [])
 
 example_016 : alike (played numbers_016 names_016 (starts 200 ∷ [])) ((0 ∷ []) ∷ (0 ∷ 0 ∷ []) ∷ (196609 ∷ 262145 ∷
     262146 ∷ 196611 ∷ 262148 ∷ 262147 ∷ 196613 ∷ []) ∷ (1 ∷ 3 ∷ 5 ∷ []) ∷ [] ∷ [] ∷ [] ∷ (1 ∷ []) ∷ (0 ∷ []) ∷
@@ -291,9 +291,9 @@ numbers_017 = 11 ∷ 0 ∷ 4 ∷ 0 ∷ 4 ∷ 10 ∷ 0 ∷ 65535 ∷ 65535 ∷ 0 
     1 ∷ 6 ∷ 0 ∷ 0 ∷ 1 ∷ 3 ∷ 0 ∷ 0 ∷ []
 
 abbrev names_017 : List ℕ
-names_017 = joined (slot_of (115 ∷ []) ∷ slot_of (112 ∷ []) ∷ slot_of (99 ∷ []) ∷ slot_of (99 ∷ 49 ∷ []) ∷ slot_of (99 ∷
-    50 ∷ []) ∷ slot_of (104 ∷ 99 ∷ []) ∷ slot_of (100 ∷ []) ∷ slot_of (100 ∷ 49 ∷ []) ∷ slot_of (100 ∷ 50 ∷ []) ∷
-    slot_of (104 ∷ []) ∷ [])
+names_017 = joined (slot_of (115 ∷ []) ∷ slot_of (112 ∷ []) ∷ slot_of (99 ∷ []) ∷ slot_of (99 ∷ 49 ∷ []) ∷
+    slot_of (99 ∷ 50 ∷ []) ∷ slot_of (104 ∷ 99 ∷ []) ∷ slot_of (100 ∷ []) ∷ slot_of (100 ∷ 49 ∷ []) ∷ slot_of (100 ∷
+    50 ∷ []) ∷ slot_of (104 ∷ []) ∷ [])
 
 example_017 : alike (played numbers_017 names_017 (starts 200 ∷ [])) ((0 ∷ []) ∷ (0 ∷ 0 ∷ []) ∷ (196609 ∷ 196610 ∷
     262148 ∷ 262147 ∷ 196611 ∷ 262149 ∷ 262150 ∷ 196613 ∷ 196615 ∷ 196617 ∷ []) ∷ (1 ∷ 2 ∷ 3 ∷ 5 ∷ 7 ∷ 9 ∷ []) ∷ [] ∷
@@ -309,8 +309,8 @@ numbers_018 = 7 ∷ 0 ∷ 4 ∷ 0 ∷ 5 ∷ 6 ∷ 0 ∷ 65535 ∷ 65535 ∷ 0 �
     1 ∷ 6 ∷ 6 ∷ 4 ∷ 5 ∷ 1 ∷ 1 ∷ 0 ∷ 0 ∷ 1 ∷ 2 ∷ 0 ∷ 0 ∷ 1 ∷ 4 ∷ 0 ∷ 0 ∷ 1 ∷ 9 ∷ 0 ∷ 0 ∷ 1 ∷ 3 ∷ 0 ∷ 0 ∷ []
 
 abbrev names_018 : List ℕ
-names_018 = joined (slot_of (115 ∷ []) ∷ slot_of (97 ∷ []) ∷ slot_of (113 ∷ []) ∷ slot_of (113 ∷ 49 ∷ []) ∷ slot_of (113 ∷
-    50 ∷ []) ∷ slot_of (104 ∷ []) ∷ [])
+names_018 = joined (slot_of (115 ∷ []) ∷ slot_of (97 ∷ []) ∷ slot_of (113 ∷ []) ∷ slot_of (113 ∷ 49 ∷ []) ∷
+    slot_of (113 ∷ 50 ∷ []) ∷ slot_of (104 ∷ []) ∷ [])
 
 example_018 : alike (played numbers_018 names_018 (starts 200 ∷ [])) ((0 ∷ []) ∷ (0 ∷ 0 ∷ []) ∷ (196609 ∷ 262145 ∷
     196611 ∷ 262148 ∷ 262147 ∷ 196613 ∷ []) ∷ (1 ∷ 3 ∷ 5 ∷ []) ∷ [] ∷ [] ∷ [] ∷ (1 ∷ []) ∷ (0 ∷ []) ∷ []) ≡ true
@@ -326,9 +326,9 @@ numbers_019 = 11 ∷ 0 ∷ 5 ∷ 0 ∷ 0 ∷ 10 ∷ 0 ∷ 65535 ∷ 65535 ∷ 0 
     0 ∷ 0 ∷ 0 ∷ 0 ∷ 0 ∷ 1 ∷ 9 ∷ 9 ∷ 0 ∷ 0 ∷ 0 ∷ 0 ∷ 0 ∷ 0 ∷ 0 ∷ 0 ∷ 8 ∷ 2 ∷ 4 ∷ 5 ∷ 2 ∷ []
 
 abbrev names_019 : List ℕ
-names_019 = joined (slot_of (115 ∷ []) ∷ slot_of (97 ∷ []) ∷ slot_of (113 ∷ []) ∷ slot_of (113 ∷ 49 ∷ []) ∷ slot_of (113 ∷
-    50 ∷ []) ∷ slot_of (104 ∷ []) ∷ slot_of (103 ∷ []) ∷ slot_of (104 ∷ 115 ∷ []) ∷ slot_of (122 ∷ []) ∷ slot_of (122 ∷ 49 ∷
-    []) ∷ [])
+names_019 = joined (slot_of (115 ∷ []) ∷ slot_of (97 ∷ []) ∷ slot_of (113 ∷ []) ∷ slot_of (113 ∷ 49 ∷ []) ∷
+    slot_of (113 ∷ 50 ∷ []) ∷ slot_of (104 ∷ []) ∷ slot_of (103 ∷ []) ∷ slot_of (104 ∷ 115 ∷ []) ∷ slot_of (122 ∷ []) ∷
+    slot_of (122 ∷ 49 ∷ []) ∷ [])
 
 example_019 : alike (played numbers_019 names_019 []) ((4 ∷ []) ∷ []) ≡ true
 unfolding everything joined history_shown queue_shown pending_shown shown played_if played alike
@@ -343,9 +343,9 @@ numbers_020 = 11 ∷ 0 ∷ 5 ∷ 0 ∷ 0 ∷ 10 ∷ 0 ∷ 65535 ∷ 65535 ∷ 0 
     0 ∷ 0 ∷ 0 ∷ 0 ∷ 0 ∷ 1 ∷ 9 ∷ 9 ∷ 0 ∷ 0 ∷ 0 ∷ 0 ∷ 0 ∷ 0 ∷ 0 ∷ 0 ∷ 6 ∷ 4 ∷ 4 ∷ 5 ∷ 2 ∷ []
 
 abbrev names_020 : List ℕ
-names_020 = joined (slot_of (115 ∷ []) ∷ slot_of (97 ∷ []) ∷ slot_of (113 ∷ []) ∷ slot_of (113 ∷ 49 ∷ []) ∷ slot_of (113 ∷
-    50 ∷ []) ∷ slot_of (104 ∷ []) ∷ slot_of (103 ∷ []) ∷ slot_of (104 ∷ 115 ∷ []) ∷ slot_of (122 ∷ []) ∷ slot_of (122 ∷ 49 ∷
-    []) ∷ [])
+names_020 = joined (slot_of (115 ∷ []) ∷ slot_of (97 ∷ []) ∷ slot_of (113 ∷ []) ∷ slot_of (113 ∷ 49 ∷ []) ∷
+    slot_of (113 ∷ 50 ∷ []) ∷ slot_of (104 ∷ []) ∷ slot_of (103 ∷ []) ∷ slot_of (104 ∷ 115 ∷ []) ∷ slot_of (122 ∷ []) ∷
+    slot_of (122 ∷ 49 ∷ []) ∷ [])
 
 example_020 : alike (played numbers_020 names_020 []) ((4 ∷ []) ∷ []) ≡ true
 unfolding everything joined history_shown queue_shown pending_shown shown played_if played alike
@@ -360,9 +360,9 @@ numbers_021 = 11 ∷ 0 ∷ 5 ∷ 0 ∷ 0 ∷ 10 ∷ 0 ∷ 65535 ∷ 65535 ∷ 0 
     0 ∷ 0 ∷ 0 ∷ 0 ∷ 0 ∷ 1 ∷ 9 ∷ 9 ∷ 0 ∷ 0 ∷ 0 ∷ 0 ∷ 0 ∷ 0 ∷ 0 ∷ 0 ∷ 6 ∷ 7 ∷ 4 ∷ 5 ∷ 2 ∷ []
 
 abbrev names_021 : List ℕ
-names_021 = joined (slot_of (115 ∷ []) ∷ slot_of (97 ∷ []) ∷ slot_of (113 ∷ []) ∷ slot_of (113 ∷ 49 ∷ []) ∷ slot_of (113 ∷
-    50 ∷ []) ∷ slot_of (104 ∷ []) ∷ slot_of (103 ∷ []) ∷ slot_of (104 ∷ 115 ∷ []) ∷ slot_of (122 ∷ []) ∷ slot_of (122 ∷ 49 ∷
-    []) ∷ [])
+names_021 = joined (slot_of (115 ∷ []) ∷ slot_of (97 ∷ []) ∷ slot_of (113 ∷ []) ∷ slot_of (113 ∷ 49 ∷ []) ∷
+    slot_of (113 ∷ 50 ∷ []) ∷ slot_of (104 ∷ []) ∷ slot_of (103 ∷ []) ∷ slot_of (104 ∷ 115 ∷ []) ∷ slot_of (122 ∷ []) ∷
+    slot_of (122 ∷ 49 ∷ []) ∷ [])
 
 example_021 : alike (played numbers_021 names_021 []) ((4 ∷ []) ∷ []) ≡ true
 unfolding everything joined history_shown queue_shown pending_shown shown played_if played alike
@@ -377,9 +377,9 @@ numbers_022 = 11 ∷ 0 ∷ 4 ∷ 0 ∷ 0 ∷ 10 ∷ 0 ∷ 65535 ∷ 65535 ∷ 0 
     0 ∷ 3 ∷ 1 ∷ 0 ∷ 0 ∷ 1 ∷ 9 ∷ 9 ∷ 0 ∷ 0 ∷ 0 ∷ 0 ∷ 0 ∷ 0 ∷ 0 ∷ 0 ∷ 4 ∷ 5 ∷ 2 ∷ 6 ∷ []
 
 abbrev names_022 : List ℕ
-names_022 = joined (slot_of (115 ∷ []) ∷ slot_of (97 ∷ []) ∷ slot_of (113 ∷ []) ∷ slot_of (113 ∷ 49 ∷ []) ∷ slot_of (113 ∷
-    50 ∷ []) ∷ slot_of (104 ∷ []) ∷ slot_of (103 ∷ []) ∷ slot_of (104 ∷ 115 ∷ []) ∷ slot_of (122 ∷ []) ∷ slot_of (122 ∷ 49 ∷
-    []) ∷ [])
+names_022 = joined (slot_of (115 ∷ []) ∷ slot_of (97 ∷ []) ∷ slot_of (113 ∷ []) ∷ slot_of (113 ∷ 49 ∷ []) ∷
+    slot_of (113 ∷ 50 ∷ []) ∷ slot_of (104 ∷ []) ∷ slot_of (103 ∷ []) ∷ slot_of (104 ∷ 115 ∷ []) ∷ slot_of (122 ∷ []) ∷
+    slot_of (122 ∷ 49 ∷ []) ∷ [])
 
 example_022 : alike (played numbers_022 names_022 []) ((4 ∷ []) ∷ []) ≡ true
 unfolding everything joined history_shown queue_shown pending_shown shown played_if played alike
@@ -394,9 +394,9 @@ numbers_023 = 11 ∷ 0 ∷ 3 ∷ 0 ∷ 0 ∷ 10 ∷ 0 ∷ 65535 ∷ 65535 ∷ 0 
     0 ∷ 0 ∷ 0 ∷ 0 ∷ 0 ∷ 1 ∷ 9 ∷ 9 ∷ 0 ∷ 0 ∷ 0 ∷ 0 ∷ 0 ∷ 0 ∷ 0 ∷ 0 ∷ 4 ∷ 5 ∷ 6 ∷ []
 
 abbrev names_023 : List ℕ
-names_023 = joined (slot_of (115 ∷ []) ∷ slot_of (97 ∷ []) ∷ slot_of (113 ∷ []) ∷ slot_of (113 ∷ 49 ∷ []) ∷ slot_of (113 ∷
-    50 ∷ []) ∷ slot_of (104 ∷ []) ∷ slot_of (103 ∷ []) ∷ slot_of (104 ∷ 115 ∷ []) ∷ slot_of (122 ∷ []) ∷ slot_of (122 ∷ 49 ∷
-    []) ∷ [])
+names_023 = joined (slot_of (115 ∷ []) ∷ slot_of (97 ∷ []) ∷ slot_of (113 ∷ []) ∷ slot_of (113 ∷ 49 ∷ []) ∷
+    slot_of (113 ∷ 50 ∷ []) ∷ slot_of (104 ∷ []) ∷ slot_of (103 ∷ []) ∷ slot_of (104 ∷ 115 ∷ []) ∷ slot_of (122 ∷ []) ∷
+    slot_of (122 ∷ 49 ∷ []) ∷ [])
 
 example_023 : alike (played numbers_023 names_023 []) ((4 ∷ []) ∷ []) ≡ true
 unfolding everything joined history_shown queue_shown pending_shown shown played_if played alike
@@ -418,8 +418,8 @@ numbers_024 = 6 ∷ 1 ∷ 1 ∷ 1 ∷ 55 ∷ 6 ∷ 0 ∷ 65535 ∷ 65535 ∷ 0 �
     []
 
 abbrev names_024 : List ℕ
-names_024 = joined (slot_of (112 ∷ []) ∷ slot_of (97 ∷ []) ∷ slot_of (98 ∷ []) ∷ slot_of (113 ∷ []) ∷ slot_of (99 ∷ []) ∷
-    slot_of (101 ∷ []) ∷ [])
+names_024 = joined (slot_of (112 ∷ []) ∷ slot_of (97 ∷ []) ∷ slot_of (98 ∷ []) ∷ slot_of (113 ∷ []) ∷ slot_of (99 ∷
+    []) ∷ slot_of (101 ∷ []) ∷ [])
 
 example_024 : alike (played numbers_024 names_024 (starts 200 ∷ posts (101 ∷ []) ∷ runs 1 200 ∷ [])) ((0 ∷ []) ∷ (0 ∷
     0 ∷ []) ∷ (196609 ∷ 196610 ∷ 196611 ∷ []) ∷ (1 ∷ 2 ∷ 3 ∷ []) ∷ [] ∷ [] ∷ [] ∷ (1 ∷ []) ∷ (0 ∷ []) ∷ (0 ∷ 0 ∷ []) ∷
@@ -452,7 +452,8 @@ numbers_026 = 3 ∷ 1 ∷ 1 ∷ 1 ∷ 5 ∷ 4 ∷ 0 ∷ 65535 ∷ 65535 ∷ 0 �
     0 ∷ 0 ∷ 1 ∷ 1 ∷ 0 ∷ 0 ∷ 3 ∷ 2 ∷ 0 ∷ 0 ∷ 0 ∷ 3 ∷ 0 ∷ 0 ∷ 5 ∷ 0 ∷ 0 ∷ 0 ∷ []
 
 abbrev names_026 : List ℕ
-names_026 = joined (slot_of (115 ∷ []) ∷ slot_of (102 ∷ []) ∷ slot_of (101 ∷ []) ∷ slot_of (108 ∷ 97 ∷ 116 ∷ 101 ∷ []) ∷ [])
+names_026 = joined (slot_of (115 ∷ []) ∷ slot_of (102 ∷ []) ∷ slot_of (101 ∷ []) ∷ slot_of (108 ∷ 97 ∷ 116 ∷ 101 ∷
+    []) ∷ [])
 
 example_026 : alike (played numbers_026 names_026 (starts 200 ∷ posts (101 ∷ []) ∷ runs 9 200 ∷ [])) ((0 ∷ []) ∷ (0 ∷
     0 ∷ []) ∷ (196609 ∷ []) ∷ (1 ∷ []) ∷ [] ∷ [] ∷ [] ∷ (1 ∷ []) ∷ (0 ∷ []) ∷ (0 ∷ 0 ∷ []) ∷ [] ∷ (1 ∷ []) ∷ [] ∷ [] ∷
@@ -784,8 +785,8 @@ numbers_043 = 2 ∷ 1 ∷ 0 ∷ 1 ∷ 9 ∷ 8 ∷ 0 ∷ 65535 ∷ 65535 ∷ 0 �
     3 ∷ 0 ∷ 2 ∷ 6 ∷ 2 ∷ 1 ∷ 65535 ∷ 6 ∷ 1 ∷ 1 ∷ 2 ∷ 7 ∷ 2 ∷ 0 ∷ 0 ∷ 7 ∷ 7 ∷ 0 ∷ 0 ∷ 6 ∷ 4 ∷ 2 ∷ 2 ∷ []
 
 abbrev names_043 : List ℕ
-names_043 = joined (slot_of (115 ∷ []) ∷ slot_of (120 ∷ []) ∷ slot_of (105 ∷ []) ∷ slot_of (121 ∷ []) ∷ slot_of (122 ∷ []) ∷
-    slot_of (106 ∷ []) ∷ slot_of (101 ∷ []) ∷ slot_of (110 ∷ 105 ∷ 120 ∷ []) ∷ [])
+names_043 = joined (slot_of (115 ∷ []) ∷ slot_of (120 ∷ []) ∷ slot_of (105 ∷ []) ∷ slot_of (121 ∷ []) ∷ slot_of (122 ∷
+    []) ∷ slot_of (106 ∷ []) ∷ slot_of (101 ∷ []) ∷ slot_of (110 ∷ 105 ∷ 120 ∷ []) ∷ [])
 
 example_043 : alike (played numbers_043 names_043 (starts 200 ∷ posts (101 ∷ []) ∷ runs 1 200 ∷ [])) ((0 ∷ []) ∷ (0 ∷
     0 ∷ []) ∷ (196609 ∷ 524289 ∷ 524291 ∷ 524292 ∷ 524291 ∷ 524290 ∷ []) ∷ (1 ∷ []) ∷ [] ∷ [] ∷ [] ∷ (1 ∷ []) ∷ (0 ∷
@@ -808,8 +809,8 @@ numbers_044 = 2 ∷ 2 ∷ 0 ∷ 2 ∷ 36 ∷ 6 ∷ 0 ∷ 65535 ∷ 65535 ∷ 0 �
     1 ∷ 2 ∷ 6 ∷ 1 ∷ 1 ∷ 2 ∷ 6 ∷ 1 ∷ 1 ∷ 2 ∷ 7 ∷ 2 ∷ 0 ∷ 0 ∷ 6 ∷ 4 ∷ 0 ∷ 65535 ∷ 6 ∷ 4 ∷ 0 ∷ 65535 ∷ 7 ∷ 2 ∷ 0 ∷ 0 ∷ []
 
 abbrev names_044 : List ℕ
-names_044 = joined (slot_of (115 ∷ []) ∷ slot_of (120 ∷ []) ∷ slot_of (105 ∷ []) ∷ slot_of (97 ∷ []) ∷ slot_of (121 ∷ []) ∷
-    slot_of (98 ∷ []) ∷ [])
+names_044 = joined (slot_of (115 ∷ []) ∷ slot_of (120 ∷ []) ∷ slot_of (105 ∷ []) ∷ slot_of (97 ∷ []) ∷ slot_of (121 ∷
+    []) ∷ slot_of (98 ∷ []) ∷ [])
 
 example_044 : alike (played numbers_044 names_044 (starts 200 ∷ posts (97 ∷ []) ∷ runs 1 200 ∷ [])) ((0 ∷ []) ∷ (0 ∷
     0 ∷ []) ∷ (196609 ∷ 524289 ∷ 524289 ∷ 524289 ∷ 524289 ∷ 524289 ∷ 524289 ∷ 524289 ∷ 524289 ∷ 524289 ∷ 524289 ∷
@@ -845,8 +846,8 @@ numbers_045 = 2 ∷ 2 ∷ 0 ∷ 2 ∷ 36 ∷ 6 ∷ 0 ∷ 65535 ∷ 65535 ∷ 0 �
     1 ∷ 2 ∷ 6 ∷ 1 ∷ 1 ∷ 2 ∷ 6 ∷ 1 ∷ 1 ∷ 2 ∷ 7 ∷ 2 ∷ 0 ∷ 0 ∷ 6 ∷ 4 ∷ 0 ∷ 65535 ∷ 6 ∷ 4 ∷ 0 ∷ 65535 ∷ 7 ∷ 2 ∷ 0 ∷ 0 ∷ []
 
 abbrev names_045 : List ℕ
-names_045 = joined (slot_of (115 ∷ []) ∷ slot_of (120 ∷ []) ∷ slot_of (105 ∷ []) ∷ slot_of (97 ∷ []) ∷ slot_of (121 ∷ []) ∷
-    slot_of (98 ∷ []) ∷ [])
+names_045 = joined (slot_of (115 ∷ []) ∷ slot_of (120 ∷ []) ∷ slot_of (105 ∷ []) ∷ slot_of (97 ∷ []) ∷ slot_of (121 ∷
+    []) ∷ slot_of (98 ∷ []) ∷ [])
 
 example_045 : alike (played numbers_045 names_045 (starts 200 ∷ posts (98 ∷ []) ∷ runs 1 200 ∷ runs 1 0 ∷ clocks 1 ∷
     runs 1 200 ∷ [])) ((0 ∷ []) ∷ (0 ∷ 0 ∷ []) ∷ (196609 ∷ 524289 ∷ 524289 ∷ 524289 ∷ 524289 ∷ 524289 ∷ 524289 ∷
@@ -903,8 +904,8 @@ numbers_046 = 3 ∷ 1 ∷ 1 ∷ 1 ∷ 34 ∷ 5 ∷ 0 ∷ 65535 ∷ 65535 ∷ 0 �
     2 ∷ 9 ∷ 3 ∷ 6 ∷ 2 ∷ 9 ∷ 3 ∷ 6 ∷ 2 ∷ 3 ∷ 3 ∷ 6 ∷ 2 ∷ 3 ∷ 65535 ∷ 7 ∷ 3 ∷ 0 ∷ 0 ∷ []
 
 abbrev names_046 : List ℕ
-names_046 = joined (slot_of (115 ∷ []) ∷ slot_of (102 ∷ []) ∷ slot_of (120 ∷ []) ∷ slot_of (105 ∷ []) ∷ slot_of (101 ∷ []) ∷
-    [])
+names_046 = joined (slot_of (115 ∷ []) ∷ slot_of (102 ∷ []) ∷ slot_of (120 ∷ []) ∷ slot_of (105 ∷ []) ∷ slot_of (101 ∷
+    []) ∷ [])
 
 example_046 : alike (played numbers_046 names_046 (starts 200 ∷ clocks 2 ∷ posts (101 ∷ []) ∷ runs 1 200 ∷ clocks 3 ∷
     runs 1 2 ∷ runs 1 200 ∷ clocks 3 ∷ [])) ((0 ∷ []) ∷ (0 ∷ 0 ∷ []) ∷ (196609 ∷ 524290 ∷ 524290 ∷ 524290 ∷ 524290 ∷

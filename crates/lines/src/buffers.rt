@@ -10,18 +10,14 @@ const FILLER: u64 = 0xa5a5a5a5a5a5a5a5;
 const TRACE_FILLER: u32 = 0xa5a50000;
 
 pub fn fill_words(place: &mut [u64]) {
-    let mut i = 0;
-    while i < place.len() {
-        place[i] = FILLER ^ i as u64;
-        i += 1;
+    for (i, word) in place.iter_mut().enumerate() {
+        *word = FILLER ^ i as u64;
     }
 }
 
 pub fn fill_bytes(place: &mut [u8]) {
-    let mut i = 0;
-    while i < place.len() {
-        place[i] = (i % 251) as u8;
-        i += 1;
+    for (i, byte) in place.iter_mut().enumerate() {
+        *byte = (i % 251) as u8;
     }
 }
 
@@ -31,10 +27,8 @@ pub fn unwritten(at: usize) -> u32 {
 }
 
 pub fn fill_trace(trace: &mut [u32]) {
-    let mut i = 0;
-    while i < trace.len() {
-        trace[i] = unwritten(i);
-        i += 1;
+    for (i, entry) in trace.iter_mut().enumerate() {
+        *entry = unwritten(i);
     }
 }
 
@@ -51,20 +45,16 @@ fn mix_byte(sum: u64, b: u8) -> u64 {
 
 pub fn sum_words(first: u64, words: &[u64]) -> u64 {
     let mut sum = first;
-    let mut i = 0;
-    while i < words.len() {
-        sum = mix(sum, words[i]);
-        i += 1;
+    for word in words {
+        sum = mix(sum, *word);
     }
     sum
 }
 
 pub fn sum_bytes(first: u64, bytes: &[u8]) -> u64 {
     let mut sum = first;
-    let mut i = 0;
-    while i < bytes.len() {
-        sum = mix_byte(sum, bytes[i]);
-        i += 1;
+    for b in bytes {
+        sum = mix_byte(sum, *b);
     }
     sum
 }

@@ -5,13 +5,13 @@ pub use buffers::{
     Part, behind_guard, fill_bytes, fill_trace, fill_words, least, mix, sum_bytes, sum_words,
     unwritten,
 };
-pub use numbers::{Two, put_word, read_numbers, read_two, size};
+pub use line_numbers::{Two, put_word, read_numbers, read_two, size};
 pub use printing::{put, show, show_answer, show_number, show_sum};
 pub use slots::{put_byte, read_name, read_slots};
 use tables::{columns, limits};
 
 pub mod buffers;
-pub mod numbers;
+pub mod line_numbers;
 pub mod printing;
 pub mod slots;
 

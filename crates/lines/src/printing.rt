@@ -1,24 +1,22 @@
-// Bytes and numbers written to the standard output.
-use libc::STDOUT_FILENO;
+// Bytes and numbers written to the standard output, whole, or the error of a write that failed.
+use std::io;
 
-pub fn put(b: u8) {
-    let one = [b];
-    io::write_all(STDOUT_FILENO, &one);
+pub fn put(rt: &impl Print, b: u8) -> io::Result<()> {
+    rt.write_all(&[b])
 }
 
-pub fn show(text: &[u8]) {
-    io::write_all(STDOUT_FILENO, text);
+pub fn show(rt: &impl Print, text: &[u8]) -> io::Result<()> {
+    rt.write_all(text)
 }
 
-pub fn show_number(n: u64) {
-    io::print_decimal(STDOUT_FILENO, n);
+pub fn show_number(rt: &impl Print, n: u64) -> io::Result<()> {
+    print!(rt; "{n}")
 }
 
-pub fn show_answer(n: u32) {
-    show_number(n as u64);
+pub fn show_answer(rt: &impl Print, n: u32) -> io::Result<()> {
+    show_number(rt, n as u64)
 }
 
-pub fn show_sum(sum: u64) {
-    put(b' ');
-    io::print_hex(STDOUT_FILENO, sum, 16);
+pub fn show_sum(rt: &impl Print, sum: u64) -> io::Result<()> {
+    print!(rt; " {sum:016x}")
 }

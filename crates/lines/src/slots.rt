@@ -1,7 +1,7 @@
 // The names of a line, each in a slot of 64 bytes.
 ghost use Rattle.std.specs.Prelude.{◌≤◌, length};
 
-use crate::numbers::digit;
+use crate::line_numbers::digit;
 
 pub fn put_byte(out: &mut [u8], at: usize, b: u8) {
     if at < out.len() {
@@ -73,10 +73,8 @@ fn read_bytes(text: &[u8], out: &mut [u8]) -> Slot {
         digits: 0,
         high: 0,
     };
-    let mut i = 0;
-    while i < text.len() {
-        s = read_byte(out, s, text[i]);
-        i += 1;
+    for b in text {
+        s = read_byte(out, s, *b);
     }
     s
 }

@@ -1,6 +1,6 @@
 -- Lists of transitions, held in an array; atomic states.
 use Rattle.std.specs.Prelude.{◌≡◌, refl, Bool, true, ◌&&◌, List, [], ◌∷◌, ℕ, zero, suc, ◌+◌, ◌≤◌, ◌<◌, length, get_or, take, set}
-use Rattle.std.proofs.Common.{sym, ◌∙◌, add-one, arith, take-suc, take-suc-set, length-take-le, get_or-take, lt-ltb}
+use Rattle.std.proofs.Common.{sym, ◌∙◌, subst, add-one, arith, take-suc, take-suc-set, length-take-le, get_or-take, lt-ltb}
 use Rattle.std.proofs.Math.Path.{ap}
 use Rattle.std.proofs.Math.Option.{Option}
 use Rattle.definition.specs.Rows.{fold, those, mem, is_in, append, intersection}
@@ -98,7 +98,7 @@ mem_front zero n x xs l m = absurd (no m)
 mem_front (suc i) zero x xs l m = absurd (omega arith)
 mem_front (suc i) (suc n) x [] l m = absurd (no m)
 mem_front (suc i) (suc n) x (y ∷ ys) l m =
-    mem_cases x y (take i ys) (λ e. rw e (mem_head y (take n ys))) (λ k. mem_tail y x (take n ys) (mem_front i n x ys (omega arith) k)) m
+    mem_cases x y (take i ys) (λ e. subst (λ z. mem z (y ∷ take n ys) ≡ true) (sym e) (mem_head y (take n ys))) (λ k. mem_tail y x (take n ys) (mem_front i n x ys (omega arith) k)) m
 
 -- the first i of more
 pub within_front : (k : ℕ) (items : List ℕ) (i n : ℕ) → i ≤ n → Within k (list_of items n) → Within k (list_of items i)

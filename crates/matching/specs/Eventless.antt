@@ -1,10 +1,10 @@
 -- Where an eventless transition can be chosen: at and below the sources of all of them.
-use Rattle.std.specs.Prelude.{◌≡◌, Bool, false, ◌&&◌, cond, ℕ, ◌+◌, ◌≤◌, ◌<◌, eqb, leb, ltb}
+use Rattle.std.specs.Prelude.{◌≡◌, false, ◌&&◌, cond, ℕ, ◌+◌, ◌≤◌, ◌<◌, eqb, leb, ltb}
 use Rattle.std.proofs.Math.Path.{refl, ap}
-use Rattle.std.proofs.Common.{sym, ◌∙◌, ⊎_elim, arith, eqb-true, le-leb, lt-ltb}
+use Rattle.std.proofs.Common.{◌∙◌, ⊎_elim, arith, eqb-true, le-leb, lt-ltb}
 use Rattle.std.proofs.Math.Bool.{true, not}
 use mathlib.Core.List.{List, [], ◌∷◌}
-use Rattle.std.proofs.Math.Option.{none, some}
+use Rattle.std.proofs.Math.Option.{none}
 use Rattle.std.proofs.Math.ListN.{length}
 use Rattle.definition.specs.Rows.{from, fold, with, mem, meets, is_empty, insert, union}
 use Rattle.definition.specs.declared.Kind.{Kind}

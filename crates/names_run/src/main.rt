@@ -16,13 +16,14 @@
 //                    pass: a line a pair, see `mark_two`
 #![tactic(auto)]
 
-use libc::STDIN_FILENO;
 use pairs::{each_changed_pair, each_length_of_pair, each_word, pair};
 use printing::put;
 use reading::{after, find};
 use several::{each_two, four};
 use single::{FUNCTIONS, TESTS, each_length, each_place};
 use slotted::{each_slot, show_strays};
+use std::io;
+use std::io::Read;
 
 mod pairs;
 mod printing;
@@ -31,9 +32,12 @@ mod several;
 mod single;
 mod slotted;
 
-fn run_line(line: &[u8]) {
+// The most bytes that are read.
+const TEXT: u64 = 65536;
+
+fn run_line(rt: &impl Print, line: &[u8]) -> io::Result<()> {
     if line.len() < 2 {
-        return;
+        return Ok(());
     }
     let case = line[0];
     let rest = &line[2..];
@@ -41,34 +45,31 @@ fn run_line(line: &[u8]) {
     let one = &rest[..k];
     let two = after(rest, k);
     match case {
-        b'b' => each_place(0, TESTS, one),
-        b'v' => each_place(TESTS, FUNCTIONS, one),
-        b't' => show_strays(one),
-        b'l' => each_length(one, two),
-        b's' => each_slot(one),
-        b'm' => pair(one, two),
-        b'p' => each_changed_pair(one, two),
-        b'q' => each_length_of_pair(one, two),
-        b'w' => each_word(false, one, two),
-        b'e' => each_word(true, one, two),
-        b'f' => four(rest),
-        b'o' => each_two(one, two),
-        _ => put(b'?'),
+        b'b' => each_place(rt, 0, TESTS, one),
+        b'v' => each_place(rt, TESTS, FUNCTIONS, one),
+        b't' => show_strays(rt, one),
+        b'l' => each_length(rt, one, two),
+        b's' => each_slot(rt, one),
+        b'm' => pair(rt, one, two),
+        b'p' => each_changed_pair(rt, one, two),
+        b'q' => each_length_of_pair(rt, one, two),
+        b'w' => each_word(rt, false, one, two),
+        b'e' => each_word(rt, true, one, two),
+        b'f' => four(rt, rest),
+        b'o' => each_two(rt, one, two),
+        _ => put(rt, b'?'),
     }
 }
 
-fn run_all(text: &[u8]) {
-    let mut at = 0;
-    while at < text.len() {
-        let rest = &text[at..];
-        let k = find(rest, b'\n');
-        run_line(&rest[..k]);
-        at += k + 1;
+fn run_all(rt: &impl Print, text: &[u8]) -> io::Result<()> {
+    for line in text.split(|b| *b == b'\n') {
+        run_line(rt, line)?;
     }
+    Ok(())
 }
 
-fn main() {
-    let mut text = io::large_buffer();
-    let n = io::read_full(STDIN_FILENO, &mut text);
-    run_all(&text[..n]);
+fn main(rt: HostRuntime) -> io::Result<()> {
+    let mut text = Vec::new(rt.alloc());
+    rt.reader().take(TEXT).read_to_end(&mut text)?;
+    run_all(&rt, &text)
 }

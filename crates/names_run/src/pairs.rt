@@ -4,6 +4,7 @@ ghost use Rattle.std.specs.Prelude.{◌≡◌, length};
 use crate::printing::{mark, put};
 use crate::single::{changed, made};
 use crate::slotted::show;
+use std::io;
 
 // Words by number: 0 is the empty one; the first letter of any other, and the number of what is behind it.
 pub fn first(letters: &[u8], number: usize) -> u8 {
@@ -51,121 +52,162 @@ pub fn words(letters: &[u8]) -> usize {
     }
 }
 
-fn mark_pair(compare: bool, descriptor: &[u8], event: &[u8]) {
+fn mark_pair(rt: &impl Print, compare: bool, descriptor: &[u8], event: &[u8]) -> io::Result<()> {
     if compare {
-        mark(names::equal(descriptor, event));
+        mark(rt, names::equal(descriptor, event))
     } else {
-        mark_match(descriptor, event);
+        mark_match(rt, descriptor, event)
     }
 }
 
 // Whether the event matches; and the match of a slot has to say the same as that of the name which the slot holds.
-fn mark_match(descriptor: &[u8], event: &[u8]) {
+fn mark_match(rt: &impl Print, descriptor: &[u8], event: &[u8]) -> io::Result<()> {
     let held = names::matches(names::name_of(descriptor), event);
     if held == names::slot_matches(descriptor, event) {
-        mark(names::matches(descriptor, event));
+        mark(rt, names::matches(descriptor, event))
     } else {
-        put(b'!');
+        put(rt, b'!')
     }
 }
 
-fn mark_word(compare: bool, descriptor: &[u8], letters: &[u8], number: usize) {
+fn mark_word(
+    rt: &impl Print,
+    compare: bool,
+    descriptor: &[u8],
+    letters: &[u8],
+    number: usize,
+) -> io::Result<()> {
     let event = word(letters, number);
-    mark_pair(compare, descriptor, names::name_of(&event));
+    mark_pair(rt, compare, descriptor, names::name_of(&event))
 }
 
-fn each_event(compare: bool, descriptor: &[u8], letters: &[u8]) {
+fn each_event(rt: &impl Print, compare: bool, descriptor: &[u8], letters: &[u8]) -> io::Result<()> {
     let last = words(letters);
-    let mut k: usize = 0;
-    while k < last {
-        mark_word(compare, descriptor, letters, k);
-        k += 1;
+    for k in 0..last {
+        mark_word(rt, compare, descriptor, letters, k)?;
     }
-    put(b'\n');
+    put(rt, b'\n')
 }
 
-fn each_event_of(compare: bool, letters: &[u8], number: usize, more: &[u8]) {
+fn each_event_of(
+    rt: &impl Print,
+    compare: bool,
+    letters: &[u8],
+    number: usize,
+    more: &[u8],
+) -> io::Result<()> {
     let descriptor = word(letters, number);
-    each_event(compare, names::name_of(&descriptor), more);
+    each_event(rt, compare, names::name_of(&descriptor), more)
 }
 
-pub fn each_word(compare: bool, letters: &[u8], more: &[u8]) {
+pub fn each_word(rt: &impl Print, compare: bool, letters: &[u8], more: &[u8]) -> io::Result<()> {
     let last = words(letters);
-    let mut k: usize = 0;
-    while k < last {
-        each_event_of(compare, letters, k, more);
-        k += 1;
+    for k in 0..last {
+        each_event_of(rt, compare, letters, k, more)?;
     }
+    Ok(())
 }
 
 // The first of the two with another byte at a place. Turned, the first is the event.
-fn mark_changed_pair(compare: bool, turned: bool, one: &[u8], two: &[u8], place: usize, b: u8) {
+fn mark_changed_pair(
+    rt: &impl Print,
+    compare: bool,
+    turned: bool,
+    one: &[u8],
+    two: &[u8],
+    place: usize,
+    b: u8,
+) -> io::Result<()> {
     let n = one.len();
     if 64 < n {
-        return;
+        return Ok(());
     }
     let slot = changed(one, place, b);
     if turned {
-        mark_pair(compare, two, &slot[..n]);
+        mark_pair(rt, compare, two, &slot[..n])
     } else {
-        mark_pair(compare, &slot[..n], two);
+        mark_pair(rt, compare, &slot[..n], two)
     }
 }
 
-fn each_value_of_pair(compare: bool, turned: bool, one: &[u8], two: &[u8], place: usize) {
-    let mut v: usize = 0;
-    while v < 256 {
-        mark_changed_pair(compare, turned, one, two, place, v as u8);
-        v += 1;
+fn each_value_of_pair(
+    rt: &impl Print,
+    compare: bool,
+    turned: bool,
+    one: &[u8],
+    two: &[u8],
+    place: usize,
+) -> io::Result<()> {
+    for v in 0..256usize {
+        mark_changed_pair(rt, compare, turned, one, two, place, v as u8)?;
     }
-    put(b'\n');
+    put(rt, b'\n')
 }
 
-fn each_place_of_pair(turned: bool, one: &[u8], two: &[u8]) {
-    let mut place = 0;
-    while place < one.len() {
-        each_value_of_pair(false, turned, one, two, place);
-        each_value_of_pair(true, turned, one, two, place);
-        place += 1;
+fn each_place_of_pair(rt: &impl Print, turned: bool, one: &[u8], two: &[u8]) -> io::Result<()> {
+    for place in 0..one.len() {
+        each_value_of_pair(rt, false, turned, one, two, place)?;
+        each_value_of_pair(rt, true, turned, one, two, place)?;
     }
+    Ok(())
 }
 
-pub fn each_changed_pair(descriptor: &[u8], event: &[u8]) {
-    each_place_of_pair(false, descriptor, event);
-    each_place_of_pair(true, event, descriptor);
+pub fn each_changed_pair(rt: &impl Print, descriptor: &[u8], event: &[u8]) -> io::Result<()> {
+    each_place_of_pair(rt, false, descriptor, event)?;
+    each_place_of_pair(rt, true, event, descriptor)
 }
 
-fn mark_lengths(compare: bool, unit: &[u8], n: usize, tail: &[u8], m: usize) {
+fn mark_lengths(
+    rt: &impl Print,
+    compare: bool,
+    unit: &[u8],
+    n: usize,
+    tail: &[u8],
+    m: usize,
+) -> io::Result<()> {
     let descriptor = made(unit, n, tail);
     let event = made(unit, m, b"");
-    mark_pair(compare, names::name_of(&descriptor), names::name_of(&event));
+    mark_pair(
+        rt,
+        compare,
+        names::name_of(&descriptor),
+        names::name_of(&event),
+    )
 }
 
-fn each_event_length(compare: bool, unit: &[u8], n: usize, tail: &[u8]) {
-    let mut m: usize = 0;
-    while m < 71 {
-        mark_lengths(compare, unit, n, tail, m);
-        m += 1;
+fn each_event_length(
+    rt: &impl Print,
+    compare: bool,
+    unit: &[u8],
+    n: usize,
+    tail: &[u8],
+) -> io::Result<()> {
+    for m in 0..71usize {
+        mark_lengths(rt, compare, unit, n, tail, m)?;
     }
-    put(b'\n');
+    put(rt, b'\n')
 }
 
-fn each_descriptor_length(compare: bool, unit: &[u8], tail: &[u8]) {
-    let mut n: usize = 0;
-    while n < 71 {
-        each_event_length(compare, unit, n, tail);
-        n += 1;
+fn each_descriptor_length(
+    rt: &impl Print,
+    compare: bool,
+    unit: &[u8],
+    tail: &[u8],
+) -> io::Result<()> {
+    for n in 0..71usize {
+        each_event_length(rt, compare, unit, n, tail)?;
     }
+    Ok(())
 }
 
-pub fn each_length_of_pair(unit: &[u8], tail: &[u8]) {
-    each_descriptor_length(false, unit, tail);
-    each_descriptor_length(true, unit, tail);
+pub fn each_length_of_pair(rt: &impl Print, unit: &[u8], tail: &[u8]) -> io::Result<()> {
+    each_descriptor_length(rt, false, unit, tail)?;
+    each_descriptor_length(rt, true, unit, tail)
 }
 
-pub fn pair(descriptor: &[u8], event: &[u8]) {
-    mark_pair(false, descriptor, event);
-    mark_pair(true, descriptor, event);
-    put(b' ');
-    show(names::bare(descriptor));
+pub fn pair(rt: &impl Print, descriptor: &[u8], event: &[u8]) -> io::Result<()> {
+    mark_pair(rt, false, descriptor, event)?;
+    mark_pair(rt, true, descriptor, event)?;
+    put(rt, b' ')?;
+    show(rt, names::bare(descriptor))
 }

@@ -1,15 +1,10 @@
 // Bytes and marks written to the standard output.
-use libc::STDOUT_FILENO;
+use std::io;
 
-pub fn put(b: u8) {
-    let one = [b];
-    io::write_all(STDOUT_FILENO, &one);
+pub fn put(rt: &impl Print, b: u8) -> io::Result<()> {
+    rt.write_all(&[b])
 }
 
-pub fn mark(yes: bool) {
-    if yes {
-        put(b'1');
-    } else {
-        put(b'0');
-    }
+pub fn mark(rt: &impl Print, yes: bool) -> io::Result<()> {
+    if yes { put(rt, b'1') } else { put(rt, b'0') }
 }

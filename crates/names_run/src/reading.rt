@@ -5,14 +5,12 @@ ghost use Rattle.std.specs.Prelude.{◌≤◌, length};
 pub fn find(s: &[u8], b: u8) -> usize
     ensures { result ≤ length s.now }
 {
-    let mut i = 0;
-    while i < s.len() {
-        if s[i] == b {
+    for (i, x) in s.iter().enumerate() {
+        if *x == b {
             return i;
         }
-        i += 1;
     }
-    i
+    s.len()
 }
 
 pub fn after(s: &[u8], k: usize) -> &[u8] {

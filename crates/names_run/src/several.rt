@@ -5,6 +5,7 @@ use crate::pairs::{first, word, words};
 use crate::printing::{mark, put};
 use crate::reading::{after, find};
 use onepass::Places;
+use std::io;
 
 fn byte_of(name: &[u8], i: usize) -> u8 {
     if i < name.len() {
@@ -27,10 +28,8 @@ fn slots(a: &[u8], b: &[u8], c: &[u8], d: &[u8]) -> [u8; 256]
     ensures { 256 ≡ length result }
 {
     let mut bytes = [0u8; 256];
-    let mut i: usize = 0;
-    while i < 256 {
+    for i in 0..256usize {
         bytes[i] = slot_byte(a, b, c, d, i);
-        i += 1;
     }
     bytes
 }
@@ -46,18 +45,25 @@ fn places() -> Places
     }
 }
 
-fn show_four(a: &[u8], b: &[u8], c: &[u8], d: &[u8], event: &[u8]) {
+fn show_four(
+    rt: &impl Print,
+    a: &[u8],
+    b: &[u8],
+    c: &[u8],
+    d: &[u8],
+    event: &[u8],
+) -> io::Result<()> {
     let table = slots(a, b, c, d);
     let r = onepass::match_four(&table, places(), event);
-    mark(r.first);
-    mark(r.second);
-    mark(r.third);
-    mark(r.fourth);
-    mark(onepass::any_matches(&table, places(), event));
-    put(b'\n');
+    mark(rt, r.first)?;
+    mark(rt, r.second)?;
+    mark(rt, r.third)?;
+    mark(rt, r.fourth)?;
+    mark(rt, onepass::any_matches(&table, places(), event))?;
+    put(rt, b'\n')
 }
 
-pub fn four(words: &[u8]) {
+pub fn four(rt: &impl Print, words: &[u8]) -> io::Result<()> {
     let i = find(words, b' ');
     let behind_one = after(words, i);
     let j = find(behind_one, b' ');
@@ -66,12 +72,13 @@ pub fn four(words: &[u8]) {
     let behind_three = after(behind_two, k);
     let m = find(behind_three, b' ');
     show_four(
+        rt,
         &words[..i],
         &behind_one[..j],
         &behind_two[..k],
         &behind_three[..m],
         after(behind_three, m),
-    );
+    )
 }
 
 // Two marks as one digit.
@@ -89,15 +96,15 @@ fn digit(one: bool, two: bool) -> u8 {
 }
 
 // The two descriptors are lent twice, the second time the other way round, and have to be answered alike.
-fn mark_two(one: &[u8], two: &[u8], event: &[u8]) {
+fn mark_two(rt: &impl Print, one: &[u8], two: &[u8], event: &[u8]) -> io::Result<()> {
     let table = slots(one, two, two, one);
     let r = onepass::match_four(&table, places(), event);
     let first = r.first;
     let second = r.second;
     if (first == r.fourth) & (second == r.third) {
-        put(digit(first, second));
+        put(rt, digit(first, second))
     } else {
-        put(b'!');
+        put(rt, b'!')
     }
 }
 
@@ -112,45 +119,53 @@ fn short_words(letters: &[u8]) -> usize {
     }
 }
 
-fn mark_two_on(one: &[u8], two: &[u8], more: &[u8], number: usize) {
+fn mark_two_on(
+    rt: &impl Print,
+    one: &[u8],
+    two: &[u8],
+    more: &[u8],
+    number: usize,
+) -> io::Result<()> {
     let event = word(more, number);
-    mark_two(one, two, names::name_of(&event));
+    mark_two(rt, one, two, names::name_of(&event))
 }
 
-fn each_event_of_two(one: &[u8], two: &[u8], more: &[u8]) {
+fn each_event_of_two(rt: &impl Print, one: &[u8], two: &[u8], more: &[u8]) -> io::Result<()> {
     let last = short_words(more);
-    let mut k: usize = 0;
-    while k < last {
-        mark_two_on(one, two, more, k);
-        k += 1;
+    for k in 0..last {
+        mark_two_on(rt, one, two, more, k)?;
     }
-    put(b'\n');
+    put(rt, b'\n')
 }
 
-fn beside(one: &[u8], letters: &[u8], number: usize, more: &[u8]) {
+fn beside(
+    rt: &impl Print,
+    one: &[u8],
+    letters: &[u8],
+    number: usize,
+    more: &[u8],
+) -> io::Result<()> {
     let two = word(letters, number);
-    each_event_of_two(one, names::name_of(&two), more);
+    each_event_of_two(rt, one, names::name_of(&two), more)
 }
 
-fn each_beside(one: &[u8], letters: &[u8], more: &[u8]) {
+fn each_beside(rt: &impl Print, one: &[u8], letters: &[u8], more: &[u8]) -> io::Result<()> {
     let last = short_words(letters);
-    let mut k: usize = 0;
-    while k < last {
-        beside(one, letters, k, more);
-        k += 1;
+    for k in 0..last {
+        beside(rt, one, letters, k, more)?;
     }
+    Ok(())
 }
 
-fn each_beside_word(letters: &[u8], number: usize, more: &[u8]) {
+fn each_beside_word(rt: &impl Print, letters: &[u8], number: usize, more: &[u8]) -> io::Result<()> {
     let one = word(letters, number);
-    each_beside(names::name_of(&one), letters, more);
+    each_beside(rt, names::name_of(&one), letters, more)
 }
 
-pub fn each_two(letters: &[u8], more: &[u8]) {
+pub fn each_two(rt: &impl Print, letters: &[u8], more: &[u8]) -> io::Result<()> {
     let last = short_words(letters);
-    let mut k: usize = 0;
-    while k < last {
-        each_beside_word(letters, k, more);
-        k += 1;
+    for k in 0..last {
+        each_beside_word(rt, letters, k, more)?;
     }
+    Ok(())
 }

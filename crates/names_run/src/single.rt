@@ -3,7 +3,7 @@ ghost use Rattle.std.specs.Prelude.{◌≡◌, ◌≤◌, length};
 
 use crate::pairs::first;
 use crate::printing::{mark, put};
-use libc::STDOUT_FILENO;
+use std::io;
 
 pub const TESTS: usize = 6;
 
@@ -39,15 +39,12 @@ pub fn with_done_name(name: &[u8]) -> [u8; 48]
 }
 
 // One number for the bytes, their order and how many they are.
-fn digest(bytes: &[u8]) {
+fn digest(rt: &impl Print, bytes: &[u8]) -> io::Result<()> {
     let mut d: u64 = 0;
-    let mut i = 0;
-    while i < bytes.len() {
-        d = d % 999983 * 257 + wide(bytes[i]) + 1;
-        i += 1;
+    for b in bytes {
+        d = d % 999983 * 257 + wide(*b) + 1;
     }
-    io::print_decimal(STDOUT_FILENO, d);
-    put(b' ');
+    print!(rt; "{d} ")
 }
 
 fn wide(b: u8) -> u64
@@ -56,21 +53,21 @@ fn wide(b: u8) -> u64
     b as u64
 }
 
-fn digest_made(function: usize, s: &[u8]) {
+fn digest_made(rt: &impl Print, function: usize, s: &[u8]) -> io::Result<()> {
     match function {
-        6 => digest(names::bare(s)),
-        7 => digest(&names::pad(s)),
-        8 => digest(&names::done_name(s)),
-        9 => digest(&with_name(s)),
-        _ => digest(&with_done_name(s)),
+        6 => digest(rt, names::bare(s)),
+        7 => digest(rt, &names::pad(s)),
+        8 => digest(rt, &names::done_name(s)),
+        9 => digest(rt, &with_name(s)),
+        _ => digest(rt, &with_done_name(s)),
     }
 }
 
-fn answer(function: usize, s: &[u8]) {
+fn answer(rt: &impl Print, function: usize, s: &[u8]) -> io::Result<()> {
     if function < TESTS {
-        mark(judge(function, s));
+        mark(rt, judge(function, s))
     } else {
-        digest_made(function, s);
+        digest_made(rt, function, s)
     }
 }
 
@@ -86,38 +83,40 @@ pub fn changed(name: &[u8], place: usize, b: u8) -> [u8; 64]
     slot
 }
 
-fn answer_changed(function: usize, name: &[u8], place: usize, b: u8) {
+fn answer_changed(
+    rt: &impl Print,
+    function: usize,
+    name: &[u8],
+    place: usize,
+    b: u8,
+) -> io::Result<()> {
     let n = name.len();
     if 64 < n {
-        return;
+        return Ok(());
     }
     let slot = changed(name, place, b);
-    answer(function, &slot[..n]);
+    answer(rt, function, &slot[..n])
 }
 
-fn each_value(function: usize, name: &[u8], place: usize) {
-    let mut v: usize = 0;
-    while v < 256 {
-        answer_changed(function, name, place, v as u8);
-        v += 1;
+fn each_value(rt: &impl Print, function: usize, name: &[u8], place: usize) -> io::Result<()> {
+    for v in 0..256usize {
+        answer_changed(rt, function, name, place, v as u8)?;
     }
-    put(b'\n');
+    put(rt, b'\n')
 }
 
-fn each_place_for(function: usize, name: &[u8]) {
-    let mut place = 0;
-    while place < name.len() {
-        each_value(function, name, place);
-        place += 1;
+fn each_place_for(rt: &impl Print, function: usize, name: &[u8]) -> io::Result<()> {
+    for place in 0..name.len() {
+        each_value(rt, function, name, place)?;
     }
+    Ok(())
 }
 
-pub fn each_place(first: usize, last: usize, name: &[u8]) {
-    let mut function = first;
-    while function < last {
-        each_place_for(function, name);
-        function += 1;
+pub fn each_place(rt: &impl Print, first: usize, last: usize, name: &[u8]) -> io::Result<()> {
+    for function in first..last {
+        each_place_for(rt, function, name)?;
     }
+    Ok(())
 }
 
 // The byte at i of the first n bytes of the unit, over and over, then the tail, then zeros.
@@ -139,32 +138,27 @@ pub fn made(unit: &[u8], n: usize, tail: &[u8]) -> [u8; 128]
     ensures { 128 ≡ length result }
 {
     let mut bytes = [0u8; 128];
-    let mut i: usize = 0;
-    while i < 128 {
+    for i in 0..128usize {
         bytes[i] = letter(unit, n, tail, i);
-        i += 1;
     }
     bytes
 }
 
-fn mark_made(test: usize, unit: &[u8], n: usize, tail: &[u8]) {
+fn mark_made(rt: &impl Print, test: usize, unit: &[u8], n: usize, tail: &[u8]) -> io::Result<()> {
     let bytes = made(unit, n, tail);
-    mark(judge(test, names::name_of(&bytes)));
+    mark(rt, judge(test, names::name_of(&bytes)))
 }
 
-fn each_length_for(test: usize, unit: &[u8], tail: &[u8]) {
-    let mut n: usize = 0;
-    while n < 71 {
-        mark_made(test, unit, n, tail);
-        n += 1;
+fn each_length_for(rt: &impl Print, test: usize, unit: &[u8], tail: &[u8]) -> io::Result<()> {
+    for n in 0..71usize {
+        mark_made(rt, test, unit, n, tail)?;
     }
-    put(b'\n');
+    put(rt, b'\n')
 }
 
-pub fn each_length(unit: &[u8], tail: &[u8]) {
-    let mut test: usize = 0;
-    while test < TESTS {
-        each_length_for(test, unit, tail);
-        test += 1;
+pub fn each_length(rt: &impl Print, unit: &[u8], tail: &[u8]) -> io::Result<()> {
+    for test in 0..TESTS {
+        each_length_for(rt, test, unit, tail)?;
     }
+    Ok(())
 }

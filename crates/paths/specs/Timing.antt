@@ -1,6 +1,6 @@
 -- What the sends and cancels of a round are noted as while it is worked out: two numbers each, in their order (R-9). A send's name and send id, then its delay; a
 -- cancel is told by a name that is none.
-use Rattle.std.specs.Prelude.{◌≡◌, refl, cond, List, [], ◌∷◌, ℕ, ◌+◌, ◌*◌, ◌/◌, ◌%◌, eqb}
+use Rattle.std.specs.Prelude.{cond, List, [], ◌∷◌, ℕ, ◌+◌, ◌*◌, ◌/◌, ◌%◌, eqb}
 use Rattle.definition.specs.Rows.{flat}
 use Rattle.definition.specs.Tables.{no_number}
 use Rattle.follower.specs.Blocks.{Effect, exited, taken, entered, acted, raised, done, chosen, sent, cancelled}

@@ -1,5 +1,5 @@
 -- The bits of a number: of sums, of one power of two, of what is above or below a place, and the lowest and the highest that is set.
-use Rattle.std.specs.Prelude.{◌≡◌, refl, Bool, true, false, not, ◌&&◌, ◌||◌, ℕ, zero, suc, ◌+◌, ◌-◌, ◌*◌, ◌/◌, ◌%◌, ◌^◌, ◌≤◌, ◌<◌, min, ltb}
+use Rattle.std.specs.Prelude.{◌≡◌, refl, Bool, true, false, not, ◌&&◌, ◌||◌, ℕ, zero, suc, ◌+◌, ◌-◌, ◌*◌, ◌/◌, ◌%◌, ◌^◌, ◌≤◌, ◌<◌, ltb}
 use Rattle.std.proofs.Common.{sym, ap₂, ◌∙◌, subst, true≢false, not-suc-le-zero, le_of_suc-le-suc, mod-lt, div-add-mod', zero-lt-suc, div-lt_iff_lt-mul, le-div_iff_mul-le, div-one, lt_of_lt_of_le, one-mul, pow-suc, arith, add-one, one-add, eqb-true, ne_eqb, lt-ltb, le-ltb, ltb-true, lit<, shl_exact, pow_pos, pow_mono, shr_lt, shr-shr}
 use Rattle.std.proofs.Math.Path.{ap}
 use Rattle.std.proofs.lemmas.Bool.{false≢true}

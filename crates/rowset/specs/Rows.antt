@@ -3,7 +3,7 @@ use Rattle.std.specs.Prelude.{◌≡◌, Bool, true, not, ◌&&◌, ◌||◌, Li
 use Rattle.std.proofs.Math.Path.{refl}
 use Rattle.std.proofs.Common.{sym, ap, ◌∙◌, zero-add, arith, eqb-true, eq-eqb, lt-ltb, le-ltb, le-leb, ltb-true, lit<}
 use Rattle.std.specs.Int.Bits.{bit_and, bit_or, bit_xor}
-use Rattle.definition.specs.Rows.{from, those, mem, is_in, is_empty, union, intersection, minus, same, is_set}
+use Rattle.definition.specs.Rows.{from, mem, is_in, is_empty, union, intersection, minus, same, is_set}
 use Rattle.definition.specs.Compiled.{word, words}
 use Rattle.laws.specs.Bools.{both_ways, not_so, no, and4}
 use Rattle.laws.specs.Sets.{Ascends, ascends_ext, ascends_those, mem_those, those_low, mem_union, mem_intersection, mem_minus, ascends_union, ascends_intersection, ascends_minus, ascends_from, mem_from}

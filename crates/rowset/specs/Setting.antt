@@ -5,8 +5,8 @@ use Rattle.std.proofs.Common.{◌∙◌, arith, eqb-true, eq-eqb, ne_eqb}
 use Prim.Native.Nat.{ℕ, zero, suc, ◌+◌, ◌-◌, ◌*◌, ◌/◌, ◌%◌, ◌^◌, ◌≤◌, ◌<◌}
 use Rattle.std.specs.Int.Bits.{bit_or}
 use Rattle.std.proofs.Math.Dec.{eqb}
-use Rattle.definition.specs.Rows.{mem, insert}
-use Rattle.laws.specs.Bools.{bool_case, eq_case, or_false, both_ways}
+use Rattle.definition.specs.Rows.{insert}
+use Rattle.laws.specs.Bools.{eq_case, both_ways}
 use Rattle.laws.specs.Sets.{ascends_ext, ascends_insert, mem_insert}
 use Rattle.rowset.specs.declared.RowSet.{RowSet}
 use Rattle.rowset.specs.Member.{bit, word_of, member, rows_of}

@@ -7,9 +7,10 @@ ghost use Rattle.definition.specs.Rows.{fold, backwards};
 ghost use Rattle.rowset.specs.Member.{rows_of};
 ghost use Rattle.rowset_run.specs.Count.{more};
 
-use libc::STDOUT_FILENO;
 use numbers::Row;
 use rowset::{Found, RowSet};
+use std::io;
+use std::io::{ErrorKind, Read};
 
 fn digit(b: u8) -> u64 {
     if 48 <= b && b <= 57 {
@@ -24,13 +25,11 @@ fn digit(b: u8) -> u64 {
 fn number_at(line: &[u8], at: usize, digits: u64) -> u64 {
     let mut v: u64 = 0;
     let mut i = at;
-    let mut left = digits;
-    while left > 0 {
+    for _ in 0..digits {
         if i < line.len() {
             v = (v << 4) | digit(line[i]);
             i += 1;
         }
-        left -= 1;
     }
     v
 }
@@ -83,96 +82,95 @@ fn count_down(s: RowSet) -> u64
     }
 }
 
-fn show_test(b: bool) {
+fn show_test(rt: &impl Print, b: bool) -> io::Result<()> {
     if b {
-        io::write_all(STDOUT_FILENO, b"1");
-    } else {
-        io::write_all(STDOUT_FILENO, b"0");
+        return rt.write_all(b"1");
     }
+    rt.write_all(b"0")
 }
 
-fn show_found(f: Found) {
+fn show_found(rt: &impl Print, f: Found) -> io::Result<()> {
     match f {
-        Found::At(r) => {
-            io::write_all(STDOUT_FILENO, b" ");
-            io::print_decimal(STDOUT_FILENO, r.0 as u64);
-        }
-        Found::Nothing => {
-            io::write_all(STDOUT_FILENO, b" -");
-        }
+        Found::At(r) => show_count(rt, r.0 as u64),
+        Found::Nothing => rt.write_all(b" -"),
     }
 }
 
-fn show_count(n: u64) {
-    io::write_all(STDOUT_FILENO, b" ");
-    io::print_decimal(STDOUT_FILENO, n);
+fn show_count(rt: &impl Print, n: u64) -> io::Result<()> {
+    print!(rt; " {n}")
 }
 
-fn show_set(s: RowSet) {
-    io::write_all(STDOUT_FILENO, b" ");
-    io::print_hex(STDOUT_FILENO, s.w0, 1);
-    io::write_all(STDOUT_FILENO, b".");
-    io::print_hex(STDOUT_FILENO, s.w1, 1);
-    io::write_all(STDOUT_FILENO, b".");
-    io::print_hex(STDOUT_FILENO, s.w2, 1);
-    io::write_all(STDOUT_FILENO, b".");
-    io::print_hex(STDOUT_FILENO, s.w3, 1);
+fn show_set(rt: &impl Print, s: RowSet) -> io::Result<()> {
+    let w0 = s.w0;
+    let w1 = s.w1;
+    let w2 = s.w2;
+    let w3 = s.w3;
+    print!(rt; " {w0:x}.{w1:x}.{w2:x}.{w3:x}")
 }
 
-fn show_tests(a: RowSet, b: RowSet, r: Row) {
-    show_test(a.has(r));
-    show_test(a.meets(b));
-    show_test(a.subset(b));
-    show_test(a.same(b));
-    show_test(a.is_empty());
-    show_test(a.is_single());
+fn show_tests(rt: &impl Print, a: RowSet, b: RowSet, r: Row) -> io::Result<()> {
+    show_test(rt, a.has(r))?;
+    show_test(rt, a.meets(b))?;
+    show_test(rt, a.subset(b))?;
+    show_test(rt, a.same(b))?;
+    show_test(rt, a.is_empty())?;
+    show_test(rt, a.is_single())
 }
 
-fn show_searches(a: RowSet, k: u16) {
-    show_found(a.first());
-    show_found(a.next_from(k));
-    show_found(a.prev_below(k));
-    show_count(count_up(a));
-    show_count(count_down(a));
+fn show_searches(rt: &impl Print, a: RowSet, k: u16) -> io::Result<()> {
+    show_found(rt, a.first())?;
+    show_found(rt, a.next_from(k))?;
+    show_found(rt, a.prev_below(k))?;
+    show_count(rt, count_up(a))?;
+    show_count(rt, count_down(a))
 }
 
-fn show_sets(a: RowSet, b: RowSet, r: Row, k: u16) {
-    show_set(RowSet::empty());
-    show_set(RowSet::single(r));
-    show_set(RowSet::below(k));
-    show_set(a.with(r));
-    show_set(a.without(r));
-    show_set(a.union(b));
-    show_set(a.intersection(b));
-    show_set(a.minus(b));
+fn show_sets(rt: &impl Print, a: RowSet, b: RowSet, r: Row, k: u16) -> io::Result<()> {
+    show_set(rt, RowSet::empty())?;
+    show_set(rt, RowSet::single(r))?;
+    show_set(rt, RowSet::below(k))?;
+    show_set(rt, a.with(r))?;
+    show_set(rt, a.without(r))?;
+    show_set(rt, a.union(b))?;
+    show_set(rt, a.intersection(b))?;
+    show_set(rt, a.minus(b))
 }
 
-fn show_case(line: &[u8]) {
+fn show_case(rt: &impl Print, line: &[u8]) -> io::Result<()> {
     let a = set_at(line, 0);
     let b = set_at(line, 68);
     let r = Row((number_at(line, 136, 2) % 256) as u8);
     let k = (number_at(line, 139, 4) % 65536) as u16;
-    show_tests(a, b, r);
-    show_searches(a, k);
-    show_sets(a, b, r, k);
-    io::write_all(STDOUT_FILENO, b"\n");
+    show_tests(rt, a, b, r)?;
+    show_searches(rt, a, k)?;
+    show_sets(rt, a, b, r, k)?;
+    rt.write_all(b"\n")
 }
 
 // Reads a line and shows its case, and answers whether there was one.
-fn next_case() -> bool {
+fn next_case(rt: &impl Print, input: &mut impl Read) -> io::Result<bool> {
     let mut line = [0u8; 144];
-    let n = io::read_full(0, &mut line);
-    if n < 144 {
-        return false;
+    match input.read_exact(&mut line) {
+        Ok(()) => {
+            show_case(rt, &line)?;
+            Ok(true)
+        }
+        Err(e) => {
+            if e.kind() == ErrorKind::UnexpectedEof {
+                return Ok(false);
+            }
+            Err(e)
+        }
     }
-    show_case(&line[..n]);
-    true
 }
 
 // A loop ends by a count, since nothing says that the input does.
-fn main() {
-    let mut left: u64 = 100000;
-    while left > 0 && next_case() {
-        left -= 1;
+fn main(rt: HostRuntime) -> io::Result<()> {
+    let mut input = rt.reader();
+    for _ in 0..100000u64 {
+        if !next_case(&rt, &mut input)? {
+            return Ok(());
+        }
     }
+    Ok(())
 }

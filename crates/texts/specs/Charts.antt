@@ -17,12 +17,12 @@ text_if_elseif_else =
     ∷ 111 ∷ 110 ∷ 100 ∷ 61 ∷ 34 ∷ 73 ∷ 110 ∷ 40 ∷ 39 ∷ 115 ∷ 39 ∷ 41 ∷ 34 ∷ 47 ∷ 62 ∷ 60 ∷ 47 ∷ 105 ∷ 102 ∷ 62 ∷ 60 ∷ 47 ∷ 111 ∷ 110 ∷ 101 ∷ 110 ∷ 116
     ∷ 114 ∷ 121 ∷ 62 ∷ 60 ∷ 47 ∷ 115 ∷ 116 ∷ 97 ∷ 116 ∷ 101 ∷ 62 ∷ 60 ∷ 47 ∷ 115 ∷ 99 ∷ 120 ∷ 109 ∷ 108 ∷ 62 ∷ []
 
-pub if-elseif-else :
-    read_of text_if_elseif_else ≡ tables (3 ∷ 0 ∷ 0 ∷ 0 ∷ 8 ∷ 3 ∷ 0 ∷ 65535 ∷ 65535 ∷ 0 ∷ 0 ∷ 0 ∷ 0 ∷ 0 ∷ 0 ∷ 0 ∷ 0 ∷ 1 ∷ 0 ∷ 0 ∷ 0 ∷ 0 ∷ 0 ∷ 0 ∷ 0 ∷ 0
-    ∷ 0 ∷ 0 ∷ 1 ∷ 0 ∷ 1 ∷ 0 ∷ 8 ∷ 8 ∷ 0 ∷ 0 ∷ 0 ∷ 8 ∷ 0 ∷ 2 ∷ 1 ∷ 0 ∷ 0 ∷ 0 ∷ 2 ∷ 0 ∷ 0 ∷ 3 ∷ 2 ∷ 0 ∷ 0 ∷ 1 ∷ 2 ∷ 0 ∷ 0 ∷ 4 ∷ 0 ∷ 0 ∷ 0 ∷ 2 ∷ 1 ∷ 0 ∷
-    0 ∷ 5 ∷ 0 ∷ 0 ∷ 0 ∷ 5 ∷ 0 ∷ 0 ∷ 0 ∷ []) (names_of ((115 ∷ []) ∷ (116 ∷ []) ∷ (120 ∷ []) ∷ []))
+pub if_elseif_else :
+    read_of text_if_elseif_else ≡ tables (3 ∷ 0 ∷ 0 ∷ 0 ∷ 8 ∷ 3 ∷ 0 ∷ 65535 ∷ 65535 ∷ 0 ∷ 0 ∷ 0 ∷ 0 ∷ 0 ∷ 0 ∷ 0 ∷ 0 ∷ 1 ∷ 0 ∷ 0 ∷ 0 ∷ 0 ∷ 0 ∷ 0 ∷ 0 ∷
+    0 ∷ 0 ∷ 0 ∷ 1 ∷ 0 ∷ 1 ∷ 0 ∷ 8 ∷ 8 ∷ 0 ∷ 0 ∷ 0 ∷ 8 ∷ 0 ∷ 2 ∷ 1 ∷ 0 ∷ 0 ∷ 0 ∷ 2 ∷ 0 ∷ 0 ∷ 3 ∷ 2 ∷ 0 ∷ 0 ∷ 1 ∷ 2 ∷ 0 ∷ 0 ∷ 4 ∷ 0 ∷ 0 ∷ 0 ∷ 2 ∷ 1 ∷ 0
+    ∷ 0 ∷ 5 ∷ 0 ∷ 0 ∷ 0 ∷ 5 ∷ 0 ∷ 0 ∷ 0 ∷ []) (names_of ((115 ∷ []) ∷ (116 ∷ []) ∷ (120 ∷ []) ∷ []))
 unfolding everything
-if-elseif-else = refl
+if_elseif_else = refl
 
 abbrev written_if_elseif_else : List ℕ
 written_if_elseif_else =
@@ -36,15 +36,15 @@ written_if_elseif_else =
     ∷ 99 ∷ 111 ∷ 110 ∷ 100 ∷ 61 ∷ 34 ∷ 73 ∷ 110 ∷ 40 ∷ 39 ∷ 115 ∷ 39 ∷ 41 ∷ 34 ∷ 47 ∷ 62 ∷ 60 ∷ 47 ∷ 105 ∷ 102 ∷ 62 ∷ 60 ∷ 47 ∷ 111 ∷ 110 ∷ 101 ∷ 110
     ∷ 116 ∷ 114 ∷ 121 ∷ 62 ∷ 60 ∷ 47 ∷ 115 ∷ 116 ∷ 97 ∷ 116 ∷ 101 ∷ 62 ∷ 60 ∷ 47 ∷ 115 ∷ 99 ∷ 120 ∷ 109 ∷ 108 ∷ 62 ∷ []
 
-pub print-if-elseif-else :
+pub print_if_elseif_else :
     print (content_of (tags_of text_if_elseif_else)) ≡ written_if_elseif_else
 unfolding everything
-print-if-elseif-else = refl
+print_if_elseif_else = refl
 
-pub again-if-elseif-else :
+pub again_if_elseif_else :
     content_of (tags_of written_if_elseif_else) ≡ content_of (tags_of text_if_elseif_else)
 unfolding everything
-again-if-elseif-else = refl
+again_if_elseif_else = refl
 
 -- <scxml><state id='s'/><state id='t'><onentry><send id='k' event='x' delay='5'/><cancel sendid='k'/></onentry></state></scxml>
 abbrev text_send_and_cancel : List ℕ
@@ -55,12 +55,12 @@ text_send_and_cancel =
     ∷ 99 ∷ 97 ∷ 110 ∷ 99 ∷ 101 ∷ 108 ∷ 32 ∷ 115 ∷ 101 ∷ 110 ∷ 100 ∷ 105 ∷ 100 ∷ 61 ∷ 39 ∷ 107 ∷ 39 ∷ 47 ∷ 62 ∷ 60 ∷ 47 ∷ 111 ∷ 110 ∷ 101 ∷ 110 ∷ 116 ∷
     114 ∷ 121 ∷ 62 ∷ 60 ∷ 47 ∷ 115 ∷ 116 ∷ 97 ∷ 116 ∷ 101 ∷ 62 ∷ 60 ∷ 47 ∷ 115 ∷ 99 ∷ 120 ∷ 109 ∷ 108 ∷ 62 ∷ []
 
-pub send-and-cancel :
+pub send_and_cancel :
     read_of text_send_and_cancel ≡ tables (3 ∷ 0 ∷ 0 ∷ 0 ∷ 2 ∷ 4 ∷ 0 ∷ 65535 ∷ 65535 ∷ 0 ∷ 0 ∷ 0 ∷ 0 ∷ 0 ∷ 0 ∷ 0 ∷ 0 ∷ 1 ∷ 0 ∷ 0 ∷ 0 ∷ 0 ∷ 0 ∷ 0 ∷ 0 ∷
     0 ∷ 0 ∷ 0 ∷ 1 ∷ 0 ∷ 1 ∷ 0 ∷ 2 ∷ 2 ∷ 0 ∷ 0 ∷ 0 ∷ 2 ∷ 0 ∷ 6 ∷ 3 ∷ 5 ∷ 2 ∷ 7 ∷ 2 ∷ 0 ∷ 0 ∷ []) (names_of ((115 ∷ []) ∷ (116 ∷ []) ∷ (107 ∷ []) ∷ (120
     ∷ []) ∷ []))
 unfolding everything
-send-and-cancel = refl
+send_and_cancel = refl
 
 abbrev written_send_and_cancel : List ℕ
 written_send_and_cancel =
@@ -72,15 +72,15 @@ written_send_and_cancel =
     60 ∷ 99 ∷ 97 ∷ 110 ∷ 99 ∷ 101 ∷ 108 ∷ 32 ∷ 115 ∷ 101 ∷ 110 ∷ 100 ∷ 105 ∷ 100 ∷ 61 ∷ 34 ∷ 107 ∷ 34 ∷ 47 ∷ 62 ∷ 60 ∷ 47 ∷ 111 ∷ 110 ∷ 101 ∷ 110 ∷
     116 ∷ 114 ∷ 121 ∷ 62 ∷ 60 ∷ 47 ∷ 115 ∷ 116 ∷ 97 ∷ 116 ∷ 101 ∷ 62 ∷ 60 ∷ 47 ∷ 115 ∷ 99 ∷ 120 ∷ 109 ∷ 108 ∷ 62 ∷ []
 
-pub print-send-and-cancel :
+pub print_send_and_cancel :
     print (content_of (tags_of text_send_and_cancel)) ≡ written_send_and_cancel
 unfolding everything
-print-send-and-cancel = refl
+print_send_and_cancel = refl
 
-pub again-send-and-cancel :
+pub again_send_and_cancel :
     content_of (tags_of written_send_and_cancel) ≡ content_of (tags_of text_send_and_cancel)
 unfolding everything
-again-send-and-cancel = refl
+again_send_and_cancel = refl
 
 -- <scxml><state id='t'><onexit><send event='x'/><send delay='004294967295' event='t'/><send event='x' delay='0' id='9'/><send id='9' event='9'></send><cancel sendid='t'></cancel></onexit></state></scxml>
 abbrev text_sends : List ℕ
@@ -113,15 +113,15 @@ written_sends =
     110 ∷ 99 ∷ 101 ∷ 108 ∷ 32 ∷ 115 ∷ 101 ∷ 110 ∷ 100 ∷ 105 ∷ 100 ∷ 61 ∷ 34 ∷ 116 ∷ 34 ∷ 47 ∷ 62 ∷ 60 ∷ 47 ∷ 111 ∷ 110 ∷ 101 ∷ 120 ∷ 105 ∷ 116 ∷ 62 ∷
     60 ∷ 47 ∷ 115 ∷ 116 ∷ 97 ∷ 116 ∷ 101 ∷ 62 ∷ 60 ∷ 47 ∷ 115 ∷ 99 ∷ 120 ∷ 109 ∷ 108 ∷ 62 ∷ []
 
-pub print-sends :
+pub print_sends :
     print (content_of (tags_of text_sends)) ≡ written_sends
 unfolding everything
-print-sends = refl
+print_sends = refl
 
-pub again-sends :
+pub again_sends :
     content_of (tags_of written_sends) ≡ content_of (tags_of text_sends)
 unfolding everything
-again-sends = refl
+again_sends = refl
 
 -- <scxml><!--\x7f--><state id='a'/></scxml>
 abbrev text_delete_byte : List ℕ
@@ -129,11 +129,11 @@ text_delete_byte =
     60 ∷ 115 ∷ 99 ∷ 120 ∷ 109 ∷ 108 ∷ 62 ∷ 60 ∷ 33 ∷ 45 ∷ 45 ∷ 127 ∷ 45 ∷ 45 ∷ 62 ∷ 60 ∷ 115 ∷ 116 ∷ 97 ∷ 116 ∷ 101 ∷ 32 ∷ 105 ∷ 100 ∷ 61 ∷ 39 ∷ 97 ∷
     39 ∷ 47 ∷ 62 ∷ 60 ∷ 47 ∷ 115 ∷ 99 ∷ 120 ∷ 109 ∷ 108 ∷ 62 ∷ []
 
-pub delete-byte :
+pub delete_byte :
     read_of text_delete_byte ≡ tables (2 ∷ 0 ∷ 0 ∷ 0 ∷ 0 ∷ 1 ∷ 0 ∷ 65535 ∷ 65535 ∷ 0 ∷ 0 ∷ 0 ∷ 0 ∷ 0 ∷ 0 ∷ 0 ∷ 0 ∷ 1 ∷ 0 ∷ 0 ∷ 0 ∷ 0 ∷ 0 ∷ 0 ∷ 0 ∷ 0 ∷
     0 ∷ 0 ∷ []) (names_of ((97 ∷ []) ∷ []))
 unfolding everything
-delete-byte = refl
+delete_byte = refl
 
 abbrev written_delete_byte : List ℕ
 written_delete_byte =
@@ -142,15 +142,15 @@ written_delete_byte =
     ∷ 110 ∷ 61 ∷ 34 ∷ 49 ∷ 46 ∷ 48 ∷ 34 ∷ 62 ∷ 60 ∷ 115 ∷ 116 ∷ 97 ∷ 116 ∷ 101 ∷ 32 ∷ 105 ∷ 100 ∷ 61 ∷ 34 ∷ 97 ∷ 34 ∷ 47 ∷ 62 ∷ 60 ∷ 47 ∷ 115 ∷ 99 ∷
     120 ∷ 109 ∷ 108 ∷ 62 ∷ []
 
-pub print-delete-byte :
+pub print_delete_byte :
     print (content_of (tags_of text_delete_byte)) ≡ written_delete_byte
 unfolding everything
-print-delete-byte = refl
+print_delete_byte = refl
 
-pub again-delete-byte :
+pub again_delete_byte :
     content_of (tags_of written_delete_byte) ≡ content_of (tags_of text_delete_byte)
 unfolding everything
-again-delete-byte = refl
+again_delete_byte = refl
 
 --  <scxml  version = '1.0' >\x0a<state\x09id='a' /> </scxml >
 abbrev text_white_space : List ℕ
@@ -158,11 +158,11 @@ text_white_space =
     32 ∷ 60 ∷ 115 ∷ 99 ∷ 120 ∷ 109 ∷ 108 ∷ 32 ∷ 32 ∷ 118 ∷ 101 ∷ 114 ∷ 115 ∷ 105 ∷ 111 ∷ 110 ∷ 32 ∷ 61 ∷ 32 ∷ 39 ∷ 49 ∷ 46 ∷ 48 ∷ 39 ∷ 32 ∷ 62 ∷ 10 ∷
     60 ∷ 115 ∷ 116 ∷ 97 ∷ 116 ∷ 101 ∷ 9 ∷ 105 ∷ 100 ∷ 61 ∷ 39 ∷ 97 ∷ 39 ∷ 32 ∷ 47 ∷ 62 ∷ 32 ∷ 60 ∷ 47 ∷ 115 ∷ 99 ∷ 120 ∷ 109 ∷ 108 ∷ 32 ∷ 62 ∷ 32 ∷ []
 
-pub white-space :
+pub white_space :
     read_of text_white_space ≡ tables (2 ∷ 0 ∷ 0 ∷ 0 ∷ 0 ∷ 1 ∷ 0 ∷ 65535 ∷ 65535 ∷ 0 ∷ 0 ∷ 0 ∷ 0 ∷ 0 ∷ 0 ∷ 0 ∷ 0 ∷ 1 ∷ 0 ∷ 0 ∷ 0 ∷ 0 ∷ 0 ∷ 0 ∷ 0 ∷ 0 ∷
     0 ∷ 0 ∷ []) (names_of ((97 ∷ []) ∷ []))
 unfolding everything
-white-space = refl
+white_space = refl
 
 abbrev written_white_space : List ℕ
 written_white_space =
@@ -171,15 +171,15 @@ written_white_space =
     ∷ 110 ∷ 61 ∷ 34 ∷ 49 ∷ 46 ∷ 48 ∷ 34 ∷ 62 ∷ 60 ∷ 115 ∷ 116 ∷ 97 ∷ 116 ∷ 101 ∷ 32 ∷ 105 ∷ 100 ∷ 61 ∷ 34 ∷ 97 ∷ 34 ∷ 47 ∷ 62 ∷ 60 ∷ 47 ∷ 115 ∷ 99 ∷
     120 ∷ 109 ∷ 108 ∷ 62 ∷ []
 
-pub print-white-space :
+pub print_white_space :
     print (content_of (tags_of text_white_space)) ≡ written_white_space
 unfolding everything
-print-white-space = refl
+print_white_space = refl
 
-pub again-white-space :
+pub again_white_space :
     content_of (tags_of written_white_space) ≡ content_of (tags_of text_white_space)
 unfolding everything
-again-white-space = refl
+again_white_space = refl
 
 -- <!-- a --><scxml><state id='a'/><!---a--></scxml><!---->
 abbrev text_comments : List ℕ
@@ -189,8 +189,8 @@ text_comments =
     ∷ []
 
 pub comments :
-    read_of text_comments ≡ tables (2 ∷ 0 ∷ 0 ∷ 0 ∷ 0 ∷ 1 ∷ 0 ∷ 65535 ∷ 65535 ∷ 0 ∷ 0 ∷ 0 ∷ 0 ∷ 0 ∷ 0 ∷ 0 ∷ 0 ∷ 1 ∷ 0 ∷ 0 ∷ 0 ∷ 0 ∷ 0 ∷ 0 ∷ 0 ∷ 0 ∷ 0 ∷
-    0 ∷ []) (names_of ((97 ∷ []) ∷ []))
+    read_of text_comments ≡ tables (2 ∷ 0 ∷ 0 ∷ 0 ∷ 0 ∷ 1 ∷ 0 ∷ 65535 ∷ 65535 ∷ 0 ∷ 0 ∷ 0 ∷ 0 ∷ 0 ∷ 0 ∷ 0 ∷ 0 ∷ 1 ∷ 0 ∷ 0 ∷ 0 ∷ 0 ∷ 0 ∷ 0 ∷ 0 ∷ 0 ∷ 0
+    ∷ 0 ∷ []) (names_of ((97 ∷ []) ∷ []))
 unfolding everything
 comments = refl
 
@@ -201,15 +201,15 @@ written_comments =
     ∷ 110 ∷ 61 ∷ 34 ∷ 49 ∷ 46 ∷ 48 ∷ 34 ∷ 62 ∷ 60 ∷ 115 ∷ 116 ∷ 97 ∷ 116 ∷ 101 ∷ 32 ∷ 105 ∷ 100 ∷ 61 ∷ 34 ∷ 97 ∷ 34 ∷ 47 ∷ 62 ∷ 60 ∷ 47 ∷ 115 ∷ 99 ∷
     120 ∷ 109 ∷ 108 ∷ 62 ∷ []
 
-pub print-comments :
+pub print_comments :
     print (content_of (tags_of text_comments)) ≡ written_comments
 unfolding everything
-print-comments = refl
+print_comments = refl
 
-pub again-comments :
+pub again_comments :
     content_of (tags_of written_comments) ≡ content_of (tags_of text_comments)
 unfolding everything
-again-comments = refl
+again_comments = refl
 
 -- <scxml><state id='s'/><state id='t'><transition event='e' cond='In(&apos;s&apos;)'/></state></scxml>
 abbrev text_apostrophes : List ℕ
@@ -235,15 +235,15 @@ written_apostrophes =
     ∷ 116 ∷ 61 ∷ 34 ∷ 101 ∷ 34 ∷ 32 ∷ 99 ∷ 111 ∷ 110 ∷ 100 ∷ 61 ∷ 34 ∷ 73 ∷ 110 ∷ 40 ∷ 39 ∷ 115 ∷ 39 ∷ 41 ∷ 34 ∷ 47 ∷ 62 ∷ 60 ∷ 47 ∷ 115 ∷ 116 ∷ 97 ∷
     116 ∷ 101 ∷ 62 ∷ 60 ∷ 47 ∷ 115 ∷ 99 ∷ 120 ∷ 109 ∷ 108 ∷ 62 ∷ []
 
-pub print-apostrophes :
+pub print_apostrophes :
     print (content_of (tags_of text_apostrophes)) ≡ written_apostrophes
 unfolding everything
-print-apostrophes = refl
+print_apostrophes = refl
 
-pub again-apostrophes :
+pub again_apostrophes :
     content_of (tags_of written_apostrophes) ≡ content_of (tags_of text_apostrophes)
 unfolding everything
-again-apostrophes = refl
+again_apostrophes = refl
 
 -- <scxml><state id='a'><onentry/><onexit></onexit></state></scxml>
 abbrev text_empty_elements : List ℕ
@@ -252,11 +252,11 @@ text_empty_elements =
     116 ∷ 114 ∷ 121 ∷ 47 ∷ 62 ∷ 60 ∷ 111 ∷ 110 ∷ 101 ∷ 120 ∷ 105 ∷ 116 ∷ 62 ∷ 60 ∷ 47 ∷ 111 ∷ 110 ∷ 101 ∷ 120 ∷ 105 ∷ 116 ∷ 62 ∷ 60 ∷ 47 ∷ 115 ∷ 116 ∷
     97 ∷ 116 ∷ 101 ∷ 62 ∷ 60 ∷ 47 ∷ 115 ∷ 99 ∷ 120 ∷ 109 ∷ 108 ∷ 62 ∷ []
 
-pub empty-elements :
-    read_of text_empty_elements ≡ tables (2 ∷ 0 ∷ 0 ∷ 0 ∷ 0 ∷ 1 ∷ 0 ∷ 65535 ∷ 65535 ∷ 0 ∷ 0 ∷ 0 ∷ 0 ∷ 0 ∷ 0 ∷ 0 ∷ 0 ∷ 1 ∷ 0 ∷ 0 ∷ 0 ∷ 0 ∷ 0 ∷ 0 ∷ 0 ∷ 0
-    ∷ 0 ∷ 0 ∷ []) (names_of ((97 ∷ []) ∷ []))
+pub empty_elements :
+    read_of text_empty_elements ≡ tables (2 ∷ 0 ∷ 0 ∷ 0 ∷ 0 ∷ 1 ∷ 0 ∷ 65535 ∷ 65535 ∷ 0 ∷ 0 ∷ 0 ∷ 0 ∷ 0 ∷ 0 ∷ 0 ∷ 0 ∷ 1 ∷ 0 ∷ 0 ∷ 0 ∷ 0 ∷ 0 ∷ 0 ∷ 0 ∷
+    0 ∷ 0 ∷ 0 ∷ []) (names_of ((97 ∷ []) ∷ []))
 unfolding everything
-empty-elements = refl
+empty_elements = refl
 
 abbrev written_empty_elements : List ℕ
 written_empty_elements =
@@ -265,15 +265,15 @@ written_empty_elements =
     ∷ 110 ∷ 61 ∷ 34 ∷ 49 ∷ 46 ∷ 48 ∷ 34 ∷ 62 ∷ 60 ∷ 115 ∷ 116 ∷ 97 ∷ 116 ∷ 101 ∷ 32 ∷ 105 ∷ 100 ∷ 61 ∷ 34 ∷ 97 ∷ 34 ∷ 47 ∷ 62 ∷ 60 ∷ 47 ∷ 115 ∷ 99 ∷
     120 ∷ 109 ∷ 108 ∷ 62 ∷ []
 
-pub print-empty-elements :
+pub print_empty_elements :
     print (content_of (tags_of text_empty_elements)) ≡ written_empty_elements
 unfolding everything
-print-empty-elements = refl
+print_empty_elements = refl
 
-pub again-empty-elements :
+pub again_empty_elements :
     content_of (tags_of written_empty_elements) ≡ content_of (tags_of text_empty_elements)
 unfolding everything
-again-empty-elements = refl
+again_empty_elements = refl
 
 -- <scxml><state id='a'><initial><transition target='b'><raise event='x'/></transition></initial><state id='b'/></state></scxml>
 abbrev text_initial_element : List ℕ
@@ -300,15 +300,15 @@ written_initial_element =
     105 ∷ 116 ∷ 105 ∷ 111 ∷ 110 ∷ 62 ∷ 60 ∷ 47 ∷ 105 ∷ 110 ∷ 105 ∷ 116 ∷ 105 ∷ 97 ∷ 108 ∷ 62 ∷ 60 ∷ 115 ∷ 116 ∷ 97 ∷ 116 ∷ 101 ∷ 32 ∷ 105 ∷ 100 ∷ 61 ∷
     34 ∷ 98 ∷ 34 ∷ 47 ∷ 62 ∷ 60 ∷ 47 ∷ 115 ∷ 116 ∷ 97 ∷ 116 ∷ 101 ∷ 62 ∷ 60 ∷ 47 ∷ 115 ∷ 99 ∷ 120 ∷ 109 ∷ 108 ∷ 62 ∷ []
 
-pub print-initial-element :
+pub print_initial_element :
     print (content_of (tags_of text_initial_element)) ≡ written_initial_element
 unfolding everything
-print-initial-element = refl
+print_initial_element = refl
 
-pub again-initial-element :
+pub again_initial_element :
     content_of (tags_of written_initial_element) ≡ content_of (tags_of text_initial_element)
 unfolding everything
-again-initial-element = refl
+again_initial_element = refl
 
 -- <scxml><state id='a'><history type='deep' id='h'><transition target='c'><log label='3'/></transition></history><state id='b'><state id='c'/></state></state></scxml>
 abbrev text_deep_history : List ℕ
@@ -321,12 +321,12 @@ text_deep_history =
     32 ∷ 105 ∷ 100 ∷ 61 ∷ 39 ∷ 99 ∷ 39 ∷ 47 ∷ 62 ∷ 60 ∷ 47 ∷ 115 ∷ 116 ∷ 97 ∷ 116 ∷ 101 ∷ 62 ∷ 60 ∷ 47 ∷ 115 ∷ 116 ∷ 97 ∷ 116 ∷ 101 ∷ 62 ∷ 60 ∷ 47 ∷
     115 ∷ 99 ∷ 120 ∷ 109 ∷ 108 ∷ 62 ∷ []
 
-pub deep-history :
-    read_of text_deep_history ≡ tables (5 ∷ 0 ∷ 1 ∷ 0 ∷ 1 ∷ 4 ∷ 0 ∷ 65535 ∷ 65535 ∷ 0 ∷ 0 ∷ 0 ∷ 0 ∷ 0 ∷ 0 ∷ 0 ∷ 0 ∷ 1 ∷ 0 ∷ 0 ∷ 0 ∷ 0 ∷ 0 ∷ 0 ∷ 0 ∷ 0 ∷
-    0 ∷ 0 ∷ 5 ∷ 1 ∷ 1 ∷ 0 ∷ 0 ∷ 0 ∷ 0 ∷ 0 ∷ 1 ∷ 0 ∷ 1 ∷ 1 ∷ 1 ∷ 2 ∷ 1 ∷ 0 ∷ 1 ∷ 0 ∷ 1 ∷ 0 ∷ 1 ∷ 0 ∷ 1 ∷ 3 ∷ 3 ∷ 1 ∷ 0 ∷ 1 ∷ 0 ∷ 1 ∷ 0 ∷ 1 ∷ 0 ∷ 4 ∷ 1
-    ∷ 3 ∷ 0 ∷ 0 ∷ []) (names_of ((97 ∷ []) ∷ (104 ∷ []) ∷ (98 ∷ []) ∷ (99 ∷ []) ∷ []))
+pub deep_history :
+    read_of text_deep_history ≡ tables (5 ∷ 0 ∷ 1 ∷ 0 ∷ 1 ∷ 4 ∷ 0 ∷ 65535 ∷ 65535 ∷ 0 ∷ 0 ∷ 0 ∷ 0 ∷ 0 ∷ 0 ∷ 0 ∷ 0 ∷ 1 ∷ 0 ∷ 0 ∷ 0 ∷ 0 ∷ 0 ∷ 0 ∷ 0 ∷ 0
+    ∷ 0 ∷ 0 ∷ 5 ∷ 1 ∷ 1 ∷ 0 ∷ 0 ∷ 0 ∷ 0 ∷ 0 ∷ 1 ∷ 0 ∷ 1 ∷ 1 ∷ 1 ∷ 2 ∷ 1 ∷ 0 ∷ 1 ∷ 0 ∷ 1 ∷ 0 ∷ 1 ∷ 0 ∷ 1 ∷ 3 ∷ 3 ∷ 1 ∷ 0 ∷ 1 ∷ 0 ∷ 1 ∷ 0 ∷ 1 ∷ 0 ∷ 4 ∷
+    1 ∷ 3 ∷ 0 ∷ 0 ∷ []) (names_of ((97 ∷ []) ∷ (104 ∷ []) ∷ (98 ∷ []) ∷ (99 ∷ []) ∷ []))
 unfolding everything
-deep-history = refl
+deep_history = refl
 
 abbrev written_deep_history : List ℕ
 written_deep_history =
@@ -340,15 +340,15 @@ written_deep_history =
     101 ∷ 32 ∷ 105 ∷ 100 ∷ 61 ∷ 34 ∷ 99 ∷ 34 ∷ 47 ∷ 62 ∷ 60 ∷ 47 ∷ 115 ∷ 116 ∷ 97 ∷ 116 ∷ 101 ∷ 62 ∷ 60 ∷ 47 ∷ 115 ∷ 116 ∷ 97 ∷ 116 ∷ 101 ∷ 62 ∷ 60 ∷
     47 ∷ 115 ∷ 99 ∷ 120 ∷ 109 ∷ 108 ∷ 62 ∷ []
 
-pub print-deep-history :
+pub print_deep_history :
     print (content_of (tags_of text_deep_history)) ≡ written_deep_history
 unfolding everything
-print-deep-history = refl
+print_deep_history = refl
 
-pub again-deep-history :
+pub again_deep_history :
     content_of (tags_of written_deep_history) ≡ content_of (tags_of text_deep_history)
 unfolding everything
-again-deep-history = refl
+again_deep_history = refl
 
 -- <scxml><state id='s'/><state id='t'><transition event=' a.b  c.* *\x09' target=' s '/></state></scxml>
 abbrev text_descriptors : List ℕ
@@ -374,15 +374,15 @@ written_descriptors =
     ∷ 116 ∷ 61 ∷ 34 ∷ 97 ∷ 46 ∷ 98 ∷ 32 ∷ 99 ∷ 46 ∷ 42 ∷ 32 ∷ 42 ∷ 34 ∷ 32 ∷ 116 ∷ 97 ∷ 114 ∷ 103 ∷ 101 ∷ 116 ∷ 61 ∷ 34 ∷ 115 ∷ 34 ∷ 47 ∷ 62 ∷ 60 ∷ 47
     ∷ 115 ∷ 116 ∷ 97 ∷ 116 ∷ 101 ∷ 62 ∷ 60 ∷ 47 ∷ 115 ∷ 99 ∷ 120 ∷ 109 ∷ 108 ∷ 62 ∷ []
 
-pub print-descriptors :
+pub print_descriptors :
     print (content_of (tags_of text_descriptors)) ≡ written_descriptors
 unfolding everything
-print-descriptors = refl
+print_descriptors = refl
 
-pub again-descriptors :
+pub again_descriptors :
     content_of (tags_of written_descriptors) ≡ content_of (tags_of text_descriptors)
 unfolding everything
-again-descriptors = refl
+again_descriptors = refl
 
 -- <scxml><state id='a'><onentry><log label='000065535'/></onentry></state></scxml>
 abbrev text_label_with_zeros : List ℕ
@@ -392,11 +392,11 @@ text_label_with_zeros =
     ∷ 60 ∷ 47 ∷ 111 ∷ 110 ∷ 101 ∷ 110 ∷ 116 ∷ 114 ∷ 121 ∷ 62 ∷ 60 ∷ 47 ∷ 115 ∷ 116 ∷ 97 ∷ 116 ∷ 101 ∷ 62 ∷ 60 ∷ 47 ∷ 115 ∷ 99 ∷ 120 ∷ 109 ∷ 108 ∷ 62 ∷
     []
 
-pub label-with-zeros :
-    read_of text_label_with_zeros ≡ tables (2 ∷ 0 ∷ 0 ∷ 0 ∷ 1 ∷ 1 ∷ 0 ∷ 65535 ∷ 65535 ∷ 0 ∷ 0 ∷ 0 ∷ 0 ∷ 0 ∷ 0 ∷ 0 ∷ 0 ∷ 1 ∷ 0 ∷ 0 ∷ 0 ∷ 1 ∷ 1 ∷ 0 ∷ 0 ∷
-    0 ∷ 1 ∷ 0 ∷ 1 ∷ 65535 ∷ 0 ∷ 0 ∷ []) (names_of ((97 ∷ []) ∷ []))
+pub label_with_zeros :
+    read_of text_label_with_zeros ≡ tables (2 ∷ 0 ∷ 0 ∷ 0 ∷ 1 ∷ 1 ∷ 0 ∷ 65535 ∷ 65535 ∷ 0 ∷ 0 ∷ 0 ∷ 0 ∷ 0 ∷ 0 ∷ 0 ∷ 0 ∷ 1 ∷ 0 ∷ 0 ∷ 0 ∷ 1 ∷ 1 ∷ 0 ∷ 0
+    ∷ 0 ∷ 1 ∷ 0 ∷ 1 ∷ 65535 ∷ 0 ∷ 0 ∷ []) (names_of ((97 ∷ []) ∷ []))
 unfolding everything
-label-with-zeros = refl
+label_with_zeros = refl
 
 abbrev written_label_with_zeros : List ℕ
 written_label_with_zeros =
@@ -406,15 +406,15 @@ written_label_with_zeros =
     ∷ 116 ∷ 114 ∷ 121 ∷ 62 ∷ 60 ∷ 108 ∷ 111 ∷ 103 ∷ 32 ∷ 108 ∷ 97 ∷ 98 ∷ 101 ∷ 108 ∷ 61 ∷ 34 ∷ 54 ∷ 53 ∷ 53 ∷ 51 ∷ 53 ∷ 34 ∷ 47 ∷ 62 ∷ 60 ∷ 47 ∷ 111 ∷
     110 ∷ 101 ∷ 110 ∷ 116 ∷ 114 ∷ 121 ∷ 62 ∷ 60 ∷ 47 ∷ 115 ∷ 116 ∷ 97 ∷ 116 ∷ 101 ∷ 62 ∷ 60 ∷ 47 ∷ 115 ∷ 99 ∷ 120 ∷ 109 ∷ 108 ∷ 62 ∷ []
 
-pub print-label-with-zeros :
+pub print_label_with_zeros :
     print (content_of (tags_of text_label_with_zeros)) ≡ written_label_with_zeros
 unfolding everything
-print-label-with-zeros = refl
+print_label_with_zeros = refl
 
-pub again-label-with-zeros :
+pub again_label_with_zeros :
     content_of (tags_of written_label_with_zeros) ≡ content_of (tags_of text_label_with_zeros)
 unfolding everything
-again-label-with-zeros = refl
+again_label_with_zeros = refl
 
 -- <scxml initial='b'><state id='a'/><state id='b'/></scxml>
 abbrev text_forward_reference : List ℕ
@@ -423,11 +423,11 @@ text_forward_reference =
     105 ∷ 100 ∷ 61 ∷ 39 ∷ 97 ∷ 39 ∷ 47 ∷ 62 ∷ 60 ∷ 115 ∷ 116 ∷ 97 ∷ 116 ∷ 101 ∷ 32 ∷ 105 ∷ 100 ∷ 61 ∷ 39 ∷ 98 ∷ 39 ∷ 47 ∷ 62 ∷ 60 ∷ 47 ∷ 115 ∷ 99 ∷
     120 ∷ 109 ∷ 108 ∷ 62 ∷ []
 
-pub forward-reference :
+pub forward_reference :
     read_of text_forward_reference ≡ tables (3 ∷ 0 ∷ 1 ∷ 0 ∷ 0 ∷ 2 ∷ 0 ∷ 65535 ∷ 65535 ∷ 0 ∷ 0 ∷ 0 ∷ 0 ∷ 0 ∷ 1 ∷ 0 ∷ 0 ∷ 1 ∷ 0 ∷ 0 ∷ 0 ∷ 0 ∷ 0 ∷ 0 ∷ 1
     ∷ 0 ∷ 0 ∷ 0 ∷ 1 ∷ 0 ∷ 1 ∷ 0 ∷ 0 ∷ 0 ∷ 0 ∷ 1 ∷ 0 ∷ 0 ∷ 0 ∷ 2 ∷ []) (names_of ((97 ∷ []) ∷ (98 ∷ []) ∷ []))
 unfolding everything
-forward-reference = refl
+forward_reference = refl
 
 abbrev written_forward_reference : List ℕ
 written_forward_reference =
@@ -437,15 +437,15 @@ written_forward_reference =
     ∷ 105 ∷ 100 ∷ 61 ∷ 34 ∷ 97 ∷ 34 ∷ 47 ∷ 62 ∷ 60 ∷ 115 ∷ 116 ∷ 97 ∷ 116 ∷ 101 ∷ 32 ∷ 105 ∷ 100 ∷ 61 ∷ 34 ∷ 98 ∷ 34 ∷ 47 ∷ 62 ∷ 60 ∷ 47 ∷ 115 ∷ 99 ∷
     120 ∷ 109 ∷ 108 ∷ 62 ∷ []
 
-pub print-forward-reference :
+pub print_forward_reference :
     print (content_of (tags_of text_forward_reference)) ≡ written_forward_reference
 unfolding everything
-print-forward-reference = refl
+print_forward_reference = refl
 
-pub again-forward-reference :
+pub again_forward_reference :
     content_of (tags_of written_forward_reference) ≡ content_of (tags_of text_forward_reference)
 unfolding everything
-again-forward-reference = refl
+again_forward_reference = refl
 
 -- <scxml><state id='a'><state id='b'><transition event='x' target='a'/></state><transition event='y x' target='b'/><onexit><raise event='z'/></onexit><onentry><log label='1'/></onentry><onentry><raise event='b'/></onentry></state></scxml>
 abbrev text_order : List ℕ
@@ -482,15 +482,15 @@ written_order =
     ∷ 114 ∷ 103 ∷ 101 ∷ 116 ∷ 61 ∷ 34 ∷ 97 ∷ 34 ∷ 47 ∷ 62 ∷ 60 ∷ 47 ∷ 115 ∷ 116 ∷ 97 ∷ 116 ∷ 101 ∷ 62 ∷ 60 ∷ 47 ∷ 115 ∷ 116 ∷ 97 ∷ 116 ∷ 101 ∷ 62 ∷ 60
     ∷ 47 ∷ 115 ∷ 99 ∷ 120 ∷ 109 ∷ 108 ∷ 62 ∷ []
 
-pub print-order :
+pub print_order :
     print (content_of (tags_of text_order)) ≡ written_order
 unfolding everything
-print-order = refl
+print_order = refl
 
-pub again-order :
+pub again_order :
     content_of (tags_of written_order) ≡ content_of (tags_of text_order)
 unfolding everything
-again-order = refl
+again_order = refl
 
 -- <scxml xmlns="http://www.w3.org/2005/07/scxml" version="1.0"><parallel id="p"><transition event="done.state.p" target="someOtherState"/><state id="S1" initial="S11"><state id="S11"><transition event="e4" target="S12"/></state><state id="S12"><transition event="e1" target="S1Final"/></state><final id="S1Final"/></state><state id="S2" initial="S21"><state id="S21"><transition event="e1" target="S22"/></state><state id="S22"><transition event="e2" target="S2Final"/></state><final id="S2Final"/></state></parallel><state id="someOtherState"/></scxml>
 abbrev text_chart_a : List ℕ
@@ -554,15 +554,15 @@ written_chart_a =
     ∷ 47 ∷ 112 ∷ 97 ∷ 114 ∷ 97 ∷ 108 ∷ 108 ∷ 101 ∷ 108 ∷ 62 ∷ 60 ∷ 115 ∷ 116 ∷ 97 ∷ 116 ∷ 101 ∷ 32 ∷ 105 ∷ 100 ∷ 61 ∷ 34 ∷ 115 ∷ 111 ∷ 109 ∷ 101 ∷ 79
     ∷ 116 ∷ 104 ∷ 101 ∷ 114 ∷ 83 ∷ 116 ∷ 97 ∷ 116 ∷ 101 ∷ 34 ∷ 47 ∷ 62 ∷ 60 ∷ 47 ∷ 115 ∷ 99 ∷ 120 ∷ 109 ∷ 108 ∷ 62 ∷ []
 
-pub print-chart-a :
+pub print_chart_a :
     print (content_of (tags_of text_chart_a)) ≡ written_chart_a
 unfolding everything
-print-chart-a = refl
+print_chart_a = refl
 
-pub again-chart-a :
+pub again_chart_a :
     content_of (tags_of written_chart_a) ≡ content_of (tags_of text_chart_a)
 unfolding everything
-again-chart-a = refl
+again_chart_a = refl
 
 -- <scxml initial='door'><state id='door'><onentry><log label='1'/></onentry><initial><transition target='open'><log label='2'/></transition></initial><transition type='internal' event='reset' target='closed'/><history id='h'><transition target='closed'/></history><state id='open'><transition event='close' target='closed'><raise event='did.close'/></transition></state><state id='closed'><transition event='key' cond="In('closed')" target='open'/></state></state><final id='off'/></scxml>
 abbrev text_door : List ℕ
@@ -588,12 +588,12 @@ text_door =
     ∷ 32 ∷ 105 ∷ 100 ∷ 61 ∷ 39 ∷ 111 ∷ 102 ∷ 102 ∷ 39 ∷ 47 ∷ 62 ∷ 60 ∷ 47 ∷ 115 ∷ 99 ∷ 120 ∷ 109 ∷ 108 ∷ 62 ∷ []
 
 pub door :
-    read_of text_door ≡ tables (6 ∷ 3 ∷ 6 ∷ 3 ∷ 3 ∷ 9 ∷ 0 ∷ 65535 ∷ 65535 ∷ 0 ∷ 0 ∷ 0 ∷ 0 ∷ 0 ∷ 1 ∷ 0 ∷ 0 ∷ 1 ∷ 0 ∷ 0 ∷ 0 ∷ 1 ∷ 1 ∷ 0 ∷ 1 ∷ 1 ∷ 1 ∷ 1 ∷
-    4 ∷ 1 ∷ 2 ∷ 2 ∷ 0 ∷ 2 ∷ 0 ∷ 2 ∷ 1 ∷ 2 ∷ 0 ∷ 1 ∷ 1 ∷ 3 ∷ 2 ∷ 0 ∷ 2 ∷ 0 ∷ 3 ∷ 0 ∷ 2 ∷ 0 ∷ 1 ∷ 1 ∷ 6 ∷ 2 ∷ 0 ∷ 2 ∷ 0 ∷ 3 ∷ 0 ∷ 2 ∷ 0 ∷ 3 ∷ 0 ∷ 8 ∷ 2
-    ∷ 0 ∷ 2 ∷ 0 ∷ 3 ∷ 0 ∷ 2 ∷ 0 ∷ 1 ∷ 0 ∷ 1 ∷ 65535 ∷ 1 ∷ 3 ∷ 1 ∷ 2 ∷ 0 ∷ 3 ∷ 1 ∷ 1 ∷ 65535 ∷ 0 ∷ 4 ∷ 1 ∷ 2 ∷ 1 ∷ 4 ∷ 2 ∷ 1 ∷ 4 ∷ 0 ∷ 5 ∷ 1 ∷ 3 ∷ 0 ∷
-    1 ∷ 3 ∷ 4 ∷ 4 ∷ 4 ∷ 3 ∷ 1 ∷ 4 ∷ 7 ∷ 1 ∷ 1 ∷ 0 ∷ 0 ∷ 1 ∷ 2 ∷ 0 ∷ 0 ∷ 0 ∷ 5 ∷ 0 ∷ 0 ∷ []) (names_of ((100 ∷ 111 ∷ 111 ∷ 114 ∷ []) ∷ (114 ∷ 101 ∷ 115
-    ∷ 101 ∷ 116 ∷ []) ∷ (104 ∷ []) ∷ (111 ∷ 112 ∷ 101 ∷ 110 ∷ []) ∷ (99 ∷ 108 ∷ 111 ∷ 115 ∷ 101 ∷ []) ∷ (100 ∷ 105 ∷ 100 ∷ 46 ∷ 99 ∷ 108 ∷ 111 ∷ 115 ∷
-    101 ∷ []) ∷ (99 ∷ 108 ∷ 111 ∷ 115 ∷ 101 ∷ 100 ∷ []) ∷ (107 ∷ 101 ∷ 121 ∷ []) ∷ (111 ∷ 102 ∷ 102 ∷ []) ∷ []))
+    read_of text_door ≡ tables (6 ∷ 3 ∷ 6 ∷ 3 ∷ 3 ∷ 9 ∷ 0 ∷ 65535 ∷ 65535 ∷ 0 ∷ 0 ∷ 0 ∷ 0 ∷ 0 ∷ 1 ∷ 0 ∷ 0 ∷ 1 ∷ 0 ∷ 0 ∷ 0 ∷ 1 ∷ 1 ∷ 0 ∷ 1 ∷ 1 ∷ 1 ∷ 1
+    ∷ 4 ∷ 1 ∷ 2 ∷ 2 ∷ 0 ∷ 2 ∷ 0 ∷ 2 ∷ 1 ∷ 2 ∷ 0 ∷ 1 ∷ 1 ∷ 3 ∷ 2 ∷ 0 ∷ 2 ∷ 0 ∷ 3 ∷ 0 ∷ 2 ∷ 0 ∷ 1 ∷ 1 ∷ 6 ∷ 2 ∷ 0 ∷ 2 ∷ 0 ∷ 3 ∷ 0 ∷ 2 ∷ 0 ∷ 3 ∷ 0 ∷ 8 ∷
+    2 ∷ 0 ∷ 2 ∷ 0 ∷ 3 ∷ 0 ∷ 2 ∷ 0 ∷ 1 ∷ 0 ∷ 1 ∷ 65535 ∷ 1 ∷ 3 ∷ 1 ∷ 2 ∷ 0 ∷ 3 ∷ 1 ∷ 1 ∷ 65535 ∷ 0 ∷ 4 ∷ 1 ∷ 2 ∷ 1 ∷ 4 ∷ 2 ∷ 1 ∷ 4 ∷ 0 ∷ 5 ∷ 1 ∷ 3 ∷ 0
+    ∷ 1 ∷ 3 ∷ 4 ∷ 4 ∷ 4 ∷ 3 ∷ 1 ∷ 4 ∷ 7 ∷ 1 ∷ 1 ∷ 0 ∷ 0 ∷ 1 ∷ 2 ∷ 0 ∷ 0 ∷ 0 ∷ 5 ∷ 0 ∷ 0 ∷ []) (names_of ((100 ∷ 111 ∷ 111 ∷ 114 ∷ []) ∷ (114 ∷ 101 ∷
+    115 ∷ 101 ∷ 116 ∷ []) ∷ (104 ∷ []) ∷ (111 ∷ 112 ∷ 101 ∷ 110 ∷ []) ∷ (99 ∷ 108 ∷ 111 ∷ 115 ∷ 101 ∷ []) ∷ (100 ∷ 105 ∷ 100 ∷ 46 ∷ 99 ∷ 108 ∷ 111 ∷
+    115 ∷ 101 ∷ []) ∷ (99 ∷ 108 ∷ 111 ∷ 115 ∷ 101 ∷ 100 ∷ []) ∷ (107 ∷ 101 ∷ 121 ∷ []) ∷ (111 ∷ 102 ∷ 102 ∷ []) ∷ []))
 unfolding everything
 door = refl
 
@@ -621,15 +621,15 @@ written_door =
     112 ∷ 101 ∷ 110 ∷ 34 ∷ 47 ∷ 62 ∷ 60 ∷ 47 ∷ 115 ∷ 116 ∷ 97 ∷ 116 ∷ 101 ∷ 62 ∷ 60 ∷ 47 ∷ 115 ∷ 116 ∷ 97 ∷ 116 ∷ 101 ∷ 62 ∷ 60 ∷ 102 ∷ 105 ∷ 110 ∷ 97
     ∷ 108 ∷ 32 ∷ 105 ∷ 100 ∷ 61 ∷ 34 ∷ 111 ∷ 102 ∷ 102 ∷ 34 ∷ 47 ∷ 62 ∷ 60 ∷ 47 ∷ 115 ∷ 99 ∷ 120 ∷ 109 ∷ 108 ∷ 62 ∷ []
 
-pub print-door :
+pub print_door :
     print (content_of (tags_of text_door)) ≡ written_door
 unfolding everything
-print-door = refl
+print_door = refl
 
-pub again-door :
+pub again_door :
     content_of (tags_of written_door) ≡ content_of (tags_of text_door)
 unfolding everything
-again-door = refl
+again_door = refl
 
 -- <scxml><state id='a'><history id='h' type='deep'><transition target='b'/></history><state id='b'/></state></scxml>
 abbrev text_deep_default : List ℕ
@@ -640,12 +640,12 @@ text_deep_default =
     116 ∷ 111 ∷ 114 ∷ 121 ∷ 62 ∷ 60 ∷ 115 ∷ 116 ∷ 97 ∷ 116 ∷ 101 ∷ 32 ∷ 105 ∷ 100 ∷ 61 ∷ 39 ∷ 98 ∷ 39 ∷ 47 ∷ 62 ∷ 60 ∷ 47 ∷ 115 ∷ 116 ∷ 97 ∷ 116 ∷ 101
     ∷ 62 ∷ 60 ∷ 47 ∷ 115 ∷ 99 ∷ 120 ∷ 109 ∷ 108 ∷ 62 ∷ []
 
-pub deep-default :
-    read_of text_deep_default ≡ tables (4 ∷ 0 ∷ 1 ∷ 0 ∷ 0 ∷ 3 ∷ 0 ∷ 65535 ∷ 65535 ∷ 0 ∷ 0 ∷ 0 ∷ 0 ∷ 0 ∷ 0 ∷ 0 ∷ 0 ∷ 1 ∷ 0 ∷ 0 ∷ 0 ∷ 0 ∷ 0 ∷ 0 ∷ 0 ∷ 0 ∷
-    0 ∷ 0 ∷ 5 ∷ 1 ∷ 1 ∷ 0 ∷ 0 ∷ 0 ∷ 0 ∷ 0 ∷ 1 ∷ 0 ∷ 0 ∷ 1 ∷ 1 ∷ 2 ∷ 0 ∷ 0 ∷ 0 ∷ 0 ∷ 1 ∷ 0 ∷ 0 ∷ 0 ∷ 3 ∷ []) (names_of ((97 ∷ []) ∷ (104 ∷ []) ∷ (98 ∷
-    []) ∷ []))
+pub deep_default :
+    read_of text_deep_default ≡ tables (4 ∷ 0 ∷ 1 ∷ 0 ∷ 0 ∷ 3 ∷ 0 ∷ 65535 ∷ 65535 ∷ 0 ∷ 0 ∷ 0 ∷ 0 ∷ 0 ∷ 0 ∷ 0 ∷ 0 ∷ 1 ∷ 0 ∷ 0 ∷ 0 ∷ 0 ∷ 0 ∷ 0 ∷ 0 ∷ 0
+    ∷ 0 ∷ 0 ∷ 5 ∷ 1 ∷ 1 ∷ 0 ∷ 0 ∷ 0 ∷ 0 ∷ 0 ∷ 1 ∷ 0 ∷ 0 ∷ 1 ∷ 1 ∷ 2 ∷ 0 ∷ 0 ∷ 0 ∷ 0 ∷ 1 ∷ 0 ∷ 0 ∷ 0 ∷ 3 ∷ []) (names_of ((97 ∷ []) ∷ (104 ∷ []) ∷ (98
+    ∷ []) ∷ []))
 unfolding everything
-deep-default = refl
+deep_default = refl
 
 abbrev written_deep_default : List ℕ
 written_deep_default =
@@ -657,15 +657,15 @@ written_deep_default =
     116 ∷ 111 ∷ 114 ∷ 121 ∷ 62 ∷ 60 ∷ 115 ∷ 116 ∷ 97 ∷ 116 ∷ 101 ∷ 32 ∷ 105 ∷ 100 ∷ 61 ∷ 34 ∷ 98 ∷ 34 ∷ 47 ∷ 62 ∷ 60 ∷ 47 ∷ 115 ∷ 116 ∷ 97 ∷ 116 ∷ 101
     ∷ 62 ∷ 60 ∷ 47 ∷ 115 ∷ 99 ∷ 120 ∷ 109 ∷ 108 ∷ 62 ∷ []
 
-pub print-deep-default :
+pub print_deep_default :
     print (content_of (tags_of text_deep_default)) ≡ written_deep_default
 unfolding everything
-print-deep-default = refl
+print_deep_default = refl
 
-pub again-deep-default :
+pub again_deep_default :
     content_of (tags_of written_deep_default) ≡ content_of (tags_of text_deep_default)
 unfolding everything
-again-deep-default = refl
+again_deep_default = refl
 
 -- <scxml initial='a'><state id='a'/></scxml>
 abbrev text_stated_first_child : List ℕ
@@ -673,11 +673,11 @@ text_stated_first_child =
     60 ∷ 115 ∷ 99 ∷ 120 ∷ 109 ∷ 108 ∷ 32 ∷ 105 ∷ 110 ∷ 105 ∷ 116 ∷ 105 ∷ 97 ∷ 108 ∷ 61 ∷ 39 ∷ 97 ∷ 39 ∷ 62 ∷ 60 ∷ 115 ∷ 116 ∷ 97 ∷ 116 ∷ 101 ∷ 32 ∷
     105 ∷ 100 ∷ 61 ∷ 39 ∷ 97 ∷ 39 ∷ 47 ∷ 62 ∷ 60 ∷ 47 ∷ 115 ∷ 99 ∷ 120 ∷ 109 ∷ 108 ∷ 62 ∷ []
 
-pub stated-first-child :
-    read_of text_stated_first_child ≡ tables (2 ∷ 0 ∷ 1 ∷ 0 ∷ 0 ∷ 1 ∷ 0 ∷ 65535 ∷ 65535 ∷ 0 ∷ 0 ∷ 0 ∷ 0 ∷ 0 ∷ 1 ∷ 0 ∷ 0 ∷ 1 ∷ 0 ∷ 0 ∷ 0 ∷ 0 ∷ 0 ∷ 0 ∷ 1
-    ∷ 0 ∷ 0 ∷ 0 ∷ 1 ∷ []) (names_of ((97 ∷ []) ∷ []))
+pub stated_first_child :
+    read_of text_stated_first_child ≡ tables (2 ∷ 0 ∷ 1 ∷ 0 ∷ 0 ∷ 1 ∷ 0 ∷ 65535 ∷ 65535 ∷ 0 ∷ 0 ∷ 0 ∷ 0 ∷ 0 ∷ 1 ∷ 0 ∷ 0 ∷ 1 ∷ 0 ∷ 0 ∷ 0 ∷ 0 ∷ 0 ∷ 0 ∷
+    1 ∷ 0 ∷ 0 ∷ 0 ∷ 1 ∷ []) (names_of ((97 ∷ []) ∷ []))
 unfolding everything
-stated-first-child = refl
+stated_first_child = refl
 
 abbrev written_stated_first_child : List ℕ
 written_stated_first_child =
@@ -686,12 +686,12 @@ written_stated_first_child =
     ∷ 110 ∷ 61 ∷ 34 ∷ 49 ∷ 46 ∷ 48 ∷ 34 ∷ 32 ∷ 105 ∷ 110 ∷ 105 ∷ 116 ∷ 105 ∷ 97 ∷ 108 ∷ 61 ∷ 34 ∷ 97 ∷ 34 ∷ 62 ∷ 60 ∷ 115 ∷ 116 ∷ 97 ∷ 116 ∷ 101 ∷ 32
     ∷ 105 ∷ 100 ∷ 61 ∷ 34 ∷ 97 ∷ 34 ∷ 47 ∷ 62 ∷ 60 ∷ 47 ∷ 115 ∷ 99 ∷ 120 ∷ 109 ∷ 108 ∷ 62 ∷ []
 
-pub print-stated-first-child :
+pub print_stated_first_child :
     print (content_of (tags_of text_stated_first_child)) ≡ written_stated_first_child
 unfolding everything
-print-stated-first-child = refl
+print_stated_first_child = refl
 
-pub again-stated-first-child :
+pub again_stated_first_child :
     content_of (tags_of written_stated_first_child) ≡ content_of (tags_of text_stated_first_child)
 unfolding everything
-again-stated-first-child = refl
+again_stated_first_child = refl

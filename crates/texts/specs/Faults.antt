@@ -7,19 +7,19 @@ use Rattle.reading.specs.Print.{print}
 use Rattle.texts.specs.Opened.{everything}
 
 -- <scxml><state/><bad/></scxml>
-pub grammar-first :
-    read_of (60 ∷ 115 ∷ 99 ∷ 120 ∷ 109 ∷ 108 ∷ 62 ∷ 60 ∷ 115 ∷ 116 ∷ 97 ∷ 116 ∷ 101 ∷ 47 ∷ 62 ∷ 60 ∷ 98 ∷ 97 ∷ 100 ∷ 47 ∷ 62 ∷ 60 ∷ 47 ∷ 115 ∷ 99 ∷ 120
-    ∷ 109 ∷ 108 ∷ 62 ∷ []) ≡ faulty 16
+pub grammar_first :
+    read_of (60 ∷ 115 ∷ 99 ∷ 120 ∷ 109 ∷ 108 ∷ 62 ∷ 60 ∷ 115 ∷ 116 ∷ 97 ∷ 116 ∷ 101 ∷ 47 ∷ 62 ∷ 60 ∷ 98 ∷ 97 ∷ 100 ∷ 47 ∷ 62 ∷ 60 ∷ 47 ∷ 115 ∷ 99 ∷
+    120 ∷ 109 ∷ 108 ∷ 62 ∷ []) ≡ faulty 16
 unfolding everything
-grammar-first = refl
+grammar_first = refl
 
 -- <scxml><state id='a'><transition target='q'/></state><state/></scxml>
-pub least-fault :
+pub least_fault :
     read_of (60 ∷ 115 ∷ 99 ∷ 120 ∷ 109 ∷ 108 ∷ 62 ∷ 60 ∷ 115 ∷ 116 ∷ 97 ∷ 116 ∷ 101 ∷ 32 ∷ 105 ∷ 100 ∷ 61 ∷ 39 ∷ 97 ∷ 39 ∷ 62 ∷ 60 ∷ 116 ∷ 114 ∷ 97 ∷
     110 ∷ 115 ∷ 105 ∷ 116 ∷ 105 ∷ 111 ∷ 110 ∷ 32 ∷ 116 ∷ 97 ∷ 114 ∷ 103 ∷ 101 ∷ 116 ∷ 61 ∷ 39 ∷ 113 ∷ 39 ∷ 47 ∷ 62 ∷ 60 ∷ 47 ∷ 115 ∷ 116 ∷ 97 ∷ 116 ∷
     101 ∷ 62 ∷ 60 ∷ 115 ∷ 116 ∷ 97 ∷ 116 ∷ 101 ∷ 47 ∷ 62 ∷ 60 ∷ 47 ∷ 115 ∷ 99 ∷ 120 ∷ 109 ∷ 108 ∷ 62 ∷ []) ≡ faulty 41
 unfolding everything
-least-fault = refl
+least_fault = refl
 
 -- the empty text
 pub empty :
@@ -34,16 +34,16 @@ unfolding everything
 unclosed = refl
 
 -- \xef<scxml/>
-pub byte-order-mark :
+pub byte_order_mark :
     read_of (239 ∷ 60 ∷ 115 ∷ 99 ∷ 120 ∷ 109 ∷ 108 ∷ 47 ∷ 62 ∷ []) ≡ faulty 0
 unfolding everything
-byte-order-mark = refl
+byte_order_mark = refl
 
 -- <scxml>\x00</scxml>
-pub zero-byte :
+pub zero_byte :
     read_of (60 ∷ 115 ∷ 99 ∷ 120 ∷ 109 ∷ 108 ∷ 62 ∷ 0 ∷ 60 ∷ 47 ∷ 115 ∷ 99 ∷ 120 ∷ 109 ∷ 108 ∷ 62 ∷ []) ≡ faulty 7
 unfolding everything
-zero-byte = refl
+zero_byte = refl
 
 -- <?xml version='1.0'?>
 pub declaration :
@@ -64,141 +64,141 @@ unfolding everything
 cdata = refl
 
 -- <scxml xmlns='&#39;'/>
-pub character-reference :
+pub character_reference :
     read_of (60 ∷ 115 ∷ 99 ∷ 120 ∷ 109 ∷ 108 ∷ 32 ∷ 120 ∷ 109 ∷ 108 ∷ 110 ∷ 115 ∷ 61 ∷ 39 ∷ 38 ∷ 35 ∷ 51 ∷ 57 ∷ 59 ∷ 39 ∷ 47 ∷ 62 ∷ []) ≡ faulty 15
 unfolding everything
-character-reference = refl
+character_reference = refl
 
 -- <!-- a -- b --><scxml/>
-pub dashes-in-comment :
+pub dashes_in_comment :
     read_of (60 ∷ 33 ∷ 45 ∷ 45 ∷ 32 ∷ 97 ∷ 32 ∷ 45 ∷ 45 ∷ 32 ∷ 98 ∷ 32 ∷ 45 ∷ 45 ∷ 62 ∷ 60 ∷ 115 ∷ 99 ∷ 120 ∷ 109 ∷ 108 ∷ 47 ∷ 62 ∷ []) ≡ faulty 9
 unfolding everything
-dashes-in-comment = refl
+dashes_in_comment = refl
 
 -- <scxml>x</scxml>
-pub text-between-tags :
+pub text_between_tags :
     read_of (60 ∷ 115 ∷ 99 ∷ 120 ∷ 109 ∷ 108 ∷ 62 ∷ 120 ∷ 60 ∷ 47 ∷ 115 ∷ 99 ∷ 120 ∷ 109 ∷ 108 ∷ 62 ∷ []) ≡ faulty 7
 unfolding everything
-text-between-tags = refl
+text_between_tags = refl
 
 -- <scxml><state id='&apos;'/></scxml>
-pub entity-in-name :
+pub entity_in_name :
     read_of (60 ∷ 115 ∷ 99 ∷ 120 ∷ 109 ∷ 108 ∷ 62 ∷ 60 ∷ 115 ∷ 116 ∷ 97 ∷ 116 ∷ 101 ∷ 32 ∷ 105 ∷ 100 ∷ 61 ∷ 39 ∷ 38 ∷ 97 ∷ 112 ∷ 111 ∷ 115 ∷ 59 ∷ 39 ∷
     47 ∷ 62 ∷ 60 ∷ 47 ∷ 115 ∷ 99 ∷ 120 ∷ 109 ∷ 108 ∷ 62 ∷ []) ≡ faulty 18
 unfolding everything
-entity-in-name = refl
+entity_in_name = refl
 
 -- <scxml version='&lx;'/>
-pub other-entity :
+pub other_entity :
     read_of (60 ∷ 115 ∷ 99 ∷ 120 ∷ 109 ∷ 108 ∷ 32 ∷ 118 ∷ 101 ∷ 114 ∷ 115 ∷ 105 ∷ 111 ∷ 110 ∷ 61 ∷ 39 ∷ 38 ∷ 108 ∷ 120 ∷ 59 ∷ 39 ∷ 47 ∷ 62 ∷ []) ≡
     faulty 18
 unfolding everything
-other-entity = refl
+other_entity = refl
 
 -- <scxml><send event='x'/></scxml>
-pub send-in-row :
-    read_of (60 ∷ 115 ∷ 99 ∷ 120 ∷ 109 ∷ 108 ∷ 62 ∷ 60 ∷ 115 ∷ 101 ∷ 110 ∷ 100 ∷ 32 ∷ 101 ∷ 118 ∷ 101 ∷ 110 ∷ 116 ∷ 61 ∷ 39 ∷ 120 ∷ 39 ∷ 47 ∷ 62 ∷ 60 ∷
-    47 ∷ 115 ∷ 99 ∷ 120 ∷ 109 ∷ 108 ∷ 62 ∷ []) ≡ faulty 9
+pub send_in_row :
+    read_of (60 ∷ 115 ∷ 99 ∷ 120 ∷ 109 ∷ 108 ∷ 62 ∷ 60 ∷ 115 ∷ 101 ∷ 110 ∷ 100 ∷ 32 ∷ 101 ∷ 118 ∷ 101 ∷ 110 ∷ 116 ∷ 61 ∷ 39 ∷ 120 ∷ 39 ∷ 47 ∷ 62 ∷ 60
+    ∷ 47 ∷ 115 ∷ 99 ∷ 120 ∷ 109 ∷ 108 ∷ 62 ∷ []) ≡ faulty 9
 unfolding everything
-send-in-row = refl
+send_in_row = refl
 
 -- <scxml><raise event='a'/></scxml>
-pub raise-in-row :
+pub raise_in_row :
     read_of (60 ∷ 115 ∷ 99 ∷ 120 ∷ 109 ∷ 108 ∷ 62 ∷ 60 ∷ 114 ∷ 97 ∷ 105 ∷ 115 ∷ 101 ∷ 32 ∷ 101 ∷ 118 ∷ 101 ∷ 110 ∷ 116 ∷ 61 ∷ 39 ∷ 97 ∷ 39 ∷ 47 ∷ 62 ∷
     60 ∷ 47 ∷ 115 ∷ 99 ∷ 120 ∷ 109 ∷ 108 ∷ 62 ∷ []) ≡ faulty 8
 unfolding everything
-raise-in-row = refl
+raise_in_row = refl
 
 -- <scxml><state id='a'><onentry><send id='k'/>
-pub send-without-event :
+pub send_without_event :
     read_of (60 ∷ 115 ∷ 99 ∷ 120 ∷ 109 ∷ 108 ∷ 62 ∷ 60 ∷ 115 ∷ 116 ∷ 97 ∷ 116 ∷ 101 ∷ 32 ∷ 105 ∷ 100 ∷ 61 ∷ 39 ∷ 97 ∷ 39 ∷ 62 ∷ 60 ∷ 111 ∷ 110 ∷ 101 ∷
     110 ∷ 116 ∷ 114 ∷ 121 ∷ 62 ∷ 60 ∷ 115 ∷ 101 ∷ 110 ∷ 100 ∷ 32 ∷ 105 ∷ 100 ∷ 61 ∷ 39 ∷ 107 ∷ 39 ∷ 47 ∷ 62 ∷ []) ≡ faulty 42
 unfolding everything
-send-without-event = refl
+send_without_event = refl
 
 -- <scxml><state id='a'><onentry><cancel/>
-pub cancel-without-sendid :
+pub cancel_without_sendid :
     read_of (60 ∷ 115 ∷ 99 ∷ 120 ∷ 109 ∷ 108 ∷ 62 ∷ 60 ∷ 115 ∷ 116 ∷ 97 ∷ 116 ∷ 101 ∷ 32 ∷ 105 ∷ 100 ∷ 61 ∷ 39 ∷ 97 ∷ 39 ∷ 62 ∷ 60 ∷ 111 ∷ 110 ∷ 101 ∷
     110 ∷ 116 ∷ 114 ∷ 121 ∷ 62 ∷ 60 ∷ 99 ∷ 97 ∷ 110 ∷ 99 ∷ 101 ∷ 108 ∷ 47 ∷ 62 ∷ []) ≡ faulty 37
 unfolding everything
-cancel-without-sendid = refl
+cancel_without_sendid = refl
 
 -- <scxml><state id='a'><onentry><send sendid='k'
-pub sendid-of-a-send :
+pub sendid_of_a_send :
     read_of (60 ∷ 115 ∷ 99 ∷ 120 ∷ 109 ∷ 108 ∷ 62 ∷ 60 ∷ 115 ∷ 116 ∷ 97 ∷ 116 ∷ 101 ∷ 32 ∷ 105 ∷ 100 ∷ 61 ∷ 39 ∷ 97 ∷ 39 ∷ 62 ∷ 60 ∷ 111 ∷ 110 ∷ 101 ∷
     110 ∷ 116 ∷ 114 ∷ 121 ∷ 62 ∷ 60 ∷ 115 ∷ 101 ∷ 110 ∷ 100 ∷ 32 ∷ 115 ∷ 101 ∷ 110 ∷ 100 ∷ 105 ∷ 100 ∷ 61 ∷ 39 ∷ 107 ∷ 39 ∷ []) ≡ faulty 36
 unfolding everything
-sendid-of-a-send = refl
+sendid_of_a_send = refl
 
 -- <scxml><state id='a'><onentry><send event='a.*'
-pub descriptor-sent :
+pub descriptor_sent :
     read_of (60 ∷ 115 ∷ 99 ∷ 120 ∷ 109 ∷ 108 ∷ 62 ∷ 60 ∷ 115 ∷ 116 ∷ 97 ∷ 116 ∷ 101 ∷ 32 ∷ 105 ∷ 100 ∷ 61 ∷ 39 ∷ 97 ∷ 39 ∷ 62 ∷ 60 ∷ 111 ∷ 110 ∷ 101 ∷
     110 ∷ 116 ∷ 114 ∷ 121 ∷ 62 ∷ 60 ∷ 115 ∷ 101 ∷ 110 ∷ 100 ∷ 32 ∷ 101 ∷ 118 ∷ 101 ∷ 110 ∷ 116 ∷ 61 ∷ 39 ∷ 97 ∷ 46 ∷ 42 ∷ 39 ∷ []) ≡ faulty 45
 unfolding everything
-descriptor-sent = refl
+descriptor_sent = refl
 
 -- <scxml><state id='a' initial='b'><initial>
-pub initial-twice :
-    read_of (60 ∷ 115 ∷ 99 ∷ 120 ∷ 109 ∷ 108 ∷ 62 ∷ 60 ∷ 115 ∷ 116 ∷ 97 ∷ 116 ∷ 101 ∷ 32 ∷ 105 ∷ 100 ∷ 61 ∷ 39 ∷ 97 ∷ 39 ∷ 32 ∷ 105 ∷ 110 ∷ 105 ∷ 116 ∷
-    105 ∷ 97 ∷ 108 ∷ 61 ∷ 39 ∷ 98 ∷ 39 ∷ 62 ∷ 60 ∷ 105 ∷ 110 ∷ 105 ∷ 116 ∷ 105 ∷ 97 ∷ 108 ∷ 62 ∷ []) ≡ faulty 34
+pub initial_twice :
+    read_of (60 ∷ 115 ∷ 99 ∷ 120 ∷ 109 ∷ 108 ∷ 62 ∷ 60 ∷ 115 ∷ 116 ∷ 97 ∷ 116 ∷ 101 ∷ 32 ∷ 105 ∷ 100 ∷ 61 ∷ 39 ∷ 97 ∷ 39 ∷ 32 ∷ 105 ∷ 110 ∷ 105 ∷ 116
+    ∷ 105 ∷ 97 ∷ 108 ∷ 61 ∷ 39 ∷ 98 ∷ 39 ∷ 62 ∷ 60 ∷ 105 ∷ 110 ∷ 105 ∷ 116 ∷ 105 ∷ 97 ∷ 108 ∷ 62 ∷ []) ≡ faulty 34
 unfolding everything
-initial-twice = refl
+initial_twice = refl
 
 -- <scxml><state id='a'><initial></
-pub initial-without-transition :
+pub initial_without_transition :
     read_of (60 ∷ 115 ∷ 99 ∷ 120 ∷ 109 ∷ 108 ∷ 62 ∷ 60 ∷ 115 ∷ 116 ∷ 97 ∷ 116 ∷ 101 ∷ 32 ∷ 105 ∷ 100 ∷ 61 ∷ 39 ∷ 97 ∷ 39 ∷ 62 ∷ 60 ∷ 105 ∷ 110 ∷ 105 ∷
     116 ∷ 105 ∷ 97 ∷ 108 ∷ 62 ∷ 60 ∷ 47 ∷ []) ≡ faulty 31
 unfolding everything
-initial-without-transition = refl
+initial_without_transition = refl
 
 -- <scxml><state id='a'><initial/>
-pub initial-empty-tag :
+pub initial_empty_tag :
     read_of (60 ∷ 115 ∷ 99 ∷ 120 ∷ 109 ∷ 108 ∷ 62 ∷ 60 ∷ 115 ∷ 116 ∷ 97 ∷ 116 ∷ 101 ∷ 32 ∷ 105 ∷ 100 ∷ 61 ∷ 39 ∷ 97 ∷ 39 ∷ 62 ∷ 60 ∷ 105 ∷ 110 ∷ 105 ∷
     116 ∷ 105 ∷ 97 ∷ 108 ∷ 47 ∷ 62 ∷ []) ≡ faulty 29
 unfolding everything
-initial-empty-tag = refl
+initial_empty_tag = refl
 
 -- <scxml><state id='a'><initial><transition event='e'
-pub initial-with-event :
+pub initial_with_event :
     read_of (60 ∷ 115 ∷ 99 ∷ 120 ∷ 109 ∷ 108 ∷ 62 ∷ 60 ∷ 115 ∷ 116 ∷ 97 ∷ 116 ∷ 101 ∷ 32 ∷ 105 ∷ 100 ∷ 61 ∷ 39 ∷ 97 ∷ 39 ∷ 62 ∷ 60 ∷ 105 ∷ 110 ∷ 105 ∷
     116 ∷ 105 ∷ 97 ∷ 108 ∷ 62 ∷ 60 ∷ 116 ∷ 114 ∷ 97 ∷ 110 ∷ 115 ∷ 105 ∷ 116 ∷ 105 ∷ 111 ∷ 110 ∷ 32 ∷ 101 ∷ 118 ∷ 101 ∷ 110 ∷ 116 ∷ 61 ∷ 39 ∷ 101 ∷ 39
     ∷ []) ≡ faulty 42
 unfolding everything
-initial-with-event = refl
+initial_with_event = refl
 
 -- <scxml><initial>
-pub initial-of-root :
+pub initial_of_root :
     read_of (60 ∷ 115 ∷ 99 ∷ 120 ∷ 109 ∷ 108 ∷ 62 ∷ 60 ∷ 105 ∷ 110 ∷ 105 ∷ 116 ∷ 105 ∷ 97 ∷ 108 ∷ 62 ∷ []) ≡ faulty 8
 unfolding everything
-initial-of-root = refl
+initial_of_root = refl
 
 -- <scxml><state id='a' id='b'/></scxml>
-pub id-twice :
+pub id_twice :
     read_of (60 ∷ 115 ∷ 99 ∷ 120 ∷ 109 ∷ 108 ∷ 62 ∷ 60 ∷ 115 ∷ 116 ∷ 97 ∷ 116 ∷ 101 ∷ 32 ∷ 105 ∷ 100 ∷ 61 ∷ 39 ∷ 97 ∷ 39 ∷ 32 ∷ 105 ∷ 100 ∷ 61 ∷ 39 ∷
     98 ∷ 39 ∷ 47 ∷ 62 ∷ 60 ∷ 47 ∷ 115 ∷ 99 ∷ 120 ∷ 109 ∷ 108 ∷ 62 ∷ []) ≡ faulty 22
 unfolding everything
-id-twice = refl
+id_twice = refl
 
 -- <scxml><state id='a'><onentry><raise/>
-pub raise-without-event :
+pub raise_without_event :
     read_of (60 ∷ 115 ∷ 99 ∷ 120 ∷ 109 ∷ 108 ∷ 62 ∷ 60 ∷ 115 ∷ 116 ∷ 97 ∷ 116 ∷ 101 ∷ 32 ∷ 105 ∷ 100 ∷ 61 ∷ 39 ∷ 97 ∷ 39 ∷ 62 ∷ 60 ∷ 111 ∷ 110 ∷ 101 ∷
     110 ∷ 116 ∷ 114 ∷ 121 ∷ 62 ∷ 60 ∷ 114 ∷ 97 ∷ 105 ∷ 115 ∷ 101 ∷ 47 ∷ 62 ∷ []) ≡ faulty 36
 unfolding everything
-raise-without-event = refl
+raise_without_event = refl
 
 -- <scxml name='x'/>
-pub other-attribute :
+pub other_attribute :
     read_of (60 ∷ 115 ∷ 99 ∷ 120 ∷ 109 ∷ 108 ∷ 32 ∷ 110 ∷ 97 ∷ 109 ∷ 101 ∷ 61 ∷ 39 ∷ 120 ∷ 39 ∷ 47 ∷ 62 ∷ []) ≡ faulty 7
 unfolding everything
-other-attribute = refl
+other_attribute = refl
 
 -- <scxml><state id='a'><transition target=''/></state></scxml>
-pub empty-target :
+pub empty_target :
     read_of (60 ∷ 115 ∷ 99 ∷ 120 ∷ 109 ∷ 108 ∷ 62 ∷ 60 ∷ 115 ∷ 116 ∷ 97 ∷ 116 ∷ 101 ∷ 32 ∷ 105 ∷ 100 ∷ 61 ∷ 39 ∷ 97 ∷ 39 ∷ 62 ∷ 60 ∷ 116 ∷ 114 ∷ 97 ∷
     110 ∷ 115 ∷ 105 ∷ 116 ∷ 105 ∷ 111 ∷ 110 ∷ 32 ∷ 116 ∷ 97 ∷ 114 ∷ 103 ∷ 101 ∷ 116 ∷ 61 ∷ 39 ∷ 39 ∷ 47 ∷ 62 ∷ 60 ∷ 47 ∷ 115 ∷ 116 ∷ 97 ∷ 116 ∷ 101 ∷
     62 ∷ 60 ∷ 47 ∷ 115 ∷ 99 ∷ 120 ∷ 109 ∷ 108 ∷ 62 ∷ []) ≡ faulty 41
 unfolding everything
-empty-target = refl
+empty_target = refl
 
 -- <scxml><state id='a..b'/></scxml>
 pub empty_token :
@@ -208,90 +208,90 @@ unfolding everything
 empty_token = refl
 
 -- <scxml><state id='a'><transition event='a*'
-pub star-behind-token :
+pub star_behind_token :
     read_of (60 ∷ 115 ∷ 99 ∷ 120 ∷ 109 ∷ 108 ∷ 62 ∷ 60 ∷ 115 ∷ 116 ∷ 97 ∷ 116 ∷ 101 ∷ 32 ∷ 105 ∷ 100 ∷ 61 ∷ 39 ∷ 97 ∷ 39 ∷ 62 ∷ 60 ∷ 116 ∷ 114 ∷ 97 ∷
     110 ∷ 115 ∷ 105 ∷ 116 ∷ 105 ∷ 111 ∷ 110 ∷ 32 ∷ 101 ∷ 118 ∷ 101 ∷ 110 ∷ 116 ∷ 61 ∷ 39 ∷ 97 ∷ 42 ∷ 39 ∷ []) ≡ faulty 41
 unfolding everything
-star-behind-token = refl
+star_behind_token = refl
 
 -- <scxml><state id='a'><transition event='a.*.b'
-pub star-in-the-middle :
+pub star_in_the_middle :
     read_of (60 ∷ 115 ∷ 99 ∷ 120 ∷ 109 ∷ 108 ∷ 62 ∷ 60 ∷ 115 ∷ 116 ∷ 97 ∷ 116 ∷ 101 ∷ 32 ∷ 105 ∷ 100 ∷ 61 ∷ 39 ∷ 97 ∷ 39 ∷ 62 ∷ 60 ∷ 116 ∷ 114 ∷ 97 ∷
     110 ∷ 115 ∷ 105 ∷ 116 ∷ 105 ∷ 111 ∷ 110 ∷ 32 ∷ 101 ∷ 118 ∷ 101 ∷ 110 ∷ 116 ∷ 61 ∷ 39 ∷ 97 ∷ 46 ∷ 42 ∷ 46 ∷ 98 ∷ 39 ∷ []) ≡ faulty 43
 unfolding everything
-star-in-the-middle = refl
+star_in_the_middle = refl
 
 -- <scxml><state id='s'/><transition type='foo'/></scxml>
-pub other-type :
+pub other_type :
     read_of (60 ∷ 115 ∷ 99 ∷ 120 ∷ 109 ∷ 108 ∷ 62 ∷ 60 ∷ 115 ∷ 116 ∷ 97 ∷ 116 ∷ 101 ∷ 32 ∷ 105 ∷ 100 ∷ 61 ∷ 39 ∷ 115 ∷ 39 ∷ 47 ∷ 62 ∷ 60 ∷ 116 ∷ 114 ∷
     97 ∷ 110 ∷ 115 ∷ 105 ∷ 116 ∷ 105 ∷ 111 ∷ 110 ∷ 32 ∷ 116 ∷ 121 ∷ 112 ∷ 101 ∷ 61 ∷ 39 ∷ 102 ∷ 111 ∷ 111 ∷ 39 ∷ 47 ∷ 62 ∷ 60 ∷ 47 ∷ 115 ∷ 99 ∷ 120 ∷
     109 ∷ 108 ∷ 62 ∷ []) ≡ faulty 40
 unfolding everything
-other-type = refl
+other_type = refl
 
 -- <scxml version='1.1'><state id='a'/></scxml>
-pub other-version :
+pub other_version :
     read_of (60 ∷ 115 ∷ 99 ∷ 120 ∷ 109 ∷ 108 ∷ 32 ∷ 118 ∷ 101 ∷ 114 ∷ 115 ∷ 105 ∷ 111 ∷ 110 ∷ 61 ∷ 39 ∷ 49 ∷ 46 ∷ 49 ∷ 39 ∷ 62 ∷ 60 ∷ 115 ∷ 116 ∷ 97 ∷
     116 ∷ 101 ∷ 32 ∷ 105 ∷ 100 ∷ 61 ∷ 39 ∷ 97 ∷ 39 ∷ 47 ∷ 62 ∷ 60 ∷ 47 ∷ 115 ∷ 99 ∷ 120 ∷ 109 ∷ 108 ∷ 62 ∷ []) ≡ faulty 16
 unfolding everything
-other-version = refl
+other_version = refl
 
 -- <scxml><state id='a'><onentry><log label='70000'/></onentry></state></scxml>
-pub label-too-large :
+pub label_too_large :
     read_of (60 ∷ 115 ∷ 99 ∷ 120 ∷ 109 ∷ 108 ∷ 62 ∷ 60 ∷ 115 ∷ 116 ∷ 97 ∷ 116 ∷ 101 ∷ 32 ∷ 105 ∷ 100 ∷ 61 ∷ 39 ∷ 97 ∷ 39 ∷ 62 ∷ 60 ∷ 111 ∷ 110 ∷ 101 ∷
     110 ∷ 116 ∷ 114 ∷ 121 ∷ 62 ∷ 60 ∷ 108 ∷ 111 ∷ 103 ∷ 32 ∷ 108 ∷ 97 ∷ 98 ∷ 101 ∷ 108 ∷ 61 ∷ 39 ∷ 55 ∷ 48 ∷ 48 ∷ 48 ∷ 48 ∷ 39 ∷ 47 ∷ 62 ∷ 60 ∷ 47 ∷
     111 ∷ 110 ∷ 101 ∷ 110 ∷ 116 ∷ 114 ∷ 121 ∷ 62 ∷ 60 ∷ 47 ∷ 115 ∷ 116 ∷ 97 ∷ 116 ∷ 101 ∷ 62 ∷ 60 ∷ 47 ∷ 115 ∷ 99 ∷ 120 ∷ 109 ∷ 108 ∷ 62 ∷ []) ≡
     faulty 42
 unfolding everything
-label-too-large = refl
+label_too_large = refl
 
 -- <scxml><state id='a'><onentry><log label=''/></onentry></state></scxml>
-pub empty-label :
+pub empty_label :
     read_of (60 ∷ 115 ∷ 99 ∷ 120 ∷ 109 ∷ 108 ∷ 62 ∷ 60 ∷ 115 ∷ 116 ∷ 97 ∷ 116 ∷ 101 ∷ 32 ∷ 105 ∷ 100 ∷ 61 ∷ 39 ∷ 97 ∷ 39 ∷ 62 ∷ 60 ∷ 111 ∷ 110 ∷ 101 ∷
     110 ∷ 116 ∷ 114 ∷ 121 ∷ 62 ∷ 60 ∷ 108 ∷ 111 ∷ 103 ∷ 32 ∷ 108 ∷ 97 ∷ 98 ∷ 101 ∷ 108 ∷ 61 ∷ 39 ∷ 39 ∷ 47 ∷ 62 ∷ 60 ∷ 47 ∷ 111 ∷ 110 ∷ 101 ∷ 110 ∷
     116 ∷ 114 ∷ 121 ∷ 62 ∷ 60 ∷ 47 ∷ 115 ∷ 116 ∷ 97 ∷ 116 ∷ 101 ∷ 62 ∷ 60 ∷ 47 ∷ 115 ∷ 99 ∷ 120 ∷ 109 ∷ 108 ∷ 62 ∷ []) ≡ faulty 42
 unfolding everything
-empty-label = refl
+empty_label = refl
 
 -- <scxml><state id='a'><onentry><send event='x' delay='4294967296'/></onentry></state></scxml>
-pub delay-too-large :
+pub delay_too_large :
     read_of (60 ∷ 115 ∷ 99 ∷ 120 ∷ 109 ∷ 108 ∷ 62 ∷ 60 ∷ 115 ∷ 116 ∷ 97 ∷ 116 ∷ 101 ∷ 32 ∷ 105 ∷ 100 ∷ 61 ∷ 39 ∷ 97 ∷ 39 ∷ 62 ∷ 60 ∷ 111 ∷ 110 ∷ 101 ∷
     110 ∷ 116 ∷ 114 ∷ 121 ∷ 62 ∷ 60 ∷ 115 ∷ 101 ∷ 110 ∷ 100 ∷ 32 ∷ 101 ∷ 118 ∷ 101 ∷ 110 ∷ 116 ∷ 61 ∷ 39 ∷ 120 ∷ 39 ∷ 32 ∷ 100 ∷ 101 ∷ 108 ∷ 97 ∷ 121
     ∷ 61 ∷ 39 ∷ 52 ∷ 50 ∷ 57 ∷ 52 ∷ 57 ∷ 54 ∷ 55 ∷ 50 ∷ 57 ∷ 54 ∷ 39 ∷ 47 ∷ 62 ∷ 60 ∷ 47 ∷ 111 ∷ 110 ∷ 101 ∷ 110 ∷ 116 ∷ 114 ∷ 121 ∷ 62 ∷ 60 ∷ 47 ∷
     115 ∷ 116 ∷ 97 ∷ 116 ∷ 101 ∷ 62 ∷ 60 ∷ 47 ∷ 115 ∷ 99 ∷ 120 ∷ 109 ∷ 108 ∷ 62 ∷ []) ≡ faulty 53
 unfolding everything
-delay-too-large = refl
+delay_too_large = refl
 
 -- <scxml><state id='a'><onentry><send event='x' delay=''/></onentry></state></scxml>
-pub empty-delay :
+pub empty_delay :
     read_of (60 ∷ 115 ∷ 99 ∷ 120 ∷ 109 ∷ 108 ∷ 62 ∷ 60 ∷ 115 ∷ 116 ∷ 97 ∷ 116 ∷ 101 ∷ 32 ∷ 105 ∷ 100 ∷ 61 ∷ 39 ∷ 97 ∷ 39 ∷ 62 ∷ 60 ∷ 111 ∷ 110 ∷ 101 ∷
     110 ∷ 116 ∷ 114 ∷ 121 ∷ 62 ∷ 60 ∷ 115 ∷ 101 ∷ 110 ∷ 100 ∷ 32 ∷ 101 ∷ 118 ∷ 101 ∷ 110 ∷ 116 ∷ 61 ∷ 39 ∷ 120 ∷ 39 ∷ 32 ∷ 100 ∷ 101 ∷ 108 ∷ 97 ∷ 121
     ∷ 61 ∷ 39 ∷ 39 ∷ 47 ∷ 62 ∷ 60 ∷ 47 ∷ 111 ∷ 110 ∷ 101 ∷ 110 ∷ 116 ∷ 114 ∷ 121 ∷ 62 ∷ 60 ∷ 47 ∷ 115 ∷ 116 ∷ 97 ∷ 116 ∷ 101 ∷ 62 ∷ 60 ∷ 47 ∷ 115 ∷ 99
     ∷ 120 ∷ 109 ∷ 108 ∷ 62 ∷ []) ≡ faulty 53
 unfolding everything
-empty-delay = refl
+empty_delay = refl
 
 -- <scxml><state id='a'><onentry><send event='x' delay='5s'/></onentry></state></scxml>
-pub delay-in-seconds :
+pub delay_in_seconds :
     read_of (60 ∷ 115 ∷ 99 ∷ 120 ∷ 109 ∷ 108 ∷ 62 ∷ 60 ∷ 115 ∷ 116 ∷ 97 ∷ 116 ∷ 101 ∷ 32 ∷ 105 ∷ 100 ∷ 61 ∷ 39 ∷ 97 ∷ 39 ∷ 62 ∷ 60 ∷ 111 ∷ 110 ∷ 101 ∷
     110 ∷ 116 ∷ 114 ∷ 121 ∷ 62 ∷ 60 ∷ 115 ∷ 101 ∷ 110 ∷ 100 ∷ 32 ∷ 101 ∷ 118 ∷ 101 ∷ 110 ∷ 116 ∷ 61 ∷ 39 ∷ 120 ∷ 39 ∷ 32 ∷ 100 ∷ 101 ∷ 108 ∷ 97 ∷ 121
     ∷ 61 ∷ 39 ∷ 53 ∷ 115 ∷ 39 ∷ 47 ∷ 62 ∷ 60 ∷ 47 ∷ 111 ∷ 110 ∷ 101 ∷ 110 ∷ 116 ∷ 114 ∷ 121 ∷ 62 ∷ 60 ∷ 47 ∷ 115 ∷ 116 ∷ 97 ∷ 116 ∷ 101 ∷ 62 ∷ 60 ∷ 47
     ∷ 115 ∷ 99 ∷ 120 ∷ 109 ∷ 108 ∷ 62 ∷ []) ≡ faulty 53
 unfolding everything
-delay-in-seconds = refl
+delay_in_seconds = refl
 
 -- <scxml><state id='a'><onentry><send id='k' event='x'/></onentry><transition event='x' target='k'/></state></scxml>
-pub send-id-is-no-row :
+pub send_id_is_no_row :
     read_of (60 ∷ 115 ∷ 99 ∷ 120 ∷ 109 ∷ 108 ∷ 62 ∷ 60 ∷ 115 ∷ 116 ∷ 97 ∷ 116 ∷ 101 ∷ 32 ∷ 105 ∷ 100 ∷ 61 ∷ 39 ∷ 97 ∷ 39 ∷ 62 ∷ 60 ∷ 111 ∷ 110 ∷ 101 ∷
     110 ∷ 116 ∷ 114 ∷ 121 ∷ 62 ∷ 60 ∷ 115 ∷ 101 ∷ 110 ∷ 100 ∷ 32 ∷ 105 ∷ 100 ∷ 61 ∷ 39 ∷ 107 ∷ 39 ∷ 32 ∷ 101 ∷ 118 ∷ 101 ∷ 110 ∷ 116 ∷ 61 ∷ 39 ∷ 120 ∷
     39 ∷ 47 ∷ 62 ∷ 60 ∷ 47 ∷ 111 ∷ 110 ∷ 101 ∷ 110 ∷ 116 ∷ 114 ∷ 121 ∷ 62 ∷ 60 ∷ 116 ∷ 114 ∷ 97 ∷ 110 ∷ 115 ∷ 105 ∷ 116 ∷ 105 ∷ 111 ∷ 110 ∷ 32 ∷ 101 ∷
     118 ∷ 101 ∷ 110 ∷ 116 ∷ 61 ∷ 39 ∷ 120 ∷ 39 ∷ 32 ∷ 116 ∷ 97 ∷ 114 ∷ 103 ∷ 101 ∷ 116 ∷ 61 ∷ 39 ∷ 107 ∷ 39 ∷ 47 ∷ 62 ∷ 60 ∷ 47 ∷ 115 ∷ 116 ∷ 97 ∷ 116
     ∷ 101 ∷ 62 ∷ 60 ∷ 47 ∷ 115 ∷ 99 ∷ 120 ∷ 109 ∷ 108 ∷ 62 ∷ []) ≡ faulty 94
 unfolding everything
-send-id-is-no-row = refl
+send_id_is_no_row = refl
 
 -- <scxml><state id='a'><onentry><cancel sendid='aaaaaaaaaaaaaaaaaaaaaaaaaaaaaaaaaaaaaaaaaaaaaaaaaaaaaaaaaaaaaaaa'/></onentry></state></scxml>
-pub sendid-of-64 :
+pub sendid_of_64 :
     read_of (60 ∷ 115 ∷ 99 ∷ 120 ∷ 109 ∷ 108 ∷ 62 ∷ 60 ∷ 115 ∷ 116 ∷ 97 ∷ 116 ∷ 101 ∷ 32 ∷ 105 ∷ 100 ∷ 61 ∷ 39 ∷ 97 ∷ 39 ∷ 62 ∷ 60 ∷ 111 ∷ 110 ∷ 101 ∷
     110 ∷ 116 ∷ 114 ∷ 121 ∷ 62 ∷ 60 ∷ 99 ∷ 97 ∷ 110 ∷ 99 ∷ 101 ∷ 108 ∷ 32 ∷ 115 ∷ 101 ∷ 110 ∷ 100 ∷ 105 ∷ 100 ∷ 61 ∷ 39 ∷ 97 ∷ 97 ∷ 97 ∷ 97 ∷ 97 ∷ 97
     ∷ 97 ∷ 97 ∷ 97 ∷ 97 ∷ 97 ∷ 97 ∷ 97 ∷ 97 ∷ 97 ∷ 97 ∷ 97 ∷ 97 ∷ 97 ∷ 97 ∷ 97 ∷ 97 ∷ 97 ∷ 97 ∷ 97 ∷ 97 ∷ 97 ∷ 97 ∷ 97 ∷ 97 ∷ 97 ∷ 97 ∷ 97 ∷ 97 ∷ 97 ∷
@@ -299,55 +299,55 @@ pub sendid-of-64 :
     39 ∷ 47 ∷ 62 ∷ 60 ∷ 47 ∷ 111 ∷ 110 ∷ 101 ∷ 110 ∷ 116 ∷ 114 ∷ 121 ∷ 62 ∷ 60 ∷ 47 ∷ 115 ∷ 116 ∷ 97 ∷ 116 ∷ 101 ∷ 62 ∷ 60 ∷ 47 ∷ 115 ∷ 99 ∷ 120 ∷ 109
     ∷ 108 ∷ 62 ∷ []) ≡ faulty 46
 unfolding everything
-sendid-of-64 = refl
+sendid_of_64 = refl
 
 -- <scxml><state id='s'/><state id='t'><transition cond='In(s)'/></state></scxml>
-pub cond-without-quotes :
+pub cond_without_quotes :
     read_of (60 ∷ 115 ∷ 99 ∷ 120 ∷ 109 ∷ 108 ∷ 62 ∷ 60 ∷ 115 ∷ 116 ∷ 97 ∷ 116 ∷ 101 ∷ 32 ∷ 105 ∷ 100 ∷ 61 ∷ 39 ∷ 115 ∷ 39 ∷ 47 ∷ 62 ∷ 60 ∷ 115 ∷ 116 ∷
     97 ∷ 116 ∷ 101 ∷ 32 ∷ 105 ∷ 100 ∷ 61 ∷ 39 ∷ 116 ∷ 39 ∷ 62 ∷ 60 ∷ 116 ∷ 114 ∷ 97 ∷ 110 ∷ 115 ∷ 105 ∷ 116 ∷ 105 ∷ 111 ∷ 110 ∷ 32 ∷ 99 ∷ 111 ∷ 110 ∷
     100 ∷ 61 ∷ 39 ∷ 73 ∷ 110 ∷ 40 ∷ 115 ∷ 41 ∷ 39 ∷ 47 ∷ 62 ∷ 60 ∷ 47 ∷ 115 ∷ 116 ∷ 97 ∷ 116 ∷ 101 ∷ 62 ∷ 60 ∷ 47 ∷ 115 ∷ 99 ∷ 120 ∷ 109 ∷ 108 ∷ 62 ∷
     []) ≡ faulty 54
 unfolding everything
-cond-without-quotes = refl
+cond_without_quotes = refl
 
 -- <scxml><state id='s'/><state id='t'><transition cond="In( 's' )"/></state></scxml>
-pub cond-with-blanks :
+pub cond_with_blanks :
     read_of (60 ∷ 115 ∷ 99 ∷ 120 ∷ 109 ∷ 108 ∷ 62 ∷ 60 ∷ 115 ∷ 116 ∷ 97 ∷ 116 ∷ 101 ∷ 32 ∷ 105 ∷ 100 ∷ 61 ∷ 39 ∷ 115 ∷ 39 ∷ 47 ∷ 62 ∷ 60 ∷ 115 ∷ 116 ∷
     97 ∷ 116 ∷ 101 ∷ 32 ∷ 105 ∷ 100 ∷ 61 ∷ 39 ∷ 116 ∷ 39 ∷ 62 ∷ 60 ∷ 116 ∷ 114 ∷ 97 ∷ 110 ∷ 115 ∷ 105 ∷ 116 ∷ 105 ∷ 111 ∷ 110 ∷ 32 ∷ 99 ∷ 111 ∷ 110 ∷
     100 ∷ 61 ∷ 34 ∷ 73 ∷ 110 ∷ 40 ∷ 32 ∷ 39 ∷ 115 ∷ 39 ∷ 32 ∷ 41 ∷ 34 ∷ 47 ∷ 62 ∷ 60 ∷ 47 ∷ 115 ∷ 116 ∷ 97 ∷ 116 ∷ 101 ∷ 62 ∷ 60 ∷ 47 ∷ 115 ∷ 99 ∷ 120
     ∷ 109 ∷ 108 ∷ 62 ∷ []) ≡ faulty 54
 unfolding everything
-cond-with-blanks = refl
+cond_with_blanks = refl
 
 -- <scxml><state id='s'/><state id='t'><transition cond="In('nix')"/></state></scxml>
-pub cond-unknown :
+pub cond_unknown :
     read_of (60 ∷ 115 ∷ 99 ∷ 120 ∷ 109 ∷ 108 ∷ 62 ∷ 60 ∷ 115 ∷ 116 ∷ 97 ∷ 116 ∷ 101 ∷ 32 ∷ 105 ∷ 100 ∷ 61 ∷ 39 ∷ 115 ∷ 39 ∷ 47 ∷ 62 ∷ 60 ∷ 115 ∷ 116 ∷
     97 ∷ 116 ∷ 101 ∷ 32 ∷ 105 ∷ 100 ∷ 61 ∷ 39 ∷ 116 ∷ 39 ∷ 62 ∷ 60 ∷ 116 ∷ 114 ∷ 97 ∷ 110 ∷ 115 ∷ 105 ∷ 116 ∷ 105 ∷ 111 ∷ 110 ∷ 32 ∷ 99 ∷ 111 ∷ 110 ∷
     100 ∷ 61 ∷ 34 ∷ 73 ∷ 110 ∷ 40 ∷ 39 ∷ 110 ∷ 105 ∷ 120 ∷ 39 ∷ 41 ∷ 34 ∷ 47 ∷ 62 ∷ 60 ∷ 47 ∷ 115 ∷ 116 ∷ 97 ∷ 116 ∷ 101 ∷ 62 ∷ 60 ∷ 47 ∷ 115 ∷ 99 ∷
     120 ∷ 109 ∷ 108 ∷ 62 ∷ []) ≡ faulty 58
 unfolding everything
-cond-unknown = refl
+cond_unknown = refl
 
 -- <scxml><state id='s'/><state id='t'><transition target='s nix'/></state></scxml>
-pub target-unknown :
+pub target_unknown :
     read_of (60 ∷ 115 ∷ 99 ∷ 120 ∷ 109 ∷ 108 ∷ 62 ∷ 60 ∷ 115 ∷ 116 ∷ 97 ∷ 116 ∷ 101 ∷ 32 ∷ 105 ∷ 100 ∷ 61 ∷ 39 ∷ 115 ∷ 39 ∷ 47 ∷ 62 ∷ 60 ∷ 115 ∷ 116 ∷
     97 ∷ 116 ∷ 101 ∷ 32 ∷ 105 ∷ 100 ∷ 61 ∷ 39 ∷ 116 ∷ 39 ∷ 62 ∷ 60 ∷ 116 ∷ 114 ∷ 97 ∷ 110 ∷ 115 ∷ 105 ∷ 116 ∷ 105 ∷ 111 ∷ 110 ∷ 32 ∷ 116 ∷ 97 ∷ 114 ∷
     103 ∷ 101 ∷ 116 ∷ 61 ∷ 39 ∷ 115 ∷ 32 ∷ 110 ∷ 105 ∷ 120 ∷ 39 ∷ 47 ∷ 62 ∷ 60 ∷ 47 ∷ 115 ∷ 116 ∷ 97 ∷ 116 ∷ 101 ∷ 62 ∷ 60 ∷ 47 ∷ 115 ∷ 99 ∷ 120 ∷ 109
     ∷ 108 ∷ 62 ∷ []) ≡ faulty 58
 unfolding everything
-target-unknown = refl
+target_unknown = refl
 
 -- <scxml><state id='aaaaaaaaaaaaaaaaaaaaaaaaaaaaaaaaaaaaaaaaaaaaaaaaaaaaaaaaaaaaaaaa'/></scxml>
-pub id-of-64 :
+pub id_of_64 :
     read_of (60 ∷ 115 ∷ 99 ∷ 120 ∷ 109 ∷ 108 ∷ 62 ∷ 60 ∷ 115 ∷ 116 ∷ 97 ∷ 116 ∷ 101 ∷ 32 ∷ 105 ∷ 100 ∷ 61 ∷ 39 ∷ 97 ∷ 97 ∷ 97 ∷ 97 ∷ 97 ∷ 97 ∷ 97 ∷ 97
     ∷ 97 ∷ 97 ∷ 97 ∷ 97 ∷ 97 ∷ 97 ∷ 97 ∷ 97 ∷ 97 ∷ 97 ∷ 97 ∷ 97 ∷ 97 ∷ 97 ∷ 97 ∷ 97 ∷ 97 ∷ 97 ∷ 97 ∷ 97 ∷ 97 ∷ 97 ∷ 97 ∷ 97 ∷ 97 ∷ 97 ∷ 97 ∷ 97 ∷ 97 ∷
     97 ∷ 97 ∷ 97 ∷ 97 ∷ 97 ∷ 97 ∷ 97 ∷ 97 ∷ 97 ∷ 97 ∷ 97 ∷ 97 ∷ 97 ∷ 97 ∷ 97 ∷ 97 ∷ 97 ∷ 97 ∷ 97 ∷ 97 ∷ 97 ∷ 97 ∷ 97 ∷ 97 ∷ 97 ∷ 97 ∷ 97 ∷ 39 ∷ 47 ∷
     62 ∷ 60 ∷ 47 ∷ 115 ∷ 99 ∷ 120 ∷ 109 ∷ 108 ∷ 62 ∷ []) ≡ faulty 18
 unfolding everything
-id-of-64 = refl
+id_of_64 = refl
 
 -- <scxml initial='aaaaaaaaaaaaaaaaaaaaaaaaaaaaaaaaaaaaaaaaaaaaaaaaaaaaaaaaaaaaaaaa'><state id='aaaaaaaaaaaaaaaaaaaaaaaaaaaaaaaaaaaaaaaaaaaaaaaaaaaaaaaaaaaaaaaa'/></scxml>
-pub reference-of-64 :
+pub reference_of_64 :
     read_of (60 ∷ 115 ∷ 99 ∷ 120 ∷ 109 ∷ 108 ∷ 32 ∷ 105 ∷ 110 ∷ 105 ∷ 116 ∷ 105 ∷ 97 ∷ 108 ∷ 61 ∷ 39 ∷ 97 ∷ 97 ∷ 97 ∷ 97 ∷ 97 ∷ 97 ∷ 97 ∷ 97 ∷ 97 ∷ 97
     ∷ 97 ∷ 97 ∷ 97 ∷ 97 ∷ 97 ∷ 97 ∷ 97 ∷ 97 ∷ 97 ∷ 97 ∷ 97 ∷ 97 ∷ 97 ∷ 97 ∷ 97 ∷ 97 ∷ 97 ∷ 97 ∷ 97 ∷ 97 ∷ 97 ∷ 97 ∷ 97 ∷ 97 ∷ 97 ∷ 97 ∷ 97 ∷ 97 ∷ 97 ∷
     97 ∷ 97 ∷ 97 ∷ 97 ∷ 97 ∷ 97 ∷ 97 ∷ 97 ∷ 97 ∷ 97 ∷ 97 ∷ 97 ∷ 97 ∷ 97 ∷ 97 ∷ 97 ∷ 97 ∷ 97 ∷ 97 ∷ 97 ∷ 97 ∷ 97 ∷ 97 ∷ 97 ∷ 97 ∷ 39 ∷ 62 ∷ 60 ∷ 115 ∷
@@ -356,11 +356,11 @@ pub reference-of-64 :
     97 ∷ 97 ∷ 97 ∷ 97 ∷ 97 ∷ 97 ∷ 97 ∷ 97 ∷ 97 ∷ 97 ∷ 97 ∷ 97 ∷ 97 ∷ 97 ∷ 97 ∷ 97 ∷ 39 ∷ 47 ∷ 62 ∷ 60 ∷ 47 ∷ 115 ∷ 99 ∷ 120 ∷ 109 ∷ 108 ∷ 62 ∷ []) ≡
     faulty 16
 unfolding everything
-reference-of-64 = refl
+reference_of_64 = refl
 
 -- <scxml><state initial='q'/></scxml>
-pub missing-id :
+pub missing_id :
     read_of (60 ∷ 115 ∷ 99 ∷ 120 ∷ 109 ∷ 108 ∷ 62 ∷ 60 ∷ 115 ∷ 116 ∷ 97 ∷ 116 ∷ 101 ∷ 32 ∷ 105 ∷ 110 ∷ 105 ∷ 116 ∷ 105 ∷ 97 ∷ 108 ∷ 61 ∷ 39 ∷ 113 ∷ 39
     ∷ 47 ∷ 62 ∷ 60 ∷ 47 ∷ 115 ∷ 99 ∷ 120 ∷ 109 ∷ 108 ∷ 62 ∷ []) ≡ faulty 7
 unfolding everything
-missing-id = refl
+missing_id = refl

@@ -1,31 +1,36 @@
 use mathlib.Core.Path.{refl}
-use mathlib.Core.Logic.{⊎_elim}
 use native.Mathlib.Omega.{arith}
 use Rattle.rowset.specs.Member.{word_of}
 use Rattle.rowset.specs.Search.{Clear, clear_none, clear_top, down_past, down_found, down_nothing}
 use Rattle.rowset.proofs.RowSet.prev_below.Goals as goal
-use Rattle.rowset.proofs.RowSet.prev_below.Goals.{Joined-k-gt128, Joined-k-gt192, Joined-k-gt64}
+use Rattle.rowset.proofs.RowSet.prev_below.Goals.{Joined-k-gt128, Joined-k-gt192, Joined-k-gt64, then-k-gt192+else-b-lt64, else-k-gt192, then-k-gt128+else-b-lt64-2, else-k-gt128, then-k-gt64+else-b-lt64-3, else-k-gt64}
 
 -- no row from word 3 up to k
 clear3 : (c : Joined-k-gt192) → Clear c.args.self 192 c.args.k
 unfolding word_of
 clear3 c =
-    ⊎_elim (λ w. down_past _ _ 3 _ _ _ (clear_top _ _) refl refl w.1.ensures w.2.left) (λ w. clear_none _ _ _ w.left)
-    c.if-k-gt192.branch
+    elim c.if-k-gt192.branch [
+      | then-k-gt192+else-b-lt64 w ↦ down_past _ _ 3 _ _ _ (clear_top _ _) refl refl w.high_below-b.ensures w.if-b-lt64.false
+      | else-k-gt192 w ↦ clear_none _ _ _ w.if-k-gt192.false
+    ]
 
 -- no row from word 2 up to k
 clear2 : (c : Joined-k-gt128) → Clear c.args.self 128 c.args.k
 unfolding word_of
 clear2 c =
-    ⊎_elim (λ w. down_past _ _ 2 _ _ _ (clear3 c) refl refl w.1.ensures w.2.left) (λ w. clear_none _ _ _ w.left)
-    c.if-k-gt128.branch
+    elim c.if-k-gt128.branch [
+      | then-k-gt128+else-b-lt64-2 w ↦ down_past _ _ 2 _ _ _ (clear3 c.before) refl refl w.high_below-b-then-k-gt128.ensures w.if-b-lt64-2.false
+      | else-k-gt128 w ↦ clear_none _ _ _ w.if-k-gt128.false
+    ]
 
 -- no row from word 1 up to k
 clear1 : (c : Joined-k-gt64) → Clear c.args.self 64 c.args.k
 unfolding word_of
 clear1 c =
-    ⊎_elim (λ w. down_past _ _ 1 _ _ _ (clear2 c) refl refl w.1.ensures w.2.left) (λ w. clear_none _ _ _ w.left)
-    c.if-k-gt64.branch
+    elim c.if-k-gt64.branch [
+      | then-k-gt64+else-b-lt64-3 w ↦ down_past _ _ 1 _ _ _ (clear2 c.before) refl refl w.high_below-b-then-k-gt64.ensures w.if-b-lt64-3.false
+      | else-k-gt64 w ↦ clear_none _ _ _ w.if-k-gt64.false
+    ]
 
 pub returns-then-b-lt64 : goal.returns-then-b-lt64
 unfolding word_of

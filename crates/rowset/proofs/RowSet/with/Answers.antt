@@ -1,9 +1,5 @@
-use mathlib.Core.Bool.{true}
-use Prim.Native.Nat.{◌-◌}
 use native.Mathlib.Omega.{arith}
 use Rattle.rowset.specs.Setting.{with0, with1, with2, with3}
-use Rattle.rowset.proofs.RowSet.with.Reads as reads
-use Rattle.rowset.proofs.RowSet.with.Lts as lts
 use Rattle.rowset.proofs.RowSet.with.Goals as goal
 
 -- src/lib.rt:94:13

@@ -1,0 +1,12 @@
+use Prim.Native.Nat.{◌-◌}
+use Rattle.rowset.specs.Visits.{Remains}
+use Rattle.definition.specs.Rows.{any}
+use Rattle.follower.specs.Follower.{is_final_under_root}
+use Rattle.definition.specs.Tables.{chart_of}
+use Rattle.legality.proofs.has_final.Given as goal
+
+abbrev pub invariant-loop-r : goal.invariant-loop-r
+invariant-loop-r l = Remains (any (is_final_under_root (chart_of l.chart))) l.top l.k
+
+abbrev pub decreases-loop-r : goal.decreases-loop-r
+decreases-loop-r l = 256 - l.k

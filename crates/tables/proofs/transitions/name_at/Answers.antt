@@ -1,0 +1,8 @@
+use borrow.Author.Rules.{rules}
+use Rattle.tables.proofs.transitions.name_at.Goals as goal
+
+pub overflow_cast-result : goal.overflow_cast-result
+overflow_cast-result c = let l = c.requires.names.low _ c.requires.below in search rules
+
+pub returns : goal.returns
+returns c = let l = c.requires.names.low _ c.requires.below in search rules
