@@ -217,18 +217,18 @@ module _ (whole : List Fact) (c : Content) where
               ap (λ (x : List ℕ). x ++ list_of q (rows_said c (suc i) onward rs)) (other_list q i m r (of_source c.transitions i) (λ e. omega arith));
         }
 
+  first_row : (r : Row) (rs : List Row) (i m : ℕ) → rows_from whole i (rows_said c i m (r ∷ rs)) ≡
+      record { kind = r.kind; parent = r.parent; id = r.id; entry = acts_in 1 i whole; exit = acts_in 2 i whole; list = attr_list r r.kind ++ list_of i whole; block = acts_in 3 i whole } ∷
+      rows_from whole (suc i) (inner_said i m r (of_source c.transitions i) ++ rows_said c (suc i) (further m (of_source c.transitions i)) rs)
+  first_row r rs i m = unfold rows_said rows_from in refl
+
   rows_back : (n : ℕ) (rs : List Row) (i m : ℕ) → AllOf (RowFits n) rs → Agrees whole c i m rs → rows_from whole i (rows_said c i m rs) ≡ rs
   rows_back n [] i m no_more a = unfold rows_said rows_from in refl
   rows_back n (r ∷ rs) i m (more f g) a =
-      first ∙
+      first_row r rs i m ∙
       ap₂ (λ (x : Row) (xs : List Row). x ∷ xs)
       (row_is r (own_block i m r rs a entry_part_lem f.shaped) (own_block i m r rs a exit_part_lem f.shaped) (whole_list i m r rs a) (own_block i m r rs a list_part f.shaped))
       (rows_inner (suc i) i m r (of_source c.transitions i) _ ∙ rows_back n rs (suc i) (further m (of_source c.transitions i)) g (agrees_next i m r rs a))
-    where
-      first : rows_from whole i (rows_said c i m (r ∷ rs)) ≡
-          record { kind = r.kind; parent = r.parent; id = r.id; entry = acts_in 1 i whole; exit = acts_in 2 i whole; list = attr_list r r.kind ++ list_of i whole; block = acts_in 3 i whole } ∷
-          rows_from whole (suc i) (inner_said i m r (of_source c.transitions i) ++ rows_said c (suc i) (further m (of_source c.transitions i)) rs)
-      first = unfold rows_said rows_from in refl
 
 -- the rows that a chart's tags say are its rows
 pub rows_again : (c : Content) (n : ℕ) (rs : List Row) → AllOf (RowFits n) rs → rows_from (rows_said c 0 0 rs) 0 (rows_said c 0 0 rs) ≡ rs

@@ -111,20 +111,20 @@ module _ (whole : List Fact) where
       shown : acts_in 4 q (transitions_said s m (t ∷ ts) ++ gs) ≡ acts_in 4 q ((acts_said 4 m t.block ++ transitions_said s (suc m) ts) ++ gs)
       shown = unfold transitions_said acts_in in refl
 
+  first_transition : (s m : ℕ) (t : Transition) (ts : List Transition) (gs : List Fact) → transitions_from whole m (transitions_said s m (t ∷ ts) ++ gs) ≡
+      record { source = s; descriptors = t.descriptors; condition = t.condition; internal = t.internal; targets = t.targets; block = acts_in 4 m whole } ∷
+      transitions_from whole (suc m) ((acts_said 4 m t.block ++ transitions_said s (suc m) ts) ++ gs)
+  first_transition s m t ts gs = unfold transitions_said transitions_from in refl
+
   list_back : (s m : ℕ) (ts : List Transition) (gs : List Fact) → AllOf (From s) ts → Holds whole m (transitions_said s m ts ++ gs) → ((q : ℕ) → q < further m ts → acts_in 4 q gs ≡ []) →
       transitions_from whole m (transitions_said s m ts ++ gs) ≡ ts ++ transitions_from whole (further m ts) gs
   list_back s m [] gs no_more h b = unfold transitions_said in refl
   list_back s m (t ∷ ts) gs (more f g) h b =
-      first ∙
+      first_transition s m t ts gs ∙
       ap₂ (λ (x : Transition) (xs : List Transition). x ∷ xs) (transition_is t s (acts_in 4 m whole) f.is own)
       (ap (transitions_from whole (suc m)) (append_assoc (acts_said 4 m t.block) (transitions_said s (suc m) ts) gs) ∙ skip_acts (suc m) 4 m t.block (transitions_said s (suc m) ts ++ gs) ∙
       list_back s (suc m) ts gs g (record { blocks = λ (q : ℕ) (l : suc m ≤ q). h.blocks q (omega arith) ∙ said_split q s m t ts gs ∙ ap (λ (x : List Act). x ++ acts_in 4 q (transitions_said s (suc m) ts ++ gs)) (acts_there 4 q 4 m (other_owner 4 q 4 m (λ e. omega arith)) t.block) }) b)
     where
-      first : transitions_from whole m (transitions_said s m (t ∷ ts) ++ gs) ≡
-          record { source = s; descriptors = t.descriptors; condition = t.condition; internal = t.internal; targets = t.targets; block = acts_in 4 m whole } ∷
-          transitions_from whole (suc m) ((acts_said 4 m t.block ++ transitions_said s (suc m) ts) ++ gs)
-      first = unfold transitions_said transitions_from in refl
-
       own : acts_in 4 m whole ≡ t.block
       own =
           h.blocks m (omega arith) ∙ said_split m s m t ts gs ∙

@@ -173,15 +173,15 @@ module _ (c : Content) (n : ℕ) (all : AllOf (TransitionFits n) c.transitions) 
       by true e = subst (Uses _) (ap (λ (l : List (List ℕ)). us ++ (l ++ vs)) (sym (bare e))) (uses_both (empty_uses (row_element r.kind) (row_attrs c.rows r) us a) short)
       by false e = uses_both (start_uses (row_element r.kind) (row_attrs c.rows r) us a) (uses_both (inner_uses_lem i r f) long)
 
+  first_uses : (r : Row) (rs : List Row) (i : ℕ) → r.id ∷ (inner_uses c i r ++ uses_from c (suc i) rs) ≡ uses_from c i (r ∷ rs)
+  first_uses r rs i = unfold uses_from in refl
+
   rows_use : (rs : List Row) (i : ℕ) (around : List Open) (path : List ℕ) → Laid path i rs → AllOf (RowFits n) rs → Uses (rows_pieces c i around rs) (uses_from c i rs)
   rows_use [] i around path laid_out no_more = unfold uses_from rows_pieces in close_uses no_number around
   rows_use (r ∷ rs) i around path (lays up k e d) (more f g) =
-      subst (Uses (rows_pieces c i around (r ∷ rs))) shown
+      subst (Uses (rows_pieces c i around (r ∷ rs))) (first_uses r rs i)
       (one_uses i around r rs (r.id ∷ []) (uses_from c (suc i) rs) f (row_attr_uses c.rows r.kind r k f.shaped) (rows_use rs (suc i) (closed_to r.parent around) (i ∷ r.parent ∷ up) d g)
       (rows_use rs (suc i) (opened i r ∷ closed_to r.parent around) (i ∷ r.parent ∷ up) d g))
-    where
-      shown : r.id ∷ (inner_uses c i r ++ uses_from c (suc i) rs) ≡ uses_from c i (r ∷ rs)
-      shown = unfold uses_from in refl
 
   -- the names that the tags of a chart use
   pub pieces_use : (r : Row) (rs : List Row) → c.rows ≡ r ∷ rs → r.kind ≡ 0 → Laid (0 ∷ []) 1 rs → RowFits n r → AllOf (RowFits n) rs → Uses (pieces c) (inner_uses c 0 r ++ uses_from c 1 rs)
