@@ -1,5 +1,5 @@
 -- The record with other sends pending, its clock as it was: what the bytes have to be part by part, and what they spell then.
-use Rattle.std.specs.Prelude.{◌≡◌, refl, true, List, ◌++◌, ℕ, ◌+◌, length, take, drop, replicate}
+use Rattle.std.specs.Prelude.{◌≡◌, refl, true, List, ◌++◌, ℕ, length, take, drop, replicate}
 use Rattle.std.proofs.Common.{ap, ◌∙◌}
 use Rattle.definition.specs.declared.Mode.TheVariants.{Running}
 use Rattle.follower.specs.Clock.{Timer, Clock}

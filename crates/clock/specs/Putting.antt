@@ -1,5 +1,5 @@
 -- A part of the record anew while the others stay: one cell of it written, or one gone.
-use Rattle.std.specs.Prelude.{◌≡◌, List, [], ◌∷◌, ◌++◌, ℕ, ◌+◌, ◌-◌, ◌*◌, ◌≤◌, ◌<◌, length, take, drop}
+use Rattle.std.specs.Prelude.{◌≡◌, List, [], ◌∷◌, ◌++◌, ℕ, ◌+◌, ◌*◌, ◌≤◌, ◌<◌, length, take, drop}
 use Rattle.std.proofs.Common.{ap, ◌∙◌, arith, length-append, length-drop, drop-drop, length-take-le}
 use Rattle.std.proofs.lemmas.List.{length-replicate}
 use Rattle.definition.specs.Names.{Name}

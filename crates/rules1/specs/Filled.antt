@@ -3,7 +3,7 @@
 use Rattle.std.specs.Prelude.{◌≡◌, refl, Bool, true, false, not, ◌&&◌, ◌||◌, List, [], ◌∷◌, ℕ, zero, suc, ◌+◌, ◌-◌, ◌*◌, ◌≤◌, ◌<◌, eqb, leb, ltb, length, get_or, take}
 use Rattle.std.proofs.Common.{sym, ap, ◌∙◌, add-one, arith, length-take-le, get_or-take}
 use borrow.Author.Tests.{eqb-true, eqb-false, eq-eqb, ne_eqb, le-leb, leb-true, ltb-true}
-use Rattle.definition.specs.Names.{Name, is_letter, is_name_byte, is_name, before_zero, zeros_after}
+use Rattle.definition.specs.Names.{is_name_byte, is_name, before_zero, zeros_after}
 use Rattle.laws.specs.Bools.{no, bool_case, and_left, and_right, and_true, eq_case}
 use Rattle.laws.specs.Orders.{lt_case}
 use Rattle.names.specs.Spelling.{spelt, name_spelt}

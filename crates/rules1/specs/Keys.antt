@@ -1,6 +1,6 @@
 -- A key of an id: any function of its slot's bytes serves, since slots of different keys differ.
 use Rattle.std.specs.Prelude.{◌≡◌, refl, true, false, List, ℕ, zero, suc, ◌+◌, ◌*◌, ◌/◌, ◌%◌, ◌^◌, ◌<◌, ◌≤◌, get_or}
-use Rattle.std.proofs.Common.{sym, ap, ◌∙◌, add-one, arith}
+use Rattle.std.proofs.Common.{ap, ◌∙◌, add-one, arith}
 use Rattle.std.specs.Int.Bits.{bit_or, bit_xor}
 use Rattle.definition.specs.Tables.{id_at, slot_at}
 use Rattle.tables.specs.Parts.{IdOf, SlotOf}

@@ -1,10 +1,10 @@
 -- A descriptor that no star ends is a name, so its first byte and its length say whether it is an id.
-use Rattle.std.specs.Prelude.{◌≡◌, refl, Bool, true, false, not, ◌&&◌, ◌||◌, cond, List, [], ◌∷◌, ℕ, zero, suc, ◌+◌, ◌-◌, ◌≤◌, ◌<◌, eqb, leb, length, get_or}
-use Rattle.std.proofs.Common.{sym, ap, ◌∙◌, arith, eqb-true, eq-eqb, ne_eqb, leb-true, le-leb}
+use Rattle.std.specs.Prelude.{◌≡◌, refl, Bool, true, false, not, ◌&&◌, ◌||◌, [], ◌∷◌, ℕ, ◌-◌, ◌≤◌, ◌<◌, eqb, leb, length, get_or}
+use Rattle.std.proofs.Common.{sym, ap, ◌∙◌, arith, eqb-true, leb-true, le-leb}
 use Rattle.std.proofs.lemmas.Bool.{eqb-false}
 use Rattle.definition.specs.Rows.{all, same, mem}
 use Rattle.definition.specs.Names.{Name, between, is_letter, is_name_byte, is_full, tokens, is_name, star, dot_star, bare, is_descriptor, done_name, starts_well, is_id}
-use Rattle.laws.specs.Bools.{no, both_ways, bool_case, not_so, and_false, and_right, and3, or_elim}
+use Rattle.laws.specs.Bools.{no, both_ways, bool_case, not_so, and_right, and3, or_elim}
 use Rattle.laws.specs.Lists.{same_eq, all_mem, mem_tail}
 use Rattle.laws.specs.Sets.{mem_head}
 use Rattle.names.specs.Spelling.{done_length}

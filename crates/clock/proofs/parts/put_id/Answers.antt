@@ -1,0 +1,8 @@
+use native.Mathlib.Omega.{arith}
+use Rattle.clock.specs.Putting.{slot_put_in}
+use Rattle.clock.proofs.parts.put_id.Goals as goal
+
+pub returns : goal.returns
+returns c =
+    let a = c in
+    slot_put_in 2320 a.args.clock.now _ a.args.n _ a.requires.0 (omega arith) a.requires.1 c.put_last.ensures
