@@ -6,9 +6,7 @@ use Rattle.std.proofs.Math.Bool.{true, false}
 use mathlib.Core.List.{List, [], ◌∷◌, ◌++◌}
 use Rattle.std.proofs.Math.ListN.{length}
 use Rattle.definition.specs.Rows.{all}
-use Rattle.definition.specs.Chart.{Chart, is_history}
-use Rattle.definition.specs.Tables.{kind_at, parent_at, chart_of}
-use Rattle.definition.specs.Tree.{anchor}
+use Rattle.definition.specs.Chart.{Chart}
 use Rattle.definition.specs.Rules.{is_apart, are_apart}
 use Rattle.laws.specs.Bools.{clash, and_left, and_right, and_true, bool_case}
 use Rattle.laws.specs.Loops.{all_append}

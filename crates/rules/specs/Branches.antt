@@ -1,7 +1,7 @@
 -- Rule 5 of blocks, as they are read: one pass over a block, and charts without an if.
 use Rattle.std.specs.Prelude.{◌≡◌, Bool, ◌&&◌, eqb, leb, get_or}
 use Rattle.std.proofs.Math.Path.{refl, sym}
-use Rattle.std.proofs.Common.{ap, subst, ◌∙◌, add-one, drop-cons}
+use Rattle.std.proofs.Common.{ap, ◌∙◌, add-one, drop-cons}
 use Rattle.std.proofs.Math.Bool.{true, false}
 use mathlib.Core.List.{List, [], ◌∷◌, map}
 use Rattle.std.proofs.Math.Option.{some}

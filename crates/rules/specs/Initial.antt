@@ -7,7 +7,7 @@ use Prim.Native.Nat.{ℕ, zero, suc, ◌<◌}
 use borrow.Author.Tests.{eq-eqb, lt-ltb}
 use Rattle.definition.specs.declared.Kind.{Kind}
 use Rattle.definition.specs.declared.Kind.TheVariants.{Root, State, Parallel, Final, Shallow, Deep}
-use Rattle.definition.specs.Rows.{all, any, mem, from, is_empty}
+use Rattle.definition.specs.Rows.{all, mem, from, is_empty}
 use Rattle.definition.specs.Chart.{Chart, kind, parent, is_root, is_state, is_parallel, is_history}
 use Rattle.definition.specs.Tables.{row_count, kind_at, list_at, list_block_at, chart_of}
 use Rattle.definition.specs.Tree.{is_child, children, is_compound, is_domain_kind, ancestors}

@@ -1,5 +1,5 @@
 -- Who chose each transition that a round takes: "the first active atomic state that chose it, through conflict removal" (R-6).
-use Rattle.std.specs.Prelude.{◌≡◌, ℕ}
+use Rattle.std.specs.Prelude.{ℕ}
 use Rattle.std.proofs.Math.Path.{ap}
 use Rattle.std.proofs.Common.{◌∙◌}
 use mathlib.Core.List.{List}

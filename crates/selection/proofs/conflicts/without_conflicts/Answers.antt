@@ -1,0 +1,29 @@
+use mathlib.Core.Path.{refl, sym, ◌∙◌}
+use native.Mathlib.Omega.{arith}
+use Rattle.follower.specs.Selection.{without_conflicts}
+use Rattle.selection.specs.Kept.{sift_begin, sift_turn, sift_done, sift_low}
+use Rattle.selection.proofs.conflicts.without_conflicts.Goals as goal
+
+pub loop-i-init : goal.loop-i-init
+loop-i-init c = sift_begin _ _ _ _ _ _ _ c.requires.2 refl c.empty.ensures
+
+pub bounds-items-i : goal.bounds-items-i
+bounds-items-i c = let v = c.loop-i.invariant in let a = v.selects.fits.room in let m = v.small in let l = c.loop-i-test.true in omega arith
+
+pub admit-kept-requires : goal.admit-kept-requires
+admit-kept-requires c = let v = c.loop-i.invariant in
+    let p = c.requires in
+    let b = v.most in
+    let m = v.small in
+    let l = c.loop-i-test.true in
+    (record { move = record { ready = p.0.ready; room = p.0.room; inside = sift_low _ _ _ _ _ _ _ _ _ v p.2 l }; fixed = p.1 }, v.selects, omega arith)
+
+pub loop-i-preserved : goal.loop-i-preserved
+loop-i-preserved c = sift_turn _ _ _ _ _ _ _ _ _ c.loop-i.invariant _ _ c.loop-i-test.true c.admit-kept.ensures
+
+pub shape_of-items : goal.shape_of-items
+shape_of-items c = c.loop-i.invariant.selects.fits.room ∙ sym c.requires.2.room
+
+pub returns : goal.returns
+unfolding without_conflicts
+returns c = sift_done _ _ _ _ _ _ _ _ _ c.loop-i.invariant c.loop-i-test.false
