@@ -1,0 +1,6 @@
+use borrow.Author.Rules.{rules}
+use Rattle.spell.specs.Actions.{else_if_spelt}
+use Rattle.spell.proofs.actions.lay_else_if.Goals as goal
+
+pub returns : goal.returns
+returns c = search (rules, else_if_spelt)
