@@ -1,5 +1,5 @@
 use Rattle.clock.specs.Numbers.{number_put, number_room}
-use Rattle.clock.proofs.numbers.put_number.Goals as goal
+use Rattle.clock.proofs.record_numbers.put_number.Goals as goal
 
 pub put_eight-requires : goal.put_eight-requires
 put_eight-requires c = let a = c in number_room a.args.place.now a.args.at a.requires

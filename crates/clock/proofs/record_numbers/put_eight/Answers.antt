@@ -1,7 +1,7 @@
 use native.Mathlib.Omega.{arith}
 use lib.ListN.{length-set}
 use Rattle.clock.specs.Numbers.{eight_set}
-use Rattle.clock.proofs.numbers.put_eight.Goals as goal
+use Rattle.clock.proofs.record_numbers.put_eight.Goals as goal
 
 pub bounds-place-4 : goal.bounds-place-4
 bounds-place-4 c = simp length-set (omega arith)

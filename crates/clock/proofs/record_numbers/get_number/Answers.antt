@@ -1,5 +1,5 @@
 use Rattle.clock.specs.Numbers.{number_halves}
-use Rattle.clock.proofs.numbers.get_number.Goals as goal
+use Rattle.clock.proofs.record_numbers.get_number.Goals as goal
 
 pub returns : goal.returns
 returns c =
