@@ -3,7 +3,7 @@ ghost use Rattle.std.specs.Prelude.{◌≡◌, ◌++◌, ◌+◌, ◌-◌, ◌*�
 ghost use Rattle.laws.specs.Cells.{blank};
 ghost use Rattle.clock.specs.Closing.{closed, Behind};
 
-use crate::numbers::put_number;
+use crate::record_numbers::put_number;
 
 // Every byte eight places forward; the last eight stay.
 fn shift(dues: &mut [u8])

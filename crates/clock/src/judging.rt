@@ -6,7 +6,7 @@ ghost use Rattle.queue.specs.Queues.{SlotInside};
 ghost use Rattle.clock.specs.Records.{is_clock};
 ghost use Rattle.clock.specs.Judging.{slot_fits, dues_fit, slots_fit};
 
-use crate::numbers::get_number;
+use crate::record_numbers::get_number;
 use crate::{CLOCK, DUES, EVENTS, IDS, MOST_PENDING, count_of, ticks_of};
 use definition::Mode;
 

@@ -7,15 +7,15 @@ ghost use Rattle.clock.specs.Records.{clock_in, emptied_bytes};
 pub use applying::apply;
 pub use joining::join_due;
 pub use judging::is_clock;
-use numbers::get_number;
+use record_numbers::get_number;
 
 pub mod applying;
 pub mod cancelling;
 pub mod closing;
 pub mod joining;
 pub mod judging;
-pub mod numbers;
 pub mod parts;
+pub mod record_numbers;
 pub mod removing;
 pub mod sending;
 
@@ -56,5 +56,5 @@ pub fn drop_pending(clock: &mut [u8])
 {
     let ticks = ticks_of(clock);
     places::clear_u8(clock);
-    numbers::put_number(clock, 0, ticks);
+    record_numbers::put_number(clock, 0, ticks);
 }

@@ -7,7 +7,7 @@ ghost use Rattle.clock.specs.Putting.{Put, cell_put};
 ghost use Rattle.clock.specs.Closing.{closed, Behind};
 
 use crate::closing::{close_due, close_slot};
-use crate::numbers::put_number;
+use crate::record_numbers::put_number;
 use crate::{CLOCK, DUES, EVENTS, IDS};
 
 // The due time, the event and the id of the send at place n.

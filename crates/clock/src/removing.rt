@@ -5,8 +5,8 @@ ghost use Rattle.follower.specs.Clock.{without_at};
 ghost use Rattle.clock.specs.Records.{ClockHolds, clock_in};
 ghost use Rattle.clock.specs.Left.{Left};
 
-use crate::numbers::put_number;
 use crate::parts::{close_dues, close_events, close_ids};
+use crate::record_numbers::put_number;
 use crate::{COUNT, count_of};
 
 pub fn remove(clock: &mut [u8], i: u64)

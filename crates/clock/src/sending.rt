@@ -6,8 +6,8 @@ ghost use Rattle.definition.specs.Rows.{is_empty};
 ghost use Rattle.clock.specs.Records.{ClockHolds};
 ghost use Rattle.clock.specs.Sending.{Sent};
 
-use crate::numbers::put_number;
 use crate::parts::{put_due, put_event, put_id};
+use crate::record_numbers::put_number;
 use crate::{COUNT, MOST_PENDING, count_of, ticks_of};
 
 // "A send is due at the last clock plus its delay." Whether it found no place.

@@ -1,17 +1,13 @@
--- An answer that is matched as none of Done has a number above 0.
+-- An answer other than Done has a number above 0.
 use mathlib.Core.Path.{◌≡◌, refl}
 use mathlib.Core.Bool.{false}
-use mathlib.Core.List.{[], ◌∷◌}
-use types.Run.{OneOf, miss}
-use denote.Enum.Declared.{tag_of}
-use Rattle.definition.specs.contracts.Answer
 use Rattle.definition.specs.declared.Answer.TheVariants.{Done, Size, Names, Tree, Lists, Transitions, NotAName, Full, BadChart, BadSession, NoRoom, SessionEnded, ClockBack, JournalFull, TooMany, HasHistory}
 use Rattle.definition.specs.Answers.{answer_no}
 use Rattle.compiler.specs.Results.{is_done}
 
-pub not_done : (a : Rattle.definition.specs.declared.Answer.Answer) → OneOf (1 ∷ 2 ∷ 3 ∷ 4 ∷ 5 ∷ 6 ∷ 7 ∷ 8 ∷ 9 ∷ 10 ∷ 11 ∷ 12 ∷ 13 ∷ 14 ∷ 15 ∷ []) (tag_of Answer.the_type a) → is_done a ≡ false
+pub not_done : (a : Rattle.definition.specs.declared.Answer.Answer) → (a ≡ Done → ⊥) → is_done a ≡ false
 unfolding answer_no
-not_done Done h = absurd (miss (1 ∷ 2 ∷ 3 ∷ 4 ∷ 5 ∷ 6 ∷ 7 ∷ 8 ∷ 9 ∷ 10 ∷ 11 ∷ 12 ∷ 13 ∷ 14 ∷ 15 ∷ []) 0 tt h)
+not_done Done h = absurd (h refl)
 not_done Size h = refl
 not_done Names h = refl
 not_done Tree h = refl

@@ -1,5 +1,5 @@
 -- Sets of histories at rows, four words each: what stands at a row, and what a put changes.
-use Rattle.std.specs.Prelude.{◌≡◌, Bool, ◌&&◌, ◌||◌, List, [], ◌∷◌, ◌++◌, ltb, take}
+use Rattle.std.specs.Prelude.{◌≡◌, Bool, ◌&&◌, ◌||◌, List, ◌++◌, ltb, take}
 use Rattle.std.proofs.Math.Path.{refl, ap}
 use Rattle.std.proofs.Common.{sym, ◌∙◌}
 use Rattle.std.proofs.Math.Bool.{true, false}
@@ -9,7 +9,7 @@ use Rattle.std.proofs.Math.Dec.{eqb}
 use Rattle.std.proofs.Math.ListN.{length, get_or, drop, get_or-append}
 use Rattle.std.proofs.Math.Seq.{get_or-take, get_or-drop, get_or-append-add, length-take-le}
 use borrow.Author.Tests.{lt-ltb, le-ltb}
-use Rattle.definition.specs.Rows.{mem, insert, union}
+use Rattle.definition.specs.Rows.{mem, insert}
 use Rattle.definition.specs.Compiled.{words, column}
 use Rattle.laws.specs.Bools.{or_false, and_false, eq_case}
 use Rattle.laws.specs.Sets.{mem_insert}

@@ -1,6 +1,6 @@
 -- The paths to a set of atomic rows below a row p: which rows stand on them, told from the children of each.
-use Rattle.std.specs.Prelude.{◌≡◌, refl, Bool, true, false, not, ◌&&◌, ◌||◌, List, [], ℕ, zero, suc, ◌<◌, ◌≤◌, eqb}
-use Rattle.std.proofs.Common.{sym, ap, ◌∙◌, ⊎_elim, arith, eqb-true, eq-eqb}
+use Rattle.std.specs.Prelude.{◌≡◌, true, false, not, ◌&&◌, ◌||◌, List, ℕ, suc, ◌<◌, eqb}
+use Rattle.std.proofs.Common.{sym, ap, ⊎_elim, arith, eqb-true, eq-eqb}
 use Rattle.std.proofs.lemmas.Bool.{not-true}
 use Rattle.definition.specs.declared.Kind.{Kind}
 use Rattle.definition.specs.declared.Kind.TheVariants.{Root, State, Parallel, Final, Shallow, Deep}
@@ -13,8 +13,8 @@ use Rattle.follower.specs.Legal.{is_atomic_below}
 use Rattle.laws.specs.Bools.{no, clash, or_elim, or_left, or_right, both_ways, not_so, and_left, and_right, and_true}
 use Rattle.laws.specs.Sets.{empty_some}
 use Rattle.laws.specs.Lists.{any_true, any_mem, full_mem}
-use Rattle.laws.specs.Ways.{Way, here, up, Below, way_cases, below_way, way_le}
-use Rattle.accepted.specs.Tree.{Tree, low, stands, under_below, under_plain, below_under, child_facts, mem_children, parent_plain}
+use Rattle.laws.specs.Ways.{Way, here, up, Below, way_cases, below_way}
+use Rattle.accepted.specs.Tree.{Tree, stands, under_below, under_plain, below_under, child_facts, mem_children, parent_plain}
 use Rattle.accepted.specs.Sound.{Sound}
 use Rattle.theory.specs.Entry.{down_facts, down_intro, path_up, path_after, path_parent}
 use Rattle.theory.specs.DefaultBlocks.{path_child}

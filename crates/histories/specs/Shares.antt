@@ -1,11 +1,11 @@
 -- What some of the sets at rows have, what two have, and what all have; and of the children of a row whether they fit.
-use Rattle.std.specs.Prelude.{◌≡◌, Bool, not, ◌&&◌, ◌||◌, cond, List, [], ◌∷◌, ℕ, zero, suc, ◌+◌, ◌*◌, ◌≤◌, ◌<◌}
+use Rattle.std.specs.Prelude.{◌≡◌, Bool, not, ◌&&◌, ◌||◌, cond, List, [], ◌∷◌, ℕ, ◌+◌, ◌*◌, ◌≤◌, ◌<◌}
 use Rattle.std.proofs.Math.Path.{refl, sym}
 use Rattle.std.proofs.Common.{ap, ◌∙◌, arith}
 use Rattle.std.proofs.Math.Bool.{true, false}
 use Rattle.definition.specs.Rows.{from, keep, mem, is_in, any, all, is_empty, is_single, union, intersection, subset}
 use Rattle.definition.specs.Chart.{Chart, kind, is_parallel}
-use Rattle.definition.specs.Tree.{children, is_domain_kind}
+use Rattle.definition.specs.Tree.{children}
 use Rattle.follower.specs.Legal.{children_fit}
 use Rattle.laws.specs.Bools.{no, or_false, or_elim, or_left, or_right, both_ways, bool_case, not_so, clash, and_left}
 use Rattle.laws.specs.Sets.{mem_below, mem_head, mem_union, mem_intersection}

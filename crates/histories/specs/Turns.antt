@@ -1,5 +1,5 @@
 -- The pass over the rows, each after its children: what it tells of a row, and of all places once it ends.
-use Rattle.std.specs.Prelude.{◌≡◌, refl, Bool, ◌&&◌, ◌||◌, List, [], ℕ, zero, suc, ◌+◌, ◌*◌, ◌-◌, ◌≤◌, ◌<◌, length}
+use Rattle.std.specs.Prelude.{◌≡◌, refl, Bool, ◌&&◌, ◌||◌, List, ℕ, zero, suc, ◌+◌, ◌*◌, ◌≤◌, ◌<◌, length}
 use Rattle.std.proofs.Math.Path.{sym, ap}
 use Rattle.std.proofs.Common.{◌∙◌, arith}
 use Rattle.std.proofs.Math.Bool.{true, false, not, cond}
@@ -11,12 +11,12 @@ use Rattle.definition.specs.Tables.{row_count, chart_of}
 use Rattle.definition.specs.Tree.{children}
 use Rattle.follower.specs.Microstep.{paths_below}
 use Rattle.follower.specs.Legal.{children_fit, is_atomic_below, deep_fits, is_storable}
-use Rattle.laws.specs.Bools.{no, clash, bool_case, not_so, eq_case, or_elim, or_left, or_right, and3, and_left, and_right, and_true}
+use Rattle.laws.specs.Bools.{no, clash, bool_case, not_so, eq_case, or_elim, and3, and_left, and_right, and_true}
 use Rattle.laws.specs.Sets.{mem_minus}
 use Rattle.laws.specs.Lists.{any_true, all_mem, mem_all, full_mem, empty_list, subset_mem, set_below}
 use Rattle.laws.specs.Loops.{each_below, below_each, all_leave}
 use Rattle.laws.specs.Orders.{lt_case}
-use Rattle.accepted.specs.Tree.{Tree, not_root, mem_children}
+use Rattle.accepted.specs.Tree.{not_root, mem_children}
 use Rattle.accepted.specs.Sound.{Sound}
 use Rattle.theory.specs.Entry.{child_after, path_after}
 use Rattle.rowset.specs.declared.RowSet.{RowSet}

@@ -1,0 +1,13 @@
+use mathlib.Core.Path.{◌≡◌}
+use mathlib.Core.Bool.{true}
+use Prim.Native.Nat.{◌-◌, ◌≤◌}
+use Rattle.definition.specs.Rows.{all, from}
+use Rattle.definition.specs.Tables.{row_count, chart_of}
+use Rattle.compiler.specs.Judged.{is_above}
+use Rattle.compiler.proofs.judging.ancestors_hold.Given as goal
+
+abbrev pub invariant-loop-i : goal.invariant-loop-i
+invariant-loop-i l = (l.rows ≡ row_count l.numbers) × (l.i ≤ l.rows) × (all (is_above (chart_of l.numbers) l.sets) (from l.i 0) ≡ true)
+
+abbrev pub decreases-loop-i : goal.decreases-loop-i
+decreases-loop-i l = l.rows - l.i
