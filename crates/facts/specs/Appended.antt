@@ -1,7 +1,7 @@
 -- Facts one behind the other: what is gathered of them is gathered of each part. A walk over the tags adds up so.
-use Rattle.std.specs.Prelude.{◌≡◌, refl, Bool, true, false, cond, List, [], ◌∷◌, ◌++◌, ℕ, zero, suc, ◌+◌, ◌≤◌, eqb, length}
+use Rattle.std.specs.Prelude.{◌≡◌, refl, Bool, true, false, cond, List, [], ◌∷◌, ◌++◌, ℕ, suc, ◌+◌, eqb, length}
 use Rattle.std.proofs.Common.{sym, ap, ◌∙◌, append_assoc, arith}
-use Rattle.reading.specs.Content.{Act, Row, Transition, Block, Fact, row_fact, list_fact, transition_fact, action_fact, is_block, acts_in, list_of, rows_from, transitions_from}
+use Rattle.reading.specs.Content.{Act, Row, Fact, row_fact, list_fact, transition_fact, action_fact, is_block, acts_in, list_of, rows_from, transitions_from}
 
 -- ---- actions and lists
 
