@@ -1,5 +1,5 @@
 -- The actions of a text stand in blocks whose owners are there: a transition's block comes behind its tag.
-use Rattle.std.specs.Prelude.{◌≡◌, refl, Bool, true, false, ◌||◌, cond, List, [], ◌∷◌, ◌++◌, ℕ, zero, suc, ◌+◌, ◌≤◌, eqb, leb}
+use Rattle.std.specs.Prelude.{◌≡◌, refl, Bool, true, false, ◌||◌, cond, List, [], ◌∷◌, ◌++◌, ℕ, suc, ◌+◌, ◌≤◌, eqb, leb}
 use Rattle.std.proofs.Common.{subst, zero-add, arith}
 use Rattle.std.proofs.Math.Option.{Option}
 use Rattle.reading.specs.Tags.{Part, Shape, opening, empty, closing, Markup}
