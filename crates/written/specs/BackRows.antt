@@ -10,7 +10,7 @@ use Rattle.reading.specs.Print.{is_element_list, is_history_kind}
 use Rattle.laws.specs.Bools.{no}
 use Rattle.laws.specs.Lists.{empty_list}
 use Rattle.written.specs.Sound.{AllOf, no_more, more, Shaped, RowFits}
-use Rattle.written.specs.InnerSays.{block, acts_said, further, transitions_said}
+use Rattle.written.specs.InnerSays.{acts_said, further, transitions_said}
 use Rattle.written.specs.RowSays.{list_facts, attr_list, inner_said, rows_said}
 use Rattle.written.specs.Back.{acts_both, acts_here, acts_there, other_part, inner_acts, cond_none, transitions_acts, Part, entry_part_lem, exit_part_lem, list_part, part_of, inner_other, row_skipped, rows_other}
 

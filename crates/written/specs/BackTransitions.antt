@@ -9,7 +9,7 @@ use Rattle.definition.specs.Rows.{flat, from}
 use Rattle.reading.specs.Content.{Act, Row, Transition, Content, Fact, list_fact, transition_fact, acts_in, transitions_from, of_source}
 use Rattle.reading.specs.Print.{is_element_list, is_history_kind}
 use Rattle.written.specs.Sound.{AllOf, no_more, more}
-use Rattle.written.specs.InnerSays.{block, acts_said, further, transitions_said}
+use Rattle.written.specs.InnerSays.{acts_said, further, transitions_said}
 use Rattle.written.specs.RowSays.{list_facts, inner_said, rows_said}
 use Rattle.written.specs.Back.{acts_both, acts_here, acts_there, other_part, other_owner, inner_acts, cond_none, row_skipped}
 

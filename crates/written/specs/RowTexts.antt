@@ -11,7 +11,7 @@ use Rattle.grammar.specs.Grammar.{attribute}
 use Rattle.grammar.specs.Tables.{attrs}
 use Rattle.reading.specs.Faults.{namespace, version_text, internal, deep}
 use Rattle.reading.specs.Content.{Act, Row, Transition, Content, of_source}
-use Rattle.reading.specs.Print.{spaced, quoted, given, condition, block_text, element, ids_text, condition_text, transition_text, block_element, is_history_kind, default_text, is_element_list, list_text, inner_text, kind_name, attributes_of, Around, close_text, close_to}
+use Rattle.reading.specs.Print.{spaced, quoted, given, block_text, element, ids_text, condition_text, transition_text, block_element, is_history_kind, default_text, is_element_list, list_text, inner_text, kind_name, attributes_of, Around, close_text, close_to}
 use Rattle.written.specs.Pieces.{Attr, Piece, word_text, attrs_onto, text_of}
 use Rattle.written.specs.Written.{attr, start_tag, end_tag, given_attr, in_text, block_pieces, element_pieces, type_attr, cond_attr, transition_attrs, transition_pieces, block_element as block_pieces_of, default_pieces, list_pieces, inner_pieces, row_element, initial_attr, kind_attrs, row_attrs, Open, close_pieces, closed_to}
 use Rattle.written.specs.Texts.{text_both, attrs_both, value_onto, given_onto, block_text_lem, element_text}
