@@ -21,7 +21,7 @@ use Rattle.cells.specs.Parts.{blocks, CellsRoom}
 use Rattle.cells.specs.Sums.{full_start, full_rising, start_four, start_one}
 use Rattle.cells.specs.Cells.{Held, Said, RowKnown, rows_laid, TransitionKnown, transitions_laid}
 use Rattle.cells.specs.Counts.{row_refs, row_blocks, list_starts, entry_starts, exit_starts, block_starts, target_starts, descriptor_starts, act_starts, list_sum, target_sum, descriptor_sum, row_block_sum, block_sum}
-use Rattle.cells.specs.Header.{counts, CellsLaid}
+use Rattle.cells.specs.Header.{CellsLaid}
 
 -- the lists and blocks of the content behind its rows and transitions
 abbrev pub behind_cells : List (List ℕ) → Content → List ℕ

@@ -1,5 +1,4 @@
 use borrow.Author.Rules.{rules}
-use Prim.Native.Nat.{◌-◌}
 use Rattle.cells.specs.Parts.{rows_begin, rows_room_lem, rows_turn, rows_end}
 use Rattle.cells.proofs.row_cells.Goals as goal
 

@@ -1,5 +1,4 @@
 use borrow.Author.Rules.{rules}
-use Prim.Native.Nat.{◌-◌}
 use Rattle.cells.specs.Ends.{transitions_begin, transitions_room_lem, transitions_turn, transitions_end}
 use Rattle.cells.proofs.transition_cells.Goals as goal
 

@@ -1,5 +1,4 @@
 use borrow.Author.Rules.{rules}
-use Prim.Native.Nat.{◌-◌}
 use Rattle.cells.specs.Totals.{sum_begin, sum_there, sum_fits, sum_turn, sum_end}
 use Rattle.cells.proofs.totals.sum.Goals as goal
 
