@@ -1,5 +1,5 @@
 -- The cells of a row and of a transition that only its tag knows.
-use Rattle.std.specs.Prelude.{◌≡◌, Bool, true, false, not, ◌&&◌, cond, ℕ, ◌-◌, ◌≤◌, ◌<◌, eqb, length, take, drop}
+use Rattle.std.specs.Prelude.{◌≡◌, Bool, true, false, not, ◌&&◌, cond, ℕ, ◌-◌, ◌≤◌, ◌<◌, eqb, length, drop}
 use Rattle.std.proofs.Math.Path.{refl}
 use Rattle.std.proofs.Common.{sym, ap, ◌∙◌, arith, length-drop, length-take-le, eqb-true}
 use mathlib.Core.List.{List, [], ◌∷◌}
@@ -13,7 +13,7 @@ use Rattle.attribute.specs.declared.Default.{Default}
 use Rattle.attribute.specs.declared.Default.TheVariants.{External, Shallow}
 use Rattle.attribute.specs.Values.{defaults_text, default_part, default_of, default_is, value_in}
 use Rattle.values.specs.Ids.{ids_from}
-use Rattle.walks.specs.Told.{value_at, part_at, PlaceRoom}
+use Rattle.walks.specs.Told.{value_at, PlaceRoom}
 
 -- ---- the type
 

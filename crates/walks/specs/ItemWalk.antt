@@ -4,7 +4,6 @@ use Rattle.std.proofs.Common.{sym, ap, ◌∙◌, arith, length-append, length-d
 use Rattle.std.proofs.Math.Path.{subst}
 use mathlib.Core.List.{List, [], ◌∷◌, ◌++◌, append_assoc}
 use Rattle.std.proofs.Math.Option.{none, some}
-use Rattle.marks.specs.declared.Mark.TheVariants as marks
 use Rattle.marks.specs.Marks.{is_mark}
 use Rattle.reading.specs.Tags.{Part, tags_of}
 use Rattle.reading.specs.Faults.{names_in, value_of, initial_word, target_word, event_word}

@@ -1,6 +1,5 @@
 use Rattle.std.proofs.Common.{ap, not}
 use borrow.Author.Rules.{rules}
-use Prim.Native.Nat.{◌-◌}
 use Rattle.walks.specs.HeadWalk.{heading_start, heading_end, heading_less, heading_room, heading_more}
 use Rattle.walks.proofs.heads.lay_heads.Goals as goal
 

@@ -1,6 +1,5 @@
 use Rattle.std.proofs.Common.{ap, not}
 use borrow.Author.Rules.{rules}
-use Prim.Native.Nat.{◌-◌}
 use Rattle.walks.specs.ItemWalk.{walked_start, walked_end, walked_less, walked_room, walked_more}
 use Rattle.walks.proofs.item_walk.file_items.Goals as goal
 

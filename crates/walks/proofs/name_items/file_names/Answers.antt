@@ -1,5 +1,4 @@
 use borrow.Author.Rules.{rules}
-use Prim.Native.Nat.{◌-◌}
 use Rattle.walks.specs.Names.{naming_start, naming_end, naming_space, naming_ends, naming_less, naming_room, naming_more}
 use Rattle.walks.proofs.name_items.file_names.Goals as goal
 

@@ -1,5 +1,4 @@
 use borrow.Author.Rules.{rules}
-use Prim.Native.Nat.{◌-◌}
 use Rattle.walks.specs.Sources.{sources_start, sources_end, sources_less, sources_room, sources_more}
 use Rattle.walks.proofs.sources.sources.Goals as goal
 
