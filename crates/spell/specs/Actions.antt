@@ -1,17 +1,17 @@
 -- Actions by their four cells.
-use Rattle.std.specs.Prelude.{◌≡◌, refl, true, ◌&&◌, List, [], ◌∷◌, ◌++◌, ℕ, zero, suc, ◌+◌, ◌≤◌, ◌<◌, eqb, leb, ltb}
+use Rattle.std.specs.Prelude.{◌≡◌, refl, true, ◌&&◌, List, [], ◌∷◌, ◌++◌, ℕ, zero, suc, ◌≤◌, ◌<◌, eqb, leb, ltb}
 use Rattle.std.proofs.Common.{sym, ap, ap₂, ◌∙◌, append_assoc, arith}
 use borrow.Author.Tests.{leb-true, ltb-true}
-use Rattle.definition.specs.Tables.{most_delay, no_number, row_count, name_count, action_count, action_cell, action_of, action_at, name_at}
+use Rattle.definition.specs.Tables.{most_delay, row_count, name_count, action_count, action_cell, action_of, action_at, name_at}
 use Rattle.definition.specs.Rules.{optional_below, arguments_fit, action_in_range}
 use Rattle.laws.specs.Bools.{and_left, and3}
-use Rattle.tables.specs.Ranges.{CellOfAction, arguments_fit_lem, optional_below_lem}
+use Rattle.tables.specs.Ranges.{arguments_fit_lem, optional_below_lem}
 use Rattle.reading.specs.Content.{Act, Row, raises, hosts, if_in, elseif_in, otherwise, end_if, sends, cancels}
 use Rattle.reading.specs.Layout.{act_of, content}
 use Rattle.reading.specs.Print.{number, condition, act_text}
 use Rattle.spell.specs.Laid.{Laid, laid_as, laid_three}
 use Rattle.spell.specs.Ready.{Ready, RowReady, NameReady, name_ready}
-use Rattle.spell.specs.Sends.{sent_id, IdReady, SendReady, send_rows, cancel_rows}
+use Rattle.spell.specs.Sends.{sent_id, SendReady, send_rows, cancel_rows}
 
 abbrev pub act_at : List ℕ → List ℕ → ℕ → Act
 act_at numbers names a = act_of (name_at names) (action_cell numbers a 0) (action_cell numbers a 1) (action_cell numbers a 2) (action_cell numbers a 3)

@@ -1,20 +1,20 @@
 -- Blocks, action by action; an if with nothing inside and its end go together.
-use Rattle.std.specs.Prelude.{◌≡◌, Bool, true, cond, List, [], ◌∷◌, ◌++◌, map, eqb, ltb}
+use Rattle.std.specs.Prelude.{◌≡◌, Bool, true, cond, List, [], ◌∷◌, ◌++◌, eqb, ltb}
 use Rattle.std.proofs.Math.Path.{refl, ap₂}
-use Rattle.std.proofs.Common.{sym, ap, ◌∙◌, append_assoc, append-nil, add-one}
+use Rattle.std.proofs.Common.{sym, ap, ◌∙◌, append-nil, add-one}
 use Rattle.std.proofs.Math.Bool.{false, ◌&&◌}
 use Prim.Native.Nat.{ℕ, zero, suc, ◌+◌, ◌-◌, ◌≤◌, ◌<◌}
 use native.Mathlib.Omega.{arith}
 use borrow.Author.Tests.{eqb-true, eq-eqb, ne_eqb, lt-ltb, le-ltb, ltb-true}
 use Rattle.definition.specs.Rows.{from, is_empty}
 use Rattle.definition.specs.Tables.{action_count, action_cell, name_at}
-use Rattle.laws.specs.Bools.{and_left, and_right, and3, bool_case}
+use Rattle.laws.specs.Bools.{and3}
 use Rattle.tables.specs.Ranges.{Sized}
 use Rattle.std.proofs.Math.Option.{none, some}
 use Rattle.reading.specs.Content.{Act, Row, raises, hosts, if_in, elseif_in, otherwise, end_if, sends, cancels}
 use Rattle.reading.specs.Layout.{act_of, acts_at, content}
 use Rattle.reading.specs.Print.{condition, act_text, is_if, is_end, row_of_if, block_from, block_text, element, block_element}
-use Rattle.spell.specs.Laid.{laid, after, Laid, laid_as, laid_none, laid_then, Left, left_begin, left_turn, left_end}
+use Rattle.spell.specs.Laid.{Laid, laid_as, laid_none, laid_then, Left, left_begin, left_turn, left_end}
 use Rattle.spell.specs.Ready.{Ready, RowReady}
 use Rattle.spell.specs.Actions.{act_at, ActionReady, if_ready}
 

@@ -1,12 +1,12 @@
 -- What the rules let one read of an accepted chart's tables to write it: names and rows by their numbers.
-use Rattle.std.specs.Prelude.{◌≡◌, refl, cond, List, [], ◌∷◌, ◌++◌, map, ℕ, zero, suc, ◌+◌, ◌≤◌, ◌<◌, eqb, length}
+use Rattle.std.specs.Prelude.{◌≡◌, cond, List, [], ◌∷◌, ◌++◌, map, ℕ, zero, suc, ◌+◌, ◌<◌, eqb, length}
 use Rattle.std.proofs.Common.{sym, ◌∙◌, append_assoc, eq-eqb, ne_eqb}
 use Rattle.std.proofs.Math.Path.{ap}
 use native.Mathlib.Omega.{arith}
 use Rattle.definition.specs.declared.Answer.TheVariants.{Done}
 use Rattle.definition.specs.Rows.{from}
 use Rattle.definition.specs.Names.{before_zero}
-use Rattle.definition.specs.Tables.{no_number, row_count, name_count, row_cell, name_at, slot_at}
+use Rattle.definition.specs.Tables.{no_number, row_count, name_count, row_cell, name_at}
 use Rattle.definition.specs.Rules.{compiled_size, keeps_rules, optional_below}
 use Rattle.accepted.specs.Sound.{accepted_rule1}
 use Rattle.tables.specs.Ranges.{InTables, SlotsIn, SlotIn, rule1_tables, rule1_slots, slot_in_lem, row_fits, optional_below_lem}

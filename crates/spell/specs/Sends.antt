@@ -1,6 +1,6 @@
 -- Sends and cancels, part by part.
-use Rattle.std.specs.Prelude.{◌≡◌, refl, Bool, true, false, cond, List, [], ◌∷◌, ◌++◌, ℕ, eqb}
-use Rattle.std.proofs.Common.{sym, ap, ◌∙◌, append_assoc, eq-eqb, ne_eqb}
+use Rattle.std.specs.Prelude.{◌≡◌, refl, Bool, cond, List, [], ◌∷◌, ◌++◌, ℕ, eqb}
+use Rattle.std.proofs.Common.{ap, append_assoc, eq-eqb, ne_eqb}
 use Rattle.std.proofs.Math.Option.{Option, none, some}
 use Rattle.definition.specs.Tables.{no_number, name_at}
 use Rattle.reading.specs.Content.{Row, sends, cancels}

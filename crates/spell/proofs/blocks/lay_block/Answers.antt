@@ -1,5 +1,4 @@
 use borrow.Author.Rules.{rules}
-use Prim.Native.Nat.{◌-◌}
 use Rattle.spell.specs.Blocks.{block_begin, block_hollow, block_action, block_row, block_pair, block_one, block_end}
 use Rattle.spell.proofs.blocks.lay_block.Goals as goal
 

@@ -1,5 +1,4 @@
 use borrow.Author.Rules.{rules}
-use Prim.Native.Nat.{◌-◌}
 use Rattle.spell.specs.Lists.{items_begin, items_item, items_turn, items_end}
 use Rattle.spell.proofs.lists.lay_items.Goals as goal
 

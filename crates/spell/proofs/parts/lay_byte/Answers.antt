@@ -1,7 +1,5 @@
 use borrow.Author.Rules.{rules}
 use Rattle.spell.specs.Laid.{byte_past, byte_last, byte_out, byte_in}
-use Rattle.spell.proofs.parts.lay_byte.Reads as reads
-use Rattle.spell.proofs.parts.lay_byte.Lts as lts
 use Rattle.spell.proofs.parts.lay_byte.Goals as goal
 
 -- src/parts.rt:18:9

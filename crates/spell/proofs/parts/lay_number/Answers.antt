@@ -1,5 +1,5 @@
 use borrow.Author.Rules.{rules}
-use Rattle.spell.specs.Digits.{spell_begin, spell_in, spell_long, spell_last, spell_turn, spell_end}
+use Rattle.spell.specs.Digits.{spell_begin, spell_in, spell_last, spell_turn, spell_end}
 use Rattle.spell.proofs.parts.lay_number.Goals as goal
 
 pub loop-i-init : goal.loop-i-init

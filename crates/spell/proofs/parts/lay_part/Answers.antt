@@ -1,5 +1,4 @@
 use borrow.Author.Rules.{rules}
-use Prim.Native.Nat.{◌-◌}
 use Rattle.spell.specs.Laid.{left_begin, part_turn, part_end}
 use Rattle.spell.proofs.parts.lay_part.Goals as goal
 
