@@ -1,8 +1,8 @@
 -- The sends and cancels of a round, a start or a closing round (R-9): the names that they speak of stand in their slots, and their numbers are those that
 -- two cells of the notes hold.
-use Rattle.std.specs.Prelude.{◌≡◌, Bool, false, ◌&&◌, ◌||◌, List, [], ◌∷◌, ℕ, suc, ◌+◌, ◌*◌, ◌≤◌, ◌<◌, eqb, ltb, length, get_or}
+use Rattle.std.specs.Prelude.{◌≡◌, Bool, false, ◌&&◌, ◌||◌, List, ℕ, ◌+◌, ◌*◌, ◌≤◌, ◌<◌, eqb, ltb, length, get_or}
 use Rattle.std.proofs.Math.Path.{refl}
-use Rattle.std.proofs.Common.{◌∙◌, arith, ltb-true, lt-ltb, leb-true, le-leb}
+use Rattle.std.proofs.Common.{arith, ltb-true, lt-ltb, le-leb}
 use Rattle.std.proofs.Math.Bool.{true}
 use Rattle.std.proofs.Math.Dec.{leb}
 use Rattle.std.proofs.Math.Seq.{get_or-take}
@@ -14,7 +14,7 @@ use Rattle.definition.specs.Tables.{no_number, most_delay, row_count, transition
 use Rattle.definition.specs.Rules.{each, optional_below, slot_fits, id_fits, raise_fits, action_named, rule2}
 use Rattle.definition.specs.Compiled.{own_numbers}
 use Rattle.follower.specs.Selection.{History}
-use Rattle.follower.specs.Blocks.{Effect, sent, cancelled, perform}
+use Rattle.follower.specs.Blocks.{Effect, perform}
 use Rattle.follower.specs.Microstep.{exiting, effects}
 use Rattle.follower.specs.Follower.{first_effects}
 use Rattle.laws.specs.Bools.{and3, and_left, and_right, and_true}

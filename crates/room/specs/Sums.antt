@@ -74,7 +74,7 @@ mem_without a b (x ∷ xs) m n = go (eqb a x) refl (mem_without a b xs)
   where
     go : (t : Bool) → eqb a x ≡ t → (mem b xs ≡ true → (b ≡ a → ⊥) → mem b (without a xs) ≡ true) → mem b (cond t xs (x ∷ without a xs)) ≡ true
     go true e h = mem_cases b x xs (λ q. absurd (n (q ∙ sym (eqb-true a x e)))) (λ k. k) m
-    go false e h = mem_cases b x xs (λ q. rw q (mem_head x (without a xs))) (λ k. mem_tail x b (without a xs) (h k n)) m
+    go false e h = mem_cases b x xs (λ q. ap (λ (z : ℕ). mem z (x ∷ without a xs)) q ∙ mem_head x (without a xs)) (λ k. mem_tail x b (without a xs) (h k n)) m
 
 pub total_inside : (f : ℕ → ℕ) (xs ys : List ℕ) → NoTwice xs → ((x : ℕ) → mem x xs ≡ true → mem x ys ≡ true) → total f xs ≤ total f ys
 unfolding total

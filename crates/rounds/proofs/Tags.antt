@@ -1,5 +1,6 @@
 -- What is known of an enum where a match has left it: it is none of the variants before.
 use mathlib.Core.Path.{◌≡◌, refl}
+use mathlib.Core.Logic.{◌⊎◌, inl, inr}
 use mathlib.Core.List.{[], ◌∷◌}
 use Prim.Native.Nat.{ℕ}
 use native.Mathlib.Omega.{arith}
@@ -32,16 +33,14 @@ not_nothing Eventless h e = let z : ◌≡◌ {A = ℕ} 0 1 = cc in omega arith
 not_nothing Internal h e = let z : ◌≡◌ {A = ℕ} 0 1 = cc in omega arith
 not_nothing External h e = let z : ◌≡◌ {A = ℕ} 0 1 = cc in omega arith
 
-pub all_left : (s : source.Source) (n : ℕ) → OneOf (0 ∷ 1 ∷ 3 ∷ []) (tag_of Source.the_type s) → n ≡ internal_left s n
+pub all_left : (s : source.Source) (n : ℕ) → (s ≡ Nothing) ⊎ (s ≡ Eventless) ⊎ (s ≡ External) → n ≡ internal_left s n
 unfolding internal_left
-all_left Nothing n h = refl
-all_left Eventless n h = refl
-all_left Internal n h = absurd (miss (0 ∷ 1 ∷ 3 ∷ []) 2 tt h)
-all_left External n h = refl
+all_left s n (inl e) = rw e refl
+all_left s n (inr (inl e)) = rw e refl
+all_left s n (inr (inr e)) = rw e refl
 
-pub all_out : (s : source.Source) (n : ℕ) → OneOf (0 ∷ 1 ∷ 2 ∷ []) (tag_of Source.the_type s) → n ≡ external_left s n
+pub all_out : (s : source.Source) (n : ℕ) → (s ≡ Nothing) ⊎ (s ≡ Eventless) ⊎ (s ≡ Internal) → n ≡ external_left s n
 unfolding external_left
-all_out Nothing n h = refl
-all_out Eventless n h = refl
-all_out Internal n h = refl
-all_out External n h = absurd (miss (0 ∷ 1 ∷ 2 ∷ []) 3 tt h)
+all_out s n (inl e) = rw e refl
+all_out s n (inr (inl e)) = rw e refl
+all_out s n (inr (inr e)) = rw e refl

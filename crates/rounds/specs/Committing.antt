@@ -6,7 +6,7 @@ use mathlib.Core.List.{List, ◌++◌}
 use Rattle.std.proofs.Math.ListN.{length, drop, length-append}
 use Rattle.definition.specs.declared.Mode.{Mode}
 use Rattle.definition.specs.declared.Mode.TheVariants.{Running, Closing}
-use Rattle.definition.specs.Rows.{from, flat, any, union}
+use Rattle.definition.specs.Rows.{flat, any, union}
 use Rattle.definition.specs.Names.{Name}
 use Rattle.definition.specs.Chart.{Chart}
 use Rattle.definition.specs.Tables.{name_at, chart_of}
@@ -15,7 +15,6 @@ use Rattle.follower.specs.Microstep.{stored_in, history_after, configuration_aft
 use Rattle.definition.specs.Answers.{mode_no}
 use Rattle.definition.specs.Compiled.{words}
 use Rattle.follower.specs.Follower.{Follower, is_final_under_root, mode_of}
-use Rattle.theory.specs.Runs.{Fits}
 use Rattle.rowset.specs.declared.RowSet.{RowSet}
 use Rattle.rowset.specs.Member.{rows_of}
 use Rattle.chart.specs.Ready.{CompiledWith}

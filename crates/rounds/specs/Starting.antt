@@ -34,7 +34,7 @@ use Rattle.clock.specs.Records.{clock_bytes, clock_in}
 use Rattle.clock.specs.Spelled.{zeros_are_new, zeros_hold, zeros_spell}
 use Rattle.legality.specs.Rows.{RowsReady}
 use Rattle.queue.specs.Queues.{queue_bytes, queue_of, queue_none}
-use Rattle.state.specs.State.{history_words, numbers_of, history_in, trace_with}
+use Rattle.state.specs.State.{history_words, numbers_of, history_in}
 use Rattle.state.specs.Words.{words_none, history_none}
 use Rattle.events.specs.Rounds.{queued_names, JoinsIn}
 use Rattle.events.specs.Entries.{JoinsStand, start_joins}

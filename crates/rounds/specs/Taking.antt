@@ -6,7 +6,7 @@ use mathlib.Core.List.{List, [], ◌∷◌, ◌++◌}
 use Rattle.std.proofs.Math.ListN.{get_or-eq_default}
 use borrow.Author.Tests.{ltb-true, ltb-false, le-ltb}
 use Rattle.definition.specs.declared.Mode.TheVariants.{Running}
-use Rattle.definition.specs.Rows.{from, flat, mem, union}
+use Rattle.definition.specs.Rows.{flat, mem, union}
 use Rattle.definition.specs.Names.{Name}
 use Rattle.definition.specs.Chart.{Chart, Names}
 use Rattle.definition.specs.Tables.{row_count, transition_count, name_at, chart_of}
@@ -18,7 +18,6 @@ use Rattle.laws.specs.Bools.{bool_case}
 use Rattle.laws.specs.Lists.{set_below}
 use Rattle.laws.specs.Maps.{map_length}
 use Rattle.accepted.specs.Tree.{Tree}
-use Rattle.theory.specs.Runs.{Fits}
 use Rattle.rowset.specs.declared.RowSet.{RowSet}
 use Rattle.rowset.specs.Member.{rows_of}
 use Rattle.chart.specs.Ready.{row_set_at, CompiledWith}

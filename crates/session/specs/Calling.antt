@@ -25,8 +25,6 @@ use Rattle.clock.specs.Spelled.{zeros_are_new}
 use Rattle.rounds.specs.Calls.{timed_at}
 use Rattle.session.specs.declared.Session.{Session}
 use Rattle.session.specs.declared.Clock.{Clock}
-use Rattle.session.specs.declared.Started.{Started}
-use Rattle.session.specs.declared.Ran.{Ran}
 use Rattle.session.specs.Sessions.{session, session_at, session_of, ended_session, view, is_session, record_of, view_timed, is_timed, start_by, started_as, start_of, start_effects, refused_run, ran_as, run_from, run_of, run_effects}
 use Rattle.session.specs.Spelling.{session_spells, session_well_formed, ended_spells}
 use Rattle.session.specs.Timing.{timed_session, timed_holds}

@@ -11,7 +11,7 @@ use Rattle.definition.specs.declared.Answer.TheVariants.{Done, BadChart, BadSess
 use Rattle.definition.specs.Chart.{Chart}
 use Rattle.definition.specs.Tables.{chart_of}
 use Rattle.definition.specs.Answers.{answer_no}
-use Rattle.definition.specs.Compiled.{own_numbers, is_compiled}
+use Rattle.definition.specs.Compiled.{is_compiled}
 use Rattle.follower.specs.Clock.{most_ticks, Joining}
 use Rattle.follower.specs.Follower.{is_ended, Timed, clock_answer, with_names, clocked_by, clocked, clock}
 use Rattle.follower.specs.Legal.{is_well_timed}

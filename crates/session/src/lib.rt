@@ -22,7 +22,7 @@ mod clocking;
 mod judging;
 
 #[repr(C)]
-#[derive(Drop)]
+#[derive(Clone, Copy)]
 pub struct Session {
     pub configuration: [u64; 4],
     pub history: [u64; 1024],
@@ -35,7 +35,7 @@ pub struct Session {
 
 // A clock record (R-9): the bytes of its place, of which crate clock tells the parts. Zeros are a new one.
 #[repr(C)]
-#[derive(Drop)]
+#[derive(Clone, Copy)]
 pub struct Clock {
     pub bytes: [u8; 4368],
 }
