@@ -1,11 +1,10 @@
 -- No name of an accepted chart is empty, so a list is written exactly where it names something.
-use Rattle.std.specs.Prelude.{◌≡◌, Bool, true, not, ◌&&◌, ◌||◌, cond, ℕ, zero, suc, ◌≤◌, ◌<◌, eqb, length, get_or}
+use Rattle.std.specs.Prelude.{◌≡◌, true, ℕ, zero, suc, ◌<◌, eqb, length, get_or}
 use Rattle.std.proofs.Math.Path.{refl}
 use Rattle.std.proofs.Common.{sym, ap, ◌∙◌, arith}
 use Rattle.std.proofs.Math.Bool.{false}
 use mathlib.Core.List.{List, [], ◌∷◌, ◌++◌, map}
 use borrow.Author.Tests.{eqb-false, ne_eqb, not-true}
-use Rattle.definition.specs.declared.Answer.TheVariants.{Done}
 use Rattle.definition.specs.Rows.{is_empty, same}
 use Rattle.definition.specs.Names.{is_name, is_descriptor, bare}
 use Rattle.definition.specs.Tables.{no_number, row_count, name_count, row_cell, name_at, id_at}

@@ -1,7 +1,7 @@
 -- The list of a row: in an element of its own, or in an attribute.
-use Rattle.std.specs.Prelude.{◌≡◌, Bool, true, false, not, ◌&&◌, ◌||◌, cond, List, [], ◌∷◌, ◌++◌, map, ℕ, zero, suc, ◌+◌, ◌*◌, ◌≤◌, ◌<◌, eqb, leb, length, take, drop}
+use Rattle.std.specs.Prelude.{◌≡◌, Bool, true, false, not, ◌||◌, cond, List, [], ◌∷◌, ◌++◌, map, ℕ, zero, suc, ◌+◌, ◌≤◌, ◌<◌, eqb, length, drop}
 use Rattle.std.proofs.Math.Path.{refl, ap}
-use Rattle.std.proofs.Common.{sym, ap₂, ◌∙◌, append_assoc, arith, eqb-true, le-leb}
+use Rattle.std.proofs.Common.{sym, ◌∙◌, arith, eqb-true, le-leb}
 use Rattle.std.proofs.Math.ListN.{length-drop}
 use Rattle.std.proofs.Math.Seq.{length-take-le}
 use Rattle.std.proofs.lemmas.Bool.{eqb-false, lt-leb}
@@ -16,7 +16,7 @@ use Rattle.reading.specs.Print.{quoted, spaced, given, block_text, ids_text, is_
 use Rattle.written.specs.Sound.{AllOf, Ref}
 use Rattle.written.specs.AcceptedRows as accepted
 use Rattle.spell.specs.Laid.{Laid, laid_as, laid_none, laid_then}
-use Rattle.spell.specs.Ready.{Ready, RowReady}
+use Rattle.spell.specs.Ready.{RowReady}
 use Rattle.spell.specs.Lists.{item, ListReady}
 use Rattle.spell.specs.Blocks.{BlockReady, closing}
 use Rattle.elements.specs.Filled.{rows_ready}

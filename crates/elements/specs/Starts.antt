@@ -1,15 +1,15 @@
 -- The start tag of a row.
-use Rattle.std.specs.Prelude.{◌≡◌, refl, Bool, true, false, cond, List, [], ◌∷◌, ◌++◌, ℕ, zero, suc, ◌≤◌, ◌<◌, eqb}
+use Rattle.std.specs.Prelude.{◌≡◌, refl, cond, List, [], ◌∷◌, ◌++◌, ℕ, zero, suc, eqb}
 use Rattle.std.proofs.Math.Path.{sym}
 use Rattle.std.proofs.Common.{ap, ◌∙◌, append_assoc, eq-eqb, ne_eqb}
 use Rattle.definition.specs.Rows.{is_empty}
-use Rattle.definition.specs.Tables.{no_number, name_count, row_cell, name_at}
+use Rattle.definition.specs.Tables.{no_number, row_cell, name_at}
 use Rattle.reading.specs.Faults.{deep}
 use Rattle.reading.specs.Content.{Row}
 use Rattle.reading.specs.Layout.{content, row_back}
 use Rattle.reading.specs.Print.{quoted, given, kind_name, initial_text, attributes_of}
 use Rattle.spell.specs.Laid.{Laid, laid_as, laid_none, laid_then}
-use Rattle.spell.specs.Ready.{Ready, RowReady, id_below}
+use Rattle.spell.specs.Ready.{RowReady, id_below}
 use Rattle.elements.specs.Filled.{name_filled}
 
 abbrev pub root_text : ℕ → List ℕ

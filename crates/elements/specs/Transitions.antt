@@ -1,13 +1,12 @@
 -- A transition, attribute by attribute.
-use Rattle.std.specs.Prelude.{◌≡◌, Bool, true, false, not, cond, List, [], ◌∷◌, ◌++◌, map, ℕ, suc, ◌+◌, ◌≤◌, ◌<◌, eqb}
+use Rattle.std.specs.Prelude.{◌≡◌, Bool, true, false, not, cond, List, [], ◌∷◌, ◌++◌, map, ℕ, ◌<◌}
 use Rattle.std.proofs.Math.Path.{refl, sym}
 use Rattle.std.proofs.Common.{ap, ap₂, ◌∙◌, append_assoc, append-nil, arith, eq-eqb, ne_eqb}
 use Rattle.std.proofs.lemmas.Bool.{not-true, not-false}
-use Rattle.definition.specs.Tables.{no_number, most_targets, most_descriptors, row_count, transition_count, transition_cell, name_at, events_at, targets_at, condition_at, internal_at}
+use Rattle.definition.specs.Tables.{no_number, most_targets, most_descriptors, row_count, transition_count, transition_cell, events_at, targets_at, condition_at, internal_at}
 use Rattle.tables.specs.Ranges.{TransitionIn, RowsIn, NamesIn, transition_fits_lem, condition_below}
 use Rattle.tables.specs.Parts.{Listed}
 use Rattle.reading.specs.Faults.{internal}
-use Rattle.reading.specs.Content.{Row}
 use Rattle.reading.specs.Layout.{content, acts_at, transition_back}
 use Rattle.reading.specs.Print.{quoted, spaced, given, condition, condition_text, block_text, transition_text}
 use Rattle.written.specs.Sound.{AllOf, Ref}

@@ -1,18 +1,18 @@
 -- What a call that writes a chart and answers 0 leaves in the buffer (R-4), and how that reads.
 use Rattle.std.specs.Prelude.{◌≡◌, Bool, true, false, ◌&&◌, cond, List, ◌++◌, ℕ, zero, suc, ◌≤◌, leb, length, take, drop}
 use Rattle.std.proofs.Math.Path.{refl}
-use Rattle.std.proofs.Common.{sym, ap, ap₂, ◌∙◌, subst, arith, le-leb, leb-true}
+use Rattle.std.proofs.Common.{sym, ap, ◌∙◌, subst, arith, le-leb, leb-true}
 use Rattle.definition.specs.declared.Answer.{Answer}
 use Rattle.definition.specs.declared.Answer.TheVariants.{Done}
 use Rattle.definition.specs.Answers.{answer_no}
 use Rattle.definition.specs.Rules.{keeps_rules}
-use Rattle.laws.specs.Bools.{and_true, and_left, and_right}
+use Rattle.laws.specs.Bools.{and_true, and_left}
 use Rattle.laws.specs.Answers.{answer_done}
 use Rattle.reading.specs.Layout.{tables, read_of, content}
 use Rattle.reading.specs.Print.{print}
 use Rattle.writing.specs.Calls.{Outcome, longest, text_of, outcome, judged, call_of}
 use Rattle.written.specs.Held.{take_all, drop_all}
-use Rattle.written.specs.ReadWhole.{ReadsBack, reads_back}
+use Rattle.written.specs.ReadWhole.{reads_back}
 use Rattle.written.specs.Equal.{normal_numbers, normal_names, content_equal}
 
 -- the text that stands in the buffer behind a call

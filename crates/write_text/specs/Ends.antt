@@ -1,12 +1,12 @@
 -- The open rows: one row and its ancestors, or none; and their end tags.
 use Rattle.std.specs.Prelude.{◌≡◌, true, not, cond, eqb, ltb}
 use Rattle.std.proofs.Math.Path.{refl}
-use Rattle.std.proofs.Common.{sym, ap, ap₂, ◌∙◌, subst, arith}
+use Rattle.std.proofs.Common.{sym, ap, ◌∙◌, subst, arith}
 use mathlib.Core.List.{List, [], ◌∷◌, ◌++◌, map, append_assoc}
-use Prim.Native.Nat.{ℕ, zero, suc, ◌+◌, ◌≤◌, ◌<◌}
+use Prim.Native.Nat.{ℕ, zero, suc, ◌≤◌, ◌<◌}
 use borrow.Author.Tests.{eqb-true, eqb-false, eq-eqb, ne_eqb, lt-ltb, le-ltb}
 use Rattle.definition.specs.Rows.{mem}
-use Rattle.definition.specs.Chart.{Chart, kind, parent, is_root}
+use Rattle.definition.specs.Chart.{kind, parent, is_root}
 use Rattle.definition.specs.Tables.{no_number, row_count, row_cell, parent_at, chart_of}
 use Rattle.definition.specs.Tree.{ancestors}
 use Rattle.definition.specs.Rules.{parent_fits, may_stand}
@@ -16,7 +16,7 @@ use Rattle.accepted.specs.Tree.{Tree, parent_fits_lem, climb_one, low}
 use Rattle.accepted.specs.Sound.{accepted_sound}
 use Rattle.tables.specs.Ranges.{InTables}
 use Rattle.reading.specs.Print.{kind_name, Around, close_text, close_to}
-use Rattle.spell.specs.Laid.{Laid, laid_as, laid_none, laid_then, Left, left_begin, left_turn, left_end}
+use Rattle.spell.specs.Laid.{Laid, laid_as, laid_then, Left, left_begin, left_turn, left_end}
 use Rattle.spell.specs.Ready.{Ready}
 
 pub record TreeReady (numbers : List ℕ) : Type 0 where

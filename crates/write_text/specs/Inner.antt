@@ -1,24 +1,23 @@
 -- What stands in a row before its child rows, and whether anything does.
-use Rattle.std.specs.Prelude.{◌≡◌, Bool, true, false, not, ◌||◌, cond, leb, ltb}
+use Rattle.std.specs.Prelude.{◌≡◌, Bool, true, false, not, ◌||◌, leb, ltb}
 use Rattle.std.proofs.Math.Path.{refl, ap, ap₂}
-use Rattle.std.proofs.Common.{sym, ◌∙◌, add-one, arith}
+use Rattle.std.proofs.Common.{sym, ◌∙◌, arith}
 use Rattle.std.proofs.Math.Bool.{◌&&◌}
 use mathlib.Core.List.{List, [], ◌∷◌, ◌++◌, map}
 use Prim.Native.Nat.{ℕ, zero, suc, ◌+◌, ◌-◌, ◌≤◌, ◌<◌}
 use Rattle.std.proofs.Math.Dec.{eqb}
-use borrow.Author.Tests.{eqb-true, eqb-false, eq-eqb, ne_eqb, le-leb, lt-leb, le-ltb, lt-ltb, not-true, not-false}
+use borrow.Author.Tests.{eq-eqb, ne_eqb, le-leb, lt-leb, le-ltb, lt-ltb, not-true, not-false}
 use Rattle.definition.specs.Rows.{flat, from, is_empty}
-use Rattle.definition.specs.Tables.{row_count, transition_count, action_count, row_cell, parent_at}
-use Rattle.laws.specs.Bools.{bool_case}
-use Rattle.tables.specs.Ranges.{RowIn, row_fits}
-use Rattle.reading.specs.Content.{Act, Row, Transition, Content, of_source}
+use Rattle.definition.specs.Tables.{row_count, action_count, row_cell, parent_at}
+use Rattle.tables.specs.Ranges.{row_fits}
+use Rattle.reading.specs.Content.{Act, Row, Transition, of_source}
 use Rattle.reading.specs.Layout.{content, acts_at, row_back, transition_back}
-use Rattle.reading.specs.Print.{element, block_text, block_element, is_history_kind, is_element_list, default_text, list_text, transition_text, inner_text, has_child}
+use Rattle.reading.specs.Print.{block_element, is_history_kind, list_text, transition_text, inner_text, has_child}
 use Rattle.spell.specs.Laid.{Laid, laid_as, laid_then}
-use Rattle.spell.specs.Ready.{Ready, RowReady}
+use Rattle.spell.specs.Ready.{RowReady}
 use Rattle.spell.specs.Blocks.{BlockReady}
 use Rattle.elements.specs.Lists.{list_empty, block_empty}
-use Rattle.write_text.specs.Runs.{TransitionsReady, Run, run_text}
+use Rattle.write_text.specs.Runs.{TransitionsReady, run_text}
 
 -- no blocks, no transitions, no list that stands as an element
 unfoldable pub is_blank : List ℕ → ℕ → ℕ → ℕ → Bool

@@ -1,5 +1,5 @@
 -- The rows in document order: what is left of the text behind row i, with the inmost rows as the path of one of them.
-use Rattle.std.specs.Prelude.{◌≡◌, Bool, false, ◌&&◌, ℕ, zero, suc, ◌+◌, ◌-◌, ◌≤◌, ◌<◌, ltb, length}
+use Rattle.std.specs.Prelude.{◌≡◌, Bool, false, ◌&&◌, ℕ, suc, ◌+◌, ◌-◌, ◌≤◌, ◌<◌, ltb, length}
 use Rattle.std.proofs.Math.Path.{refl, sym, ap, ap₂}
 use Rattle.std.proofs.Common.{◌∙◌, add-one}
 use Rattle.std.proofs.Math.Bool.{true, not, cond}
@@ -8,18 +8,18 @@ use native.Mathlib.Omega.{arith}
 use Rattle.std.proofs.Math.Dec.{eqb}
 use borrow.Author.Tests.{eq-eqb, lt-ltb}
 use Rattle.definition.specs.Rows.{from, is_empty}
-use Rattle.definition.specs.Tables.{no_number, row_count, transition_count, row_cell, parent_at}
+use Rattle.definition.specs.Tables.{no_number, row_count, row_cell, parent_at}
 use Rattle.laws.specs.Bools.{no, and_right}
 use Rattle.tables.specs.Ranges.{RowIn}
 use Rattle.write_text.specs.declared.rows.Next.{Next}
 use Rattle.reading.specs.Content.{Row, Content}
 use Rattle.reading.specs.Layout.{content, row_back}
-use Rattle.reading.specs.Print.{Around, kind_name, attributes_of, inner_text, has_child, close_text, close_to, rows_text, print}
-use Rattle.spell.specs.Laid.{laid, after, Laid, laid_as, laid_then, Left, left_begin, left_turn, left_tail}
+use Rattle.reading.specs.Print.{Around, kind_name, inner_text, has_child, close_text, close_to, rows_text, print}
+use Rattle.spell.specs.Laid.{laid, after, Laid, laid_as, laid_then, Left, left_turn, left_tail}
 use Rattle.spell.specs.Ready.{Ready, RowReady}
 use Rattle.elements.specs.Starts.{start_text}
-use Rattle.write_text.specs.Runs.{RunReady, Run, Cursor, cursor_begin, run_own, run_next, TransitionsReady}
-use Rattle.write_text.specs.Ends.{TreeReady, tree_ready, tag_of, path_of, path_none, path_step, root_parent, next_open, next_beside}
+use Rattle.write_text.specs.Runs.{RunReady, Run, Cursor, cursor_begin, run_own, run_next}
+use Rattle.write_text.specs.Ends.{TreeReady, tree_ready, path_of, path_none, path_step, root_parent, next_open, next_beside}
 use Rattle.write_text.specs.Inner.{is_blank, is_bare, InnerReady, bare_is}
 
 -- ---- a row up to its child rows

@@ -1,14 +1,14 @@
 -- The transitions of a row stand one behind the other: the run from the first that is not of an earlier row.
 use Rattle.std.specs.Prelude.{◌≡◌, Bool, true, false, ◌&&◌, cond, eqb, leb}
 use Rattle.std.proofs.Math.Path.{refl, ap}
-use Rattle.std.proofs.Common.{sym, ap₂, ◌∙◌, add-one}
+use Rattle.std.proofs.Common.{sym, ◌∙◌, add-one}
 use Rattle.std.proofs.Math.Bool.{not}
 use mathlib.Core.List.{List, [], ◌∷◌, ◌++◌, map, append-nil}
 use Prim.Native.Nat.{ℕ, zero, suc, ◌+◌, ◌-◌, ◌≤◌, ◌<◌}
 use native.Mathlib.Omega.{arith}
 use borrow.Author.Tests.{eqb-true, eqb-false, eq-eqb, ne_eqb, leb-true, leb-false}
 use Rattle.definition.specs.Rows.{flat, from}
-use Rattle.definition.specs.Chart.{Chart, kind}
+use Rattle.definition.specs.Chart.{kind}
 use Rattle.definition.specs.Tables.{row_count, transition_count, transition_cell, source_at, chart_of}
 use Rattle.definition.specs.Rules.{is_in_order, is_source_kind, has_use, condition_fits, spins, transition_fits, each, row_branches_fit, transition_branches_fit, rule5}
 use Rattle.laws.specs.Bools.{and_left, and3, bool_case}
@@ -18,7 +18,7 @@ use Rattle.tables.specs.Ranges.{InTables, CellOfTransition}
 use Rattle.reading.specs.Content.{Transition, of_source}
 use Rattle.reading.specs.Layout.{content, transition_back}
 use Rattle.reading.specs.Print.{transition_text}
-use Rattle.spell.specs.Laid.{Laid, laid_as, laid_none, Left, left_begin, left_turn, left_end}
+use Rattle.spell.specs.Laid.{Laid, Left, left_begin, left_turn, left_end}
 use Rattle.spell.specs.Ready.{Ready}
 use Rattle.elements.specs.Transitions.{TransitionReady}
 

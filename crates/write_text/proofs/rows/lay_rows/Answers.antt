@@ -1,5 +1,4 @@
 use borrow.Author.Rules.{rules}
-use Prim.Native.Nat.{◌-◌}
 use Rattle.write_text.specs.Rows.{rows_begin, rows_tree, rows_ready, rows_turn, rows_end}
 use Rattle.write_text.proofs.rows.lay_rows.Goals as goal
 

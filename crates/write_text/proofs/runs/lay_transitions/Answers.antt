@@ -1,5 +1,4 @@
 use borrow.Author.Rules.{rules}
-use Prim.Native.Nat.{◌-◌}
 use Rattle.write_text.specs.Runs.{run_text_begin, run_text_small, run_text_in, run_text_turn, run_text_end}
 use Rattle.write_text.proofs.runs.lay_transitions.Goals as goal
 

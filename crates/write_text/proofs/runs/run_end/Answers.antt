@@ -1,5 +1,4 @@
 use borrow.Author.Rules.{rules}
-use Prim.Native.Nat.{◌-◌}
 use Rattle.write_text.specs.Runs.{run_begin, run_cell, run_turn, run_leave, run_done}
 use Rattle.write_text.proofs.runs.run_end.Goals as goal
 
