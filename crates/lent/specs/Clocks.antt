@@ -1,5 +1,5 @@
 -- A clock call over lent places (R-9).
-use Rattle.std.specs.Prelude.{◌≡◌, refl, Bool, true, false, not, ◌||◌, List, ℕ, ◌≤◌, ltb, length, get_or, take, drop, set}
+use Rattle.std.specs.Prelude.{◌≡◌, true, false, not, ◌||◌, List, ℕ, ◌≤◌, ltb, length, get_or, take, drop, set}
 use Rattle.std.proofs.Common.{sym, ap, ◌∙◌}
 use Rattle.definition.specs.declared.Mode.TheVariants.{Running}
 use Rattle.definition.specs.declared.Answer.TheVariants.{Done, BadChart, BadSession, SessionEnded, ClockBack}

@@ -1,5 +1,5 @@
 -- The laws of a session lent in three places: their lengths, the test of the session in them, and the checks behind 8 and 9.
-use Rattle.std.specs.Prelude.{◌≡◌, refl, Bool, true, false, not, ◌&&◌, List, ℕ, ◌-◌, ◌≤◌, eqb, get_or, take, drop}
+use Rattle.std.specs.Prelude.{◌≡◌, refl, Bool, true, false, not, ◌&&◌, List, ℕ, ◌-◌, eqb, get_or, take, drop}
 use Rattle.std.proofs.Common.{sym, ◌∙◌, arith, length-take-le, eqb-true}
 use Rattle.std.proofs.Math.Path.{ap}
 use Rattle.std.proofs.Math.ListN.{length, length-take, length-drop}

@@ -1,10 +1,9 @@
 -- A run over lent places, and a post with a run behind it.
-use Rattle.std.specs.Prelude.{◌≡◌, refl, true, false, not, List, ℕ, length}
+use Rattle.std.specs.Prelude.{◌≡◌, true, false, not, List, ℕ, length}
 use Rattle.std.proofs.Math.Path.{sym, ap}
 use Rattle.std.proofs.Common.{◌∙◌}
 use Rattle.definition.specs.declared.Answer.{Answer}
 use Rattle.definition.specs.declared.Answer.TheVariants.{BadChart, BadSession}
-use Rattle.definition.specs.declared.Status.TheVariants.{Refused}
 use Rattle.definition.specs.Names.{Name}
 use Rattle.definition.specs.Tables.{row_count, chart_of, name_at}
 use Rattle.definition.specs.Compiled.{is_compiled}

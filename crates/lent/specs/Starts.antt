@@ -1,6 +1,6 @@
 -- A start over lent places.
 use Rattle.std.specs.Prelude.{◌≡◌, refl, Bool, true, false, not, List, ℕ, length, replicate}
-use Rattle.std.proofs.Common.{sym, ap, ◌∙◌}
+use Rattle.std.proofs.Common.{ap, ◌∙◌}
 use Rattle.definition.specs.declared.Answer.TheVariants.{BadChart, BadSession}
 use Rattle.definition.specs.Tables.{chart_of, name_at}
 use Rattle.definition.specs.Compiled.{is_compiled}
