@@ -6,7 +6,7 @@ use Rattle.definition.specs.Tables.{row_count, chart_of}
 use Rattle.follower.specs.Calls.{Call, starts, posts, clocks, runs, Outcome, at_rest}
 use Rattle.definition.specs.Compiled.{own_numbers, is_compiled}
 use Rattle.laws.specs.Bools.{no}
-use Rattle.faithful.specs.Program.{Both, zeros, Step, call_all}
+use Rattle.faithful.specs.Program.{Both, zeros, Step, call, call_all}
 use Rattle.faithful.specs.Alike.{Alike, alike_both, AllAlike}
 use Rattle.faithful.specs.Demand3.{Demand3, demand_3_checked}
 use Rattle.calls.specs.Performing.{Gives, leaves, step_of, followed, starts_first, Performs}
@@ -45,7 +45,7 @@ module _ (chart names : List ℕ) (compiled : is_compiled chart names ≡ true) 
 pub calls_length : (chart names : List ℕ) (s : Both) (calls : List Call) → length (call_all chart names s calls) ≡ length calls
 unfolding call_all
 calls_length chart names s [] = refl
-calls_length chart names s (x ∷ xs) = ap suc (calls_length chart names _ xs)
+calls_length chart names s (x ∷ xs) = ap suc (calls_length chart names (call chart names s x).after xs)
 
 -- the equations give the whole contract
 pub performs : (calls : List Call) (first : Both) (chart names cells₀ trace₀ : List ℕ) (last : Both) (count : ℕ) (cells trace : List ℕ) → count ≡ length calls →

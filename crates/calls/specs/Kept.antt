@@ -1,32 +1,30 @@
 -- Every call keeps session and clock record well formed, so that one check of them serves for a list of calls.
-use Rattle.std.specs.Prelude.{◌≡◌, refl, Bool, false, cond, ◌&&◌, List, ℕ, ◌≤◌, eqb}
+use Rattle.std.specs.Prelude.{◌≡◌, false, cond, List, ℕ, eqb}
 use Rattle.std.proofs.Math.Path.{sym, ap}
 use Rattle.std.proofs.Common.{◌∙◌}
 use Rattle.std.proofs.Math.Bool.{true}
 use borrow.Author.Tests.{ne_eqb}
 use Rattle.definition.specs.declared.Answer.TheVariants.{Done}
 use Rattle.definition.specs.Chart.{Chart}
-use Rattle.definition.specs.Tables.{row_count, chart_of, name_at}
+use Rattle.definition.specs.Tables.{row_count, chart_of}
 use Rattle.definition.specs.Rules.{keeps_rules}
 use Rattle.follower.specs.Clock.{new_clock}
 use Rattle.follower.specs.Follower.{ended_follower, Timed}
-use Rattle.follower.specs.Calls.{Call, starts, posts, clocks, runs, follow}
+use Rattle.follower.specs.Calls.{Call, starts, clocks, runs}
 use Rattle.follower.specs.Legal.{WellTimed}
 use Rattle.definition.specs.Compiled.{own_numbers, is_compiled}
 use Rattle.laws.specs.Bools.{bool_case, eq_case}
 use Rattle.accepted.specs.Sound.{Sound, accepted_sound}
 use Rattle.theory.specs.Theorems.{timed_exact, rest_well_timed, follow_keeps}
 use Rattle.chart.specs.Own.{own_chart, compiled_ready}
-use Rattle.session.specs.declared.Session.{Session}
-use Rattle.session.specs.declared.Clock.{Clock}
-use Rattle.session.specs.Sessions.{session_of, record_of, view_timed, is_session, is_timed, refused_run, run_of, clock_of, clock_checked}
+use Rattle.session.specs.Sessions.{view_timed, is_timed, refused_run, run_of, clock_of, clock_checked}
 use Rattle.session.specs.Spelling.{session_spells}
 use Rattle.session.specs.Timing.{timed_session, timed_record, timed_well, timed_passes}
 use Rattle.lent.specs.declared.Checks.{Checks}
 use Rattle.lent.specs.Places.{checks_of}
 use Rattle.lent.specs.Lent.{checks_checked, post_checks}
-use Rattle.faithful.specs.Program.{Both, both_of, Step, start_step, post_step, clock_step, run_step, call}
-use Rattle.faithful.specs.Alike.{Alike, alike_both}
+use Rattle.faithful.specs.Program.{Both, both_of, start_step, post_step, clock_step, run_step, call}
+use Rattle.faithful.specs.Alike.{alike_both}
 use Rattle.faithful.specs.Faithful.{Means, start_alike, call_alike}
 use Rattle.faithful.specs.Demand3.{own_accepted, own_means}
 use Rattle.calls.specs.Calls.{call_of}

@@ -17,7 +17,7 @@ use Rattle.lent.specs.declared.RanIn.{RanIn}
 use Rattle.lent.specs.Places.{started_in, ran_in}
 use Rattle.calls.specs.declared.cells.Cells.{Cells}
 use Rattle.calls.specs.Calls.{most_rounds, is_kind, is_call, call_of, calls_of}
-use Rattle.calls.specs.Performing.{Told, Did}
+use Rattle.calls.specs.Performing.{Did}
 
 -- ---- what is a call
 

@@ -7,7 +7,7 @@ use Rattle.definition.specs.declared.Answer.TheVariants.{Done}
 use Rattle.definition.specs.Chart.{Chart}
 use Rattle.definition.specs.Tables.{row_count, chart_of, name_at}
 use Rattle.definition.specs.Rules.{keeps_rules}
-use Rattle.follower.specs.Follower.{Follower, Timed, Ran, run}
+use Rattle.follower.specs.Follower.{Follower, Ran, run}
 use Rattle.definition.specs.Compiled.{own_numbers, is_compiled}
 use Rattle.laws.specs.Bools.{bool_case}
 use Rattle.theory.specs.Runs.{joined}

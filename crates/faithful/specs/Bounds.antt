@@ -23,7 +23,7 @@ use Rattle.room.specs.Enough.{start_enough, run_enough, first_round_enough}
 use Rattle.session.specs.declared.Session.{Session}
 use Rattle.session.specs.declared.Clock.{Clock}
 use Rattle.session.specs.declared.Ran.{Ran}
-use Rattle.session.specs.Sessions.{session_of, view, is_session, view_timed, is_timed, start_by, started_as, start_of, refused_run, ran_as, run_from, run_of}
+use Rattle.session.specs.Sessions.{session_of, view, view_timed, is_timed, start_by, started_as, start_of, refused_run, ran_as, run_from, run_of}
 use Rattle.session.specs.Timing.{timed_session}
 use Rattle.session.specs.Spelling.{session_spells, session_well_formed}
 

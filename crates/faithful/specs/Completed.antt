@@ -14,7 +14,6 @@ use Rattle.definition.specs.Rules.{keeps_rules}
 use Rattle.follower.specs.Follower.{Follower, Timed, Ran, run}
 use Rattle.follower.specs.Legal.{is_legal, WellFormed, WellTimed}
 use Rattle.laws.specs.Bools.{bool_case}
-use Rattle.accepted.specs.Sound.{accepted_sound}
 use Rattle.theory.specs.Runs.{run_rounds, joined, on_from}
 use Rattle.theory.specs.Shown.{taken_in, DisjointExits}
 use Rattle.theory.specs.Theorems.{timed_exact, run_keeps, round_disjoint}
@@ -22,9 +21,9 @@ use Rattle.state.specs.State.{rows_at, mode_from}
 use Rattle.session.specs.declared.Session.{Session}
 use Rattle.session.specs.declared.Clock.{Clock}
 use Rattle.session.specs.declared.Ran as handed
-use Rattle.session.specs.Sessions.{session_of, view, record_of, view_timed, is_timed, refused_run, ran_as, run_from, run_of, run_effects}
+use Rattle.session.specs.Sessions.{view, view_timed, is_timed, refused_run, ran_as, run_from, run_of, run_effects}
 use Rattle.session.specs.Timing.{timed_well}
-use Rattle.faithful.specs.Program.{Both, Step, run_step, joined_runs, going_on, round_effects}
+use Rattle.faithful.specs.Program.{Step, run_step, joined_runs, going_on, round_effects}
 use Rattle.faithful.specs.Faithful.{Means, found, run_by}
 use Rattle.faithful.specs.Cuts.{all_done, cut, one_more, next_round}
 

@@ -1,6 +1,6 @@
 -- R-13, first half, of the program: "a run of a rounds and then one of b", b at least 1, is the run of a + b rounds in session, clock record, trace, status and rounds, where none of the three
 -- runs out of trace room. For every chart, session and clock record, whatever they hold.
-use Rattle.std.specs.Prelude.{◌≡◌, refl, true, false}
+use Rattle.std.specs.Prelude.{◌≡◌, true, false}
 use Rattle.std.proofs.Math.Path.{sym, ap, ap₂}
 use Rattle.std.proofs.Common.{◌∙◌}
 use mathlib.Core.List.{List, ◌++◌}

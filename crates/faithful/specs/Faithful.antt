@@ -1,5 +1,5 @@
 -- Demand 3: compiling loses nothing.
-use Rattle.std.specs.Prelude.{◌≡◌, refl, true, ℕ, suc, ◌≤◌, drop, replicate}
+use Rattle.std.specs.Prelude.{◌≡◌, refl, true, ℕ, suc, ◌≤◌, drop}
 use Rattle.std.proofs.Common.{sym, ◌∙◌}
 use Rattle.std.proofs.Math.Path.{ap}
 use mathlib.Core.List.{List, [], ◌∷◌, ◌++◌, map}
@@ -11,7 +11,7 @@ use Rattle.definition.specs.Tables.{row_count, chart_of, name_at}
 use Rattle.definition.specs.Rules.{keeps_rules}
 use Rattle.follower.specs.Blocks.{Effect, trace_no}
 use Rattle.definition.specs.Answers.{answer_no}
-use Rattle.follower.specs.Follower.{Follower, ended_follower, Timed, Started, Ran, start, post, post_answer, clock_answer, clock, run}
+use Rattle.follower.specs.Follower.{Follower, Timed, Started, Ran, start, post, post_answer, clock_answer, clock, run}
 use Rattle.follower.specs.Calls.{Outcome, started_outcome, ran_outcome, Call, starts, posts, clocks, runs, follow, follow_all, at_rest}
 use Rattle.follower.specs.Legal.{WellTimed, is_well_timed}
 use Rattle.definition.specs.Compiled.{own_numbers, is_compiled}
@@ -21,10 +21,8 @@ use Rattle.theory.specs.Theorems.{timed_exact, start_keeps, follow_keeps, rest_w
 use Rattle.clock.specs.Records.{clock_bytes, clock_in}
 use Rattle.clock.specs.Spelled.{zeros_are_new}
 use Rattle.state.specs.State.{trace_with}
-use Rattle.session.specs.declared.Session.{Session}
 use Rattle.session.specs.declared.Posted.{Posted}
-use Rattle.session.specs.declared.Clocked.{Clocked}
-use Rattle.session.specs.Sessions.{session_of, ended_session, view, record_of, view_timed, is_timed, start_by, started_as, start_of, start_effects, post_of, post_checked, run_from, ran_as, run_of, run_effects, clocked_as, clock_checked, clock_of}
+use Rattle.session.specs.Sessions.{session_of, view, record_of, view_timed, is_timed, start_by, started_as, start_of, start_effects, post_of, post_checked, run_from, ran_as, run_of, run_effects, clocked_as, clock_of}
 use Rattle.session.specs.Spelling.{session_passes, ended_spells}
 use Rattle.session.specs.Timing.{view_timed_lem, timed_passes}
 use Rattle.session.specs.Posting.{post_answers, post_spells}

@@ -1,7 +1,7 @@
 -- The eight marked runs once more, of the real functions: what the contracts of start, post and run give over the compiled chart A, call after call from a
 -- session and a clock record of zeros, what the contract of names::matches gives, and what compile answers.
 use Rattle.std.specs.Prelude.{◌≡◌, refl, List, [], ◌∷◌, ◌++◌, ℕ, length, take, drop, replicate}
-use Rattle.std.proofs.Common.{sym, ◌∙◌, take_at}
+use Rattle.std.proofs.Common.{take_at}
 use Rattle.std.proofs.Math.Path.{ap}
 use Rattle.definition.specs.Names.{Name, matches}
 use Rattle.definition.specs.Tables.{row_count, chart_of, name_at}
@@ -11,7 +11,7 @@ use Rattle.follower.specs.Follower.{Follower}
 use Rattle.follower.specs.Calls.{Call, starts, posts, runs, Outcome, follow, follow_all, at_rest}
 use Rattle.definition.specs.Compiled.{compiled}
 use Rattle.definition.specs.ChartA.{numbers_a, e1, e2, e4, names_with, names_a}
-use Rattle.follower.specs.Marked.{play_a, last_of, last_a, trace_a, sum_a, test, marked, expected}
+use Rattle.follower.specs.Marked.{play_a, last_of, last_a, trace_a, sum_a, test, expected}
 use Rattle.theory.specs.MarkedRuns.{marked_runs}
 use Rattle.state.specs.State.{rows_at}
 use Rattle.session.specs.Sessions.{view}
