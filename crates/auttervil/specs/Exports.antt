@@ -1,6 +1,6 @@
 -- What the exports answer, in the numbers of document 01.
-use Rattle.std.specs.Prelude.{◌≡◌, refl, Bool, true, false, cond, List, ℕ, eqb, length}
-use Rattle.std.proofs.Common.{sym, ap, ◌∙◌}
+use Rattle.std.specs.Prelude.{◌≡◌, cond, List, ℕ, eqb, length}
+use Rattle.std.proofs.Common.{ap, ◌∙◌}
 use Rattle.definition.specs.declared.Answer.{Answer}
 use Rattle.definition.specs.declared.Answer.TheVariants.{Done, BadChart}
 use Rattle.definition.specs.Rules.{verdict}

@@ -8,7 +8,7 @@ use Rattle.definition.specs.Compiled.{own_numbers, is_compiled}
 use Rattle.laws.specs.Bools.{no}
 use Rattle.faithful.specs.Program.{Both, zeros, Step, call, call_all}
 use Rattle.faithful.specs.Alike.{Alike, alike_both, AllAlike}
-use Rattle.faithful.specs.Demand3.{Demand3, demand_3_checked}
+use Rattle.faithful.proofs.Demand3.{Demand3, demand_3_checked}
 use Rattle.calls.specs.Performing.{Gives, leaves, step_of, followed, starts_first, Performs}
 
 step_is : (rows : ℕ) (x : Step) (o : Outcome) → Alike rows x o → x ≡ step_of o

@@ -25,8 +25,8 @@ use Rattle.lent.specs.Places.{checks_of}
 use Rattle.lent.specs.Lent.{checks_checked, post_checks}
 use Rattle.faithful.specs.Program.{Both, both_of, start_step, post_step, clock_step, run_step, call}
 use Rattle.faithful.specs.Alike.{alike_both}
-use Rattle.faithful.specs.Faithful.{Means, start_alike, call_alike}
-use Rattle.faithful.specs.Demand3.{own_accepted, own_means}
+use Rattle.faithful.proofs.Faithful.{Means, start_alike, call_alike}
+use Rattle.faithful.proofs.Demand3.{own_accepted, own_means}
 use Rattle.calls.specs.Calls.{call_of}
 
 -- behind a start both pass if the chart does; every other call leaves them as they were

@@ -1,11 +1,4 @@
 pub mod Program
 pub mod Alike
-pub mod Faithful
 pub mod Cuts
-pub mod Completed
-pub mod Demand3
-pub mod CutRuns
-pub mod AnyOrder
-pub mod ChartA
-pub mod MarkedRuns
 pub mod Bounds

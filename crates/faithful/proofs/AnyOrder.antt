@@ -19,10 +19,10 @@ use Rattle.session.specs.declared.Session.{Session}
 use Rattle.session.specs.declared.Clock.{Clock}
 use Rattle.session.specs.Sessions.{view, view_timed, is_timed, refused_run, ran_as, run_of}
 use Rattle.faithful.specs.Program.{round_effects}
-use Rattle.faithful.specs.Faithful.{Means}
+use Rattle.faithful.proofs.Faithful.{Means}
 use Rattle.faithful.specs.Cuts.{one_more, next_round}
-use Rattle.faithful.specs.Completed.{refused_none, runs_as, kept, seen, entries}
-use Rattle.faithful.specs.Demand3.{own_accepted, own_means}
+use Rattle.faithful.proofs.Completed.{refused_none, runs_as, kept, seen, entries}
+use Rattle.faithful.proofs.Demand3.{own_accepted, own_means}
 
 -- round k, counted from 0, of a run: from the session that a run of k rounds hands back to the one that a run of k + 1 hands back
 abbrev pub InAnyOrder : Chart → List ℕ → List ℕ → Session → Clock → ℕ → ℕ → ℕ → Type 0

@@ -24,7 +24,7 @@ use Rattle.session.specs.declared.Ran as handed
 use Rattle.session.specs.Sessions.{view, view_timed, is_timed, refused_run, ran_as, run_from, run_of, run_effects}
 use Rattle.session.specs.Timing.{timed_well}
 use Rattle.faithful.specs.Program.{Step, run_step, joined_runs, going_on, round_effects}
-use Rattle.faithful.specs.Faithful.{Means, found, run_by}
+use Rattle.faithful.proofs.Faithful.{Means, found, run_by}
 use Rattle.faithful.specs.Cuts.{all_done, cut, one_more, next_round}
 
 pub record LegalStep (c : Chart) (a : Step) : Type 0 where

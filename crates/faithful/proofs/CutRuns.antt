@@ -21,9 +21,9 @@ use Rattle.session.specs.declared.Clock.{Clock}
 use Rattle.session.specs.declared.Ran as handed
 use Rattle.session.specs.Sessions.{view_timed, is_timed, refused_run, ran_as, run_of, run_effects}
 use Rattle.faithful.specs.Program.{joined_runs}
-use Rattle.faithful.specs.Faithful.{Means, run_by, run_effects_lem}
-use Rattle.faithful.specs.Completed.{joined_as, runs_as, effects_as, kept}
-use Rattle.faithful.specs.Demand3.{own_accepted, own_means}
+use Rattle.faithful.proofs.Faithful.{Means, run_by, run_effects_lem}
+use Rattle.faithful.proofs.Completed.{joined_as, runs_as, effects_as, kept}
+use Rattle.faithful.proofs.Demand3.{own_accepted, own_means}
 
 -- the second run, from what the first hands back
 abbrev pub second_of : handed.Ran → List ℕ → List ℕ → ℕ → ℕ → handed.Ran

@@ -9,7 +9,7 @@ use Rattle.definition.specs.Compiled.{compiled}
 use Rattle.theory.specs.MarkedRuns.{chart_a_accepted}
 use Rattle.compiler.specs.Results.{Compiles}
 use Rattle.compiler.specs.Theorems.{compiled_length}
-use Rattle.faithful.specs.Demand3.{Demand3, demand_3}
+use Rattle.faithful.proofs.Demand3.{Demand3, demand_3}
 
 accepted : verdict numbers_a names_a (compiled_size numbers_a) (length names_a) ≡ Done
 unfolding keeps_rules

@@ -17,7 +17,7 @@ use Rattle.state.specs.State.{rows_at}
 use Rattle.session.specs.Sessions.{view}
 use Rattle.faithful.specs.Program.{zeros, Step, start_step, call, call_all}
 use Rattle.faithful.specs.Alike.{Alike, AllAlike}
-use Rattle.faithful.specs.ChartA.{chart_a}
+use Rattle.faithful.proofs.ChartA.{chart_a}
 
 -- every start and run is lent a trace of 1000 zeros
 abbrev room : ℕ

@@ -26,8 +26,8 @@ use Rattle.session.specs.declared.Clock.{Clock}
 use Rattle.session.specs.Sessions.{run_of}
 use Rattle.faithful.specs.Program.{Both, zeros, Step, call_all}
 use Rattle.faithful.specs.Alike.{AllAlike}
-use Rattle.faithful.specs.Faithful.{Means, AlikeFormed, formed_from_start, formed_from_zeros, faithful, faithful_ended}
-use Rattle.faithful.specs.Completed.{LegalStep, step_legal, CompletedRound, completed}
+use Rattle.faithful.proofs.Faithful.{Means, AlikeFormed, formed_from_start, formed_from_zeros, faithful, faithful_ended}
+use Rattle.faithful.proofs.Completed.{LegalStep, step_legal, CompletedRound, completed}
 
 -- every step of the program
 abbrev pub EveryStep : (Step → Type 0) → List Step → Type 0
