@@ -30,13 +30,13 @@ mod show;
 mod steps;
 
 use definition::Answer;
-use lines::{behind_guard, least, size};
+use lines::{behind_guard, least, read_whole, size};
 use session::{Clock, Session};
 use std::io;
 use std::io::Read;
 
 // The most bytes that are read.
-const TEXT: u64 = 524288;
+const TEXT: usize = 524288;
 
 // How much of each buffer is lent.
 #[derive(Clone, Copy)]
@@ -382,17 +382,38 @@ fn run_all(
     Ok(())
 }
 
+// The text is read into the first of the lent places.
+fn run_read<const N: usize>(
+    rt: &impl Print,
+    input: &mut impl Read,
+    text: &mut [u8; N],
+    numbers: &mut [u64],
+    names: &mut [u8],
+    place: &mut [u64],
+    name_place: &mut [u8],
+) -> io::Result<()> {
+    let len = read_whole(input, text)?;
+    run_all(
+        rt,
+        &text[..len],
+        first_scene(),
+        numbers,
+        names,
+        place,
+        name_place,
+    )
+}
+
 fn main(rt: HostRuntime) -> io::Result<()> {
-    let mut text = Vec::new(rt.alloc());
-    rt.reader().take(TEXT).read_to_end(&mut text)?;
+    let mut text = [0u8; TEXT];
     let mut numbers = [0u64; lines::NUMBERS];
     let mut names = [0u8; lines::NAMES];
     let mut place = [0u64; lines::PLACE];
     let mut name_place = [0u8; lines::NAMES];
-    run_all(
+    run_read(
         &rt,
-        &text,
-        first_scene(),
+        &mut rt.reader(),
+        &mut text,
         &mut numbers,
         &mut names,
         &mut place,

@@ -7,12 +7,14 @@ pub use buffers::{
 };
 pub use line_numbers::{Two, put_word, read_numbers, read_two, size};
 pub use printing::{put, show, show_answer, show_number, show_sum};
+pub use reading::read_whole;
 pub use slots::{put_byte, read_name, read_slots};
 use tables::{columns, limits};
 
 pub mod buffers;
 pub mod line_numbers;
 pub mod printing;
+pub mod reading;
 pub mod slots;
 
 const MORE: usize = 256;

@@ -16,6 +16,7 @@
 //                    pass: a line a pair, see `mark_two`
 #![tactic(auto)]
 
+use lines::read_whole;
 use pairs::{each_changed_pair, each_length_of_pair, each_word, pair};
 use printing::put;
 use reading::{after, find};
@@ -23,7 +24,6 @@ use several::{each_two, four};
 use single::{FUNCTIONS, TESTS, each_length, each_place};
 use slotted::{each_slot, show_strays};
 use std::io;
-use std::io::Read;
 
 mod pairs;
 mod printing;
@@ -33,7 +33,7 @@ mod single;
 mod slotted;
 
 // The most bytes that are read.
-const TEXT: u64 = 65536;
+const TEXT: usize = 65536;
 
 fn run_line(rt: &impl Print, line: &[u8]) -> io::Result<()> {
     if line.len() < 2 {
@@ -69,7 +69,7 @@ fn run_all(rt: &impl Print, text: &[u8]) -> io::Result<()> {
 }
 
 fn main(rt: HostRuntime) -> io::Result<()> {
-    let mut text = Vec::new(rt.alloc());
-    rt.reader().take(TEXT).read_to_end(&mut text)?;
-    run_all(&rt, &text)
+    let mut text = [0u8; TEXT];
+    let len = read_whole(&mut rt.reader(), &mut text)?;
+    run_all(&rt, &text[..len])
 }
