@@ -6,7 +6,7 @@ usage: tools/respell.py [--said]      at the top of the repository, once, right 
 What turns is what the crates declare in specs/ and proofs/ (a definition, a lemma, a field, a constructor), and a variable in camel case:
 `slotOf` and `slot-of` are `slot_of`. A dash stays beside a type or a fact, as in `Sorted-tail`. Where a lemma would get the name of a
 definition it ends in `_lem`. Names of the library, functions of src/, strings and the names that a check makes stay as they are.
---said prints each name with its new spelling and writes nothing. A second run writes nothing more.
+--said prints each name with its new spelling and writes nothing. Not for later: it would take the goals' names in proofs/ for lemmas.
 """
 import collections
 import os

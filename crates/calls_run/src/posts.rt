@@ -216,11 +216,10 @@ pub fn each_way(
 
 // ---- each place of the name with every byte value
 
-// The first n bytes of the name, with another one at a place.
+// The name, with another byte at a place.
 fn post_changed(
     rt: &impl Print,
     seen: Seen,
-    n: usize,
     at: usize,
     v: u64,
     l: Lent,
@@ -230,8 +229,7 @@ fn post_changed(
     name: &mut [u8],
 ) -> io::Result<Seen> {
     lines::put_byte(name, at, (v % 256) as u8);
-    let end = least(n, name.len());
-    post_seen(rt, seen, l, s, place, name_place, &name[0..end])
+    post_seen(rt, seen, l, s, place, name_place, name)
 }
 
 fn each_value_read(
@@ -245,9 +243,10 @@ fn each_value_read(
     name: &mut [u8],
 ) -> io::Result<()> {
     let n = lines::read_name(rest, name);
+    let end = least(n, name.len());
     let mut seen = begin(rt, at)?;
     for v in 0..256u64 {
-        seen = post_changed(rt, seen, n, at, v, l, s, place, name_place, name)?;
+        seen = post_changed(rt, seen, at, v, l, s, place, name_place, &mut name[0..end])?;
     }
     seen.end(rt)
 }
