@@ -1,6 +1,5 @@
 #!/usr/bin/env python3
-"""The tables of the grammar (docs/grammar.md), written for the definition, specs/Tables.antt, and for the code, crates/scan/src/tables.rt
-and, eight cells to a number, crates/scan/src/packed.rt with its list in crates/scan/specs/Packed.antt.
+"""The tables of the grammar (docs/grammar.md), written for the definition, specs/Tables.antt, and for the code, crates/scan/src/tables.rt.
 
 tables.py           writes them, and `rt fmt` lays them out
 tables.py --check   tells whether they hold what would be written
@@ -123,47 +122,14 @@ def definition():
     return text
 
 
-# The tables of one bit or two a cell are numbers in crates/scan/src/lib.rt.
-NUMBERS = {"kinds", "ends", "bits"}
-
-
 def code():
     text = "// The tables of the grammar, as crates/grammar/tables.py writes them.\n"
-    for name, cells in ((name, cells) for name, cells in tables().items() if name not in NUMBERS):
-        text += "// %s\npub const %s: [u8; %d] = [%s];\n" % (MEANING[name], name.upper(), len(cells), ", ".join(map(str, cells)))
+    for name, cells in tables().items():
+        text += "// %s\npub static %s: [u8; %d] = [%s];\n" % (MEANING[name], name.upper(), len(cells), ", ".join(map(str, cells)))
     return text
 
 
-# The tables that a walk looks at most, eight cells to a number, the first one lowest.
-PACKED = ["menus", "attrs", "adds", "owners", "opened", "needed"]
-PACKED_CODE = "crates/scan/src/packed.rt"
-PACKED_SPEC = "crates/scan/specs/Packed.antt"
-
-
-def packs():
-    cells = sum((filled(tables()[name], -(-len(tables()[name]) // 8) * 8, 0) for name in PACKED), [])
-    return [sum(cell << (8 * k) for k, cell in enumerate(cells[i : i + 8])) for i in range(0, len(cells), 8)]
-
-
-def put_between(text, pattern, lines):
-    return re.sub(pattern, lambda found: found[1] + lines + found[2], text, count=1, flags=re.S)
-
-
-def packed_code():
-    text = open(os.path.join(top, PACKED_CODE), encoding="utf-8").read()
-    arms = ["        %d => %d,\n" % (i, n) for i, n in enumerate(packs())]
-    menus = len(tables()["menus"]) // 8
-    for function, part in (("menus", arms[:menus]), ("others", arms[menus:])):
-        text = put_between(text, r"(fn %s\(.*?    match k \{\n).*?(        _ => 0,)" % function, "".join(part))
-    return text
-
-
-def packed_spec():
-    text = open(os.path.join(top, PACKED_SPEC), encoding="utf-8").read()
-    return put_between(text, r"(\npacks =\n).*?(\n\n)", "    " + " ∷ ".join(map(str, packs() + ["[]"])))
-
-
-FILES = {"crates/grammar/specs/Tables.antt": definition, "crates/scan/src/tables.rt": code, PACKED_CODE: packed_code, PACKED_SPEC: packed_spec}
+FILES = {"crates/grammar/specs/Tables.antt": definition, "crates/scan/src/tables.rt": code}
 
 
 def words_of(text):

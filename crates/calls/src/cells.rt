@@ -80,9 +80,12 @@ pub fn put_result(res: &mut [u64], called: Called)
     requires { length res.old ≡ 3 }
     ensures { res.new ≡ called.number ∷ called.rounds ∷ called.count ∷ [] }
 {
-    res[0] = called.number as u64;
-    res[1] = called.rounds as u64;
-    res[2] = called.count as u64;
+    let cells = [
+        called.number as u64,
+        called.rounds as u64,
+        called.count as u64,
+    ];
+    res.copy_from_slice(&cells);
 }
 
 pub fn gives(number: u32, rounds: u32, count: usize) -> Called

@@ -1,10 +1,11 @@
 -- The counts of all bins against rule 1: a content of more references, descriptors or actions is refused with 1.
-use Rattle.std.specs.Prelude.{◌≡◌, refl, Bool, true, false, ◌&&◌, List, ℕ, ◌+◌, ◌*◌, ◌-◌, ◌^◌, ◌≤◌, ◌<◌, leb, length}
-use Rattle.std.proofs.Common.{sym, ◌∙◌, add-one, length-append, leb-true, leb-false, le-leb}
+use Rattle.std.specs.Prelude.{◌≡◌, refl, Bool, true, false, ◌&&◌, List, ℕ, zero, suc, ◌+◌, ◌*◌, ◌-◌, ◌≤◌, ◌<◌, leb, length, take, drop, sum}
+use Rattle.std.proofs.Common.{sym, ◌∙◌, drop-cons, length-append, leb-true, leb-false, le-leb}
 use Rattle.std.proofs.Math.Path.{ap}
 use native.Mathlib.Omega.{arith}
 use Rattle.std.proofs.Math.ListN.{get_or}
 use Rattle.std.proofs.lemmas.Bool.{lt-leb}
+use Rattle.std.proofs.lemmas.List.Sums.{sum_by-cons}
 use Rattle.definition.specs.Rows.{flat}
 use Rattle.definition.specs.declared.Answer.TheVariants.{Size}
 use Rattle.definition.specs.Rules.{keeps_rules}
@@ -21,10 +22,6 @@ use Rattle.cells.specs.Counts.{row_refs, row_blocks, list_sum, target_sum, descr
 
 -- ---- sums
 
-pub record CountIs (x r : ℕ) : Type 0 where
-  pub is : r ≡ x
-  pub small : r < 4294967296
-
 pub record SumRoom (next : List ℕ) (from to : ℕ) : Type 0 where
   pub there : to ≤ length next
   pub before : from ≤ to
@@ -33,35 +30,31 @@ pub record SumRoom (next : List ℕ) (from to : ℕ) : Type 0 where
 pub record Summed (next : List ℕ) (from to r : ℕ) : Type 0 where
   pub is : start_of (counts_in next) from + r ≡ start_of (counts_in next) to
 
-pub record Summing (next : List ℕ) (from to cells k : ℕ) : Type 0 where
-  pub room : SumRoom next from to
-  pub behind : from ≤ k
-  pub below : k ≤ to
-  pub small : cells ≤ (k - from) * 4294967296
-  pub is : start_of (counts_in next) from + cells ≡ start_of (counts_in next) k
+-- the counts from one bin on, one after the other
+sum_on : (next : List ℕ) (k from : ℕ) → from + k ≤ length next → start_of (counts_in next) from + sum (take k (drop from next)) ≡ start_of (counts_in next) (from + k)
+unfolding start_of
+sum_on next zero from h =
+    let e : from + 0 ≡ from = omega arith in
+    let q = ap (start_of (counts_in next)) e in
+    omega arith
+sum_on next (suc k) from h =
+    let more = sum_on next k (suc from) (omega arith) in
+    let there : sum (take (suc k) (drop from next)) ≡ get_or next from 0 + sum (take k (drop (suc from) next)) = ap (λ (l : List ℕ). sum (take (suc k) l)) (drop-cons next from 0 (omega arith)) ∙ sum_by-cons (λ (x : ℕ). x) (get_or next from 0) (take k (drop (suc from) next)) in
+    let e : suc from + k ≡ from + suc k = omega arith in
+    let q = ap (start_of (counts_in next)) e in
+    omega arith
 
-pub sum_begin : (next : List ℕ) (from to : ℕ) → SumRoom next from to → Summing next from to 0 from
-sum_begin next from to r = let b = r.before in record { room = r; behind = omega arith; below = omega arith; small = omega arith; is = omega arith }
+pub summed : (next : List ℕ) (from to r : ℕ) → SumRoom next from to → r ≡ sum (take (to - from) (drop from next)) → Summed next from to r
+summed next from to r h e =
+    record {
+      is =
+          let b = h.before in let t = h.there in
+          let w : from + (to - from) ≡ to = omega arith in
+          ap (λ (x : ℕ). start_of (counts_in next) from + x) e ∙ sum_on next (to - from) from (omega arith) ∙ ap (start_of (counts_in next)) w;
+    }
 
-module _ (next : List ℕ) (from to cells k : ℕ) (w : Summing next from to cells k) where
-  pub sum_there : k < to → k < length next
-  sum_there h = let r = w.room.there in omega arith
-
-  pub sum_fits : (x y : ℕ) → k < to → CountIs x y → cells + y < 2 ^ 64
-  sum_fits x y h c = let s = w.small in let f = w.room.few in let z = c.small in let b = w.behind in omega arith
-
-  pub sum_turn : (x y : ℕ) → k < to → x ≡ get_or next k 0 → CountIs x y → Summing next from to (cells + y) (k + 1)
-  unfolding start_of
-  sum_turn x y h e c =
-      let s = w.small in let z = c.small in let b = w.behind in let q = c.is in let i = w.is in
-      let on : start_of (counts_in next) (k + 1) ≡ start_of (counts_in next) k + get_or next k 0 = ap (start_of (counts_in next)) (add-one k) in
-      record { room = w.room; behind = omega arith; below = omega arith; small = omega arith; is = omega arith }
-
-  pub sum_end : to ≤ k → Summed next from to cells
-  sum_end h =
-      let b = w.below in
-      let e : k ≡ to = omega arith in
-      record { is = w.is ∙ ap (start_of (counts_in next)) e }
+pub summed_front : (next : List ℕ) (to r : ℕ) → SumRoom next 0 to → r ≡ sum (take to next) → Summed next 0 to r
+summed_front next to r h e = let whole : to ≡ to - 0 = omega arith in summed next 0 to r h (e ∙ ap (λ (k : ℕ). sum (take k next)) whole)
 
 -- ---- within rule 1
 

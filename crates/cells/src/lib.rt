@@ -10,12 +10,6 @@ ghost use Rattle.cells.specs.Header.{HeaderLaid, CellsLaid};
 
 pub mod totals;
 
-fn wide(x: u32) -> usize
-    ensures { result ≡ x }
-{
-    x as usize
-}
-
 // Where the bin k begins: behind the bin before it; the first one at the base.
 fn start_of(next: &[u32], base: usize, k: usize) -> usize
     requires { k ≤ length next.now }
@@ -24,7 +18,7 @@ fn start_of(next: &[u32], base: usize, k: usize) -> usize
     if k == 0 {
         return base;
     }
-    wide(next[k - 1])
+    next[k - 1] as usize
 }
 
 // How many entries, of `width` cells each, stand in the bins from `from` up to `to`.
@@ -75,10 +69,8 @@ fn row_cells(out: &mut [u64], next: &[u32], n: usize, t: usize)
     requires { CellsRoom out.old next.now n t }
     ensures { RowsLaid out.old out.new next.now n t }
 {
-    let mut i = 0;
-    while i < n {
+    for i in 0..n {
         lay_row(out, next, n, t, i);
-        i += 1;
     }
 }
 
@@ -112,10 +104,8 @@ fn transition_cells(out: &mut [u64], next: &[u32], n: usize, t: usize)
     requires { CellsRoom out.old next.now n t }
     ensures { TransitionsLaid out.old out.new next.now n t }
 {
-    let mut r = 0;
-    while r < t {
+    for r in 0..t {
         lay_transition(out, next, n, t, r);
-        r += 1;
     }
 }
 

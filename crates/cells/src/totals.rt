@@ -1,31 +1,19 @@
 // Whether the counts of all bins keep within rule 1, before anything is laid.
-ghost use Rattle.std.specs.Prelude.{◌≡◌};
+ghost use Rattle.std.specs.Prelude.{◌≡◌, ◌≤◌, length, sum};
 ghost use Rattle.bins.specs.Bins.{counts_in};
-ghost use Rattle.cells.specs.Totals.{CountIs, SumRoom, Summed, TotalsRoom, is_within};
+ghost use Rattle.cells.specs.Totals.{TotalsRoom, is_within};
 
 use tables::limits::{ROOM_FOR_ACTIONS, ROOM_FOR_DESCRIPTORS, ROOM_FOR_REFERENCES};
 
 // Four for each action.
 const ROOM_FOR_ACTION_CELLS: u64 = ROOM_FOR_ACTIONS * 4;
 
-fn wide(x: u32) -> u64
-    ensures { CountIs x result }
+// How many cells some bins have.
+fn sum(counts: &[u32]) -> u64
+    requires { length counts.now ≤ 65536 }
+    ensures { result ≡ sum counts.now }
 {
-    x as u64
-}
-
-// How many cells the bins from `from` up to `to` have.
-fn sum(next: &[u32], from: usize, to: usize) -> u64
-    requires { SumRoom next.now from to }
-    ensures { Summed next.now from to result }
-{
-    let mut cells: u64 = 0;
-    let mut k = from;
-    while k < to {
-        cells += wide(next[k]);
-        k += 1;
-    }
-    cells
+    counts.iter().map(|x| u64::from(*x)).sum()
 }
 
 // References, descriptors and actions are at most as many as rule 1 allows.
@@ -35,14 +23,14 @@ pub fn is_within(next: &[u32], n: usize, t: usize) -> bool
 {
     let targets = n * 2 + t;
     let blocks = targets + t;
-    let references = sum(next, 0, targets);
+    let references = sum(&next[..targets]);
     if ROOM_FOR_REFERENCES < references {
         return false;
     }
-    let descriptors = sum(next, targets, blocks);
+    let descriptors = sum(&next[targets..blocks]);
     if ROOM_FOR_DESCRIPTORS < descriptors {
         return false;
     }
-    let cells = sum(next, blocks, blocks + n * 3 + t);
+    let cells = sum(&next[blocks..blocks + n * 3 + t]);
     cells <= ROOM_FOR_ACTION_CELLS
 }

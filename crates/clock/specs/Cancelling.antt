@@ -1,9 +1,9 @@
--- Cancelling, place by place.
+-- Cancelling, place by place, the last first.
 use Rattle.std.specs.Prelude.{◌≡◌, refl, Bool, cond, List, [], ◌∷◌, ◌++◌, get_or, take, drop}
-use Rattle.std.proofs.Common.{sym, ◌∙◌, append_assoc, append-nil, zero-add, length-drop, drop-cons, take_all}
+use Rattle.std.proofs.Common.{sym, ap₂, ◌∙◌, append_assoc, append-nil, zero-add, length-drop, drop-cons, take_all}
 use Rattle.std.proofs.Math.Path.{ap}
 use Rattle.std.proofs.Math.Bool.{true, false}
-use Prim.Native.Nat.{ℕ, zero, suc, ◌+◌, ◌-◌, ◌*◌, ◌≤◌, ◌<◌}
+use Prim.Native.Nat.{ℕ, zero, suc, ◌+◌, ◌-◌, ◌≤◌, ◌<◌}
 use native.Mathlib.Omega.{arith}
 use Rattle.std.proofs.Math.ListN.{length}
 use Rattle.std.proofs.Math.Seq.{take-suc, drop-length}
@@ -25,24 +25,6 @@ pub timer_read : (bytes : List ℕ) (i : ℕ) → i < length (clock_in bytes).pe
 unfolding clock_in
 timer_read bytes i l = map_at (timer_at bytes) (number_at bytes 8) 0 i no_timer (omega (arith, count_read bytes)) ∙ ap (timer_at bytes) (zero-add i)
 
--- what is looked at next, and what is left: place i has gone, or stays
-unfoldable pub looked_at : Bool → ℕ → List Timer → List Timer
-looked_at b i ss = cond b (without_at i ss) ss
-
-pub record LookedAt (old new : List ℕ) (i : ℕ) (id : Name) (next : ℕ) : Type 0 where
-  pub left : Left old new (looked_at (same (timer_at old i).id id) i (clock_in old).pending)
-  pub place : next ≡ cond (same (timer_at old i).id id) i (i + 1)
-
-pub looked_yes : (old new : List ℕ) (i : ℕ) (id : Name) (b : Bool) → b ≡ same (name_at (drop 2320 old) i) id → b ≡ true → Left old new (without_at i (clock_in old).pending) → LookedAt old new i id i
-unfolding looked_at timer_at
-looked_yes old new i id b e t h = let s : same (name_at (drop 2320 old) i) id ≡ true = sym e ∙ t in record { left = rw s h; place = rw s }
-
-pub looked_no : (old : List ℕ) (i : ℕ) (id : Name) (b : Bool) → ClockHolds Running old → b ≡ same (name_at (drop 2320 old) i) id → b ≡ false → LookedAt old old i id (i + 1)
-unfolding looked_at timer_at
-looked_no old i id b h e t =
-    let s : same (name_at (drop 2320 old) i) id ≡ false = sym e ∙ t in
-    record { left = rw s (record { spells = h.spells; fits = h.fits }); place = rw s }
-
 -- ---- lists without one place
 
 take_removed : (i : ℕ) (ss : List Timer) → take i (without_at i ss) ≡ take i ss
@@ -58,61 +40,71 @@ drop_removed zero (s ∷ ss) = refl
 drop_removed (suc i) [] = refl
 drop_removed (suc i) (s ∷ ss) = drop_removed i ss
 
--- ---- the loop: what is left to be cancelled from place i on, in the record that began as old
+without_one : (d : Bool) (s : Timer) (x a b : List Timer) → x ≡ a ++ b → cond d x (s ∷ x) ≡ cond d a (s ∷ a) ++ b
+without_one true s x a b e = e
+without_one false s x a b e = ap {B = List Timer} (λ r. s ∷ r) e
+
+without_append : (id : Name) (a b : List Timer) → without id (a ++ b) ≡ without id a ++ without id b
+unfolding without
+without_append id [] b = refl
+without_append id (s ∷ a) b = without_one (same s.id id) s (without id (a ++ b)) (without id a) (without id b) (without_append id a b)
+
+-- ---- the loop, the last place first: the first i places are still to be looked at, in the record that began as old
 
 pub record Cancels (old now : List ℕ) (id : Name) (i : ℕ) : Type 0 where
   pub holds : ClockHolds Running now
   pub most : i ≤ length (clock_in now).pending
   pub ticks : (clock_in now).ticks ≡ (clock_in old).ticks
-  pub left : without id (clock_in old).pending ≡ take i (clock_in now).pending ++ without id (drop i (clock_in now).pending)
+  pub left : without id (clock_in old).pending ≡ without id (take i (clock_in now).pending) ++ drop i (clock_in now).pending
 
-pub cancel_begin : (old : List ℕ) (id : Name) → ClockHolds Running old → Cancels old old id 0
-cancel_begin old id h = record { holds = h; most = omega arith; ticks = refl; left = refl }
+pub cancel_begin : (old : List ℕ) (id : Name) (n : ℕ) → ClockHolds Running old → n ≡ length (clock_in old).pending → Cancels old old id n
+cancel_begin old id n h e =
+    let ss : List Timer = (clock_in old).pending in
+    let t : take n ss ≡ ss = take_all n ss (omega arith) in
+    let d : drop n ss ≡ [] = ap (λ (k : ℕ). drop k ss) e ∙ drop-length ss in
+    record { holds = h; most = omega arith; ticks = refl; left = rw (t, d) (sym (append-nil (without id ss))) }
 
-module _ (old now : List ℕ) (id : Name) (i : ℕ) (g : Cancels old now id i) (l : i < length (clock_in now).pending) where
+module _ (old now : List ℕ) (id : Name) (i j : ℕ) (g : Cancels old now id i) (s : i ≡ suc j) where
   abbrev ss : List Timer
   ss = (clock_in now).pending
 
-  split : drop i ss ≡ timer_at now i ∷ drop (suc i) ss
-  split = drop-cons ss i no_timer l ∙ ap {B = List Timer} (λ x. x ∷ drop (suc i) ss) (timer_read now i l)
+  inside : j < length ss
+  inside = let m = g.most in omega arith
 
-  turn : (b : Bool) → same (timer_at now i).id id ≡ b → (new : List ℕ) → Left now new (looked_at b i ss) → (next : ℕ) → next ≡ cond b i (i + 1) →
-      Cancels old new id next × ((length (clock_in new).pending - next) < (length ss - i))
-  unfolding looked_at without
-  turn true e new h next p =
-      let q : (clock_in new).pending ≡ without_at i ss = left_pending now new (without_at i ss) h in
-      let n : length (clock_in new).pending ≡ length ss - 1 = ap length q ∙ length_removed i ss l in
-      let c : Cancels old new id i =
+  front : take i ss ≡ take j ss ++ timer_at now j ∷ []
+  front = ap (λ (k : ℕ). take k ss) s ∙ take-suc ss j no_timer inside ∙ ap (λ (t : Timer). take j ss ++ t ∷ []) (timer_read now j inside)
+
+  behind : drop j ss ≡ timer_at now j ∷ drop i ss
+  behind = drop-cons ss j no_timer inside ∙ ap₂ {C = List Timer} (λ (t : Timer) (k : ℕ). t ∷ drop k ss) (timer_read now j inside) (sym s)
+
+  so_far : (b : Bool) → same (timer_at now j).id id ≡ b → without id (clock_in old).pending ≡ without id (take j ss) ++ (cond b [] (timer_at now j ∷ []) ++ drop i ss)
+  unfolding without
+  so_far b e =
+      g.left ∙ rw (front, without_append id (take j ss) (timer_at now j ∷ []), e) (append_assoc (without id (take j ss)) (cond b [] (timer_at now j ∷ [])) (drop i ss))
+
+  pub cancel_yes : (b : Bool) → b ≡ same (name_at (drop 2320 now) j) id → b ≡ true → (new : List ℕ) → Left now new (without_at j ss) → Cancels old new id j
+  unfolding timer_at
+  cancel_yes b e t new h =
+      let q : (clock_in new).pending ≡ without_at j ss = left_pending now new (without_at j ss) h in
+      let n : length (clock_in new).pending ≡ length ss - 1 = ap length q ∙ length_removed j ss inside in
+      let l = inside in
+      let d : drop (suc j) ss ≡ drop i ss = ap (λ (k : ℕ). drop k ss) (sym s) in
       record {
-        holds = left_holds now new (without_at i ss) h;
+        holds = left_holds now new (without_at j ss) h;
         most = omega arith;
-        ticks = left_ticks now new (without_at i ss) h ∙ g.ticks;
-        left = g.left ∙ rw (q, take_removed i ss, drop_removed i ss, split, e);
-      } in
-      (rw p c, omega arith)
-  turn false e new h next p =
-      let q : (clock_in new).pending ≡ ss = left_pending now new ss h in
-      let n : length (clock_in new).pending ≡ length ss = ap length q in
-      let k : i + 1 ≡ suc i = omega arith in
-      let c : Cancels old new id (i + 1) =
-      record {
-        holds = left_holds now new ss h;
-        most = omega arith;
-        ticks = left_ticks now new ss h ∙ g.ticks;
-        left = g.left ∙ rw (q, k, split, e, take-suc ss i no_timer l, timer_read now i l) (sym (append_assoc (take i ss) (timer_at now i ∷ []) (without id (drop (suc i) ss))));
-      } in
-      (rw p c, omega arith)
+        ticks = left_ticks now new (without_at j ss) h ∙ g.ticks;
+        left = so_far true (sym e ∙ t) ∙ rw (q, take_removed j ss, drop_removed j ss, d);
+      }
 
-  pub cancel_turn : (new : List ℕ) (next : ℕ) → LookedAt now new i id next → Cancels old new id next × ((length (clock_in new).pending - next) < (length ss - i))
-  cancel_turn new next h = turn (same (timer_at now i).id id) refl new h.left next h.place
+  pub cancel_no : (b : Bool) → b ≡ same (name_at (drop 2320 now) j) id → b ≡ false → Cancels old now id j
+  unfolding timer_at
+  cancel_no b e f = let l = inside in record { holds = g.holds; most = omega arith; ticks = g.ticks; left = so_far false (sym e ∙ f) ∙ rw behind }
 
-pub cancel_end : (old now : List ℕ) (id : Name) (i : ℕ) → Cancels old now id i → length (clock_in now).pending ≤ i → Left old now (without id (clock_in old).pending)
+pub cancel_end : (old now : List ℕ) (id : Name) (i : ℕ) → Cancels old now id i → i ≤ 0 → Left old now (without id (clock_in old).pending)
 unfolding without
 cancel_end old now id i g l =
-    let m = g.most in
-    let e : i ≡ length (clock_in now).pending = omega arith in
-    let s : without id (clock_in old).pending ≡ (clock_in now).pending =
-    g.left ∙ rw e (ap {B = List Timer} (λ r. take (length (clock_in now).pending) (clock_in now).pending ++ without id r) (drop-length (clock_in now).pending) ∙ append-nil (take (length (clock_in now).pending) (clock_in now).pending) ∙ take_all (length (clock_in now).pending) (clock_in now).pending (omega arith)) in
+    let z : i ≡ 0 = omega arith in
+    let s : without id (clock_in old).pending ≡ (clock_in now).pending = g.left ∙ rw z in
     let t = g.ticks in
     let k : clock_in now ≡ leaving old (without id (clock_in old).pending) = λ j. record { ticks = t j; pending = sym s j } in
     record { spells = g.holds.spells ∙ ap clock_bytes k; fits = rw k at g.holds.fits }
@@ -128,6 +120,6 @@ slot_inside_behind bytes a i n l m = record { inside = rw (part_end a bytes) (om
 pub name_said : (bytes : List ℕ) (a i : ℕ) (n id : Name) (b : Bool) → n ≡ name_at (take (length bytes - a) (drop a bytes)) i → b ≡ same n id → b ≡ same (name_at (drop a bytes) i) id
 name_said bytes a i n id b e h = h ∙ rw e (ap (λ (x : List ℕ). same (name_at x i) id) (part_end a bytes))
 
-pub name_part : (slots : List ℕ) (i : ℕ) (r : Name) → r ≡ before_zero (take (i * 64 + 64 - i * 64) (drop (i * 64) slots)) → r ≡ name_at slots i
-unfolding name_at slot_at
-name_part slots i r e = let w : i * 64 + 64 - i * 64 ≡ 64 = omega arith in e ∙ rw w
+pub name_part : (slots slot : List ℕ) (i : ℕ) (r : Name) → slot ≡ slot_at slots i → r ≡ before_zero slot → r ≡ name_at slots i
+unfolding name_at
+name_part slots slot i r s e = e ∙ ap before_zero s

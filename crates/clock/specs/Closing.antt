@@ -1,11 +1,10 @@
 -- A cell of a place goes and those behind it move up: one law for every width.
-use Rattle.std.specs.Prelude.{◌≡◌, refl, get_or, set, take, drop}
-use Rattle.std.proofs.Common.{sym, ap, ap₂, ◌∙◌, zero-mul, add-one, arith, length-append, length-drop, drop-drop, take_all, take_at, take-suc, drop-cons, get_or-append-add, get_or-drop, length-take-le}
+use Rattle.std.specs.Prelude.{◌≡◌, refl, take, drop}
+use Rattle.std.proofs.Common.{ap, zero-mul, arith, length-drop}
 use mathlib.Core.List.{List, [], ◌∷◌, ◌++◌, append_assoc, append-nil}
 use Prim.Native.Nat.{ℕ, zero, suc, ◌+◌, ◌-◌, ◌*◌, ◌≤◌, ◌<◌}
 use Rattle.std.proofs.Math.ListN.{length}
-use Rattle.std.proofs.Math.Seq.{take-append-add, drop-append-add, drop-length}
-use Rattle.std.proofs.lemmas.List.{set_at}
+use Rattle.std.proofs.Math.Seq.{take-append-add, drop-append-add}
 use Rattle.follower.specs.Clock.{Timer, without_at}
 use Rattle.laws.specs.Cells.{blank, cells, cells_rest, cells_none}
 use Rattle.laws.specs.Parts.{part_end}
@@ -31,35 +30,6 @@ module _ (f : Timer → List ℕ) (w : ℕ) (size : (x : Timer) → length (f x)
       let s : suc i * w ≡ length (f x) + i * w = omega (arith, size x) in
       rw (s, take-append-add (f x) (cells f w k xs) (i * w), drop-append-add (f x) (cells f w k xs) (i * w), append_assoc)
       (ap {B = List ℕ} (λ r. f x ++ r) (cells_closed k i xs (omega arith) (omega arith)))
-
--- ---- every number w places forward, the first i of them so far
-
-module _ (w : ℕ) (q₀ q : List ℕ) (i : ℕ) (so_far : q ≡ take i (drop w q₀) ++ drop i q₀) where
-  pub shift_turn : i + w < length q₀ → set q i (get_or q (i + w) 0) ≡ take (i + 1) (drop w q₀) ++ drop (i + 1) q₀
-  shift_turn h =
-      let front : List ℕ = take i (drop w q₀) in
-      let size : length front ≡ i = length-take-le i (drop w q₀) (omega (arith, length-drop w q₀)) in
-      let s : length front + w ≡ i + w = omega arith in
-      let t : w + i ≡ i + w = omega arith in
-      let read : get_or q (i + w) 0 ≡ get_or (drop w q₀) i 0 =
-      rw so_far (ap (λ (k : ℕ). get_or (front ++ drop i q₀) k 0) (sym s) ∙ get_or-append-add front (drop i q₀) w 0 ∙ get_or-drop i q₀ w 0 ∙ sym (get_or-drop w q₀ i 0 ∙ ap (λ (k : ℕ). get_or q₀ k 0) t)) in
-      rw (read, so_far, drop-cons q₀ i 0 (omega arith), set_at front (get_or q₀ i 0) (drop (suc i) q₀) (get_or (drop w q₀) i 0) i size, add-one i, take-suc (drop w q₀) i 0 (omega (arith, length-drop w q₀)))
-      (sym (append_assoc front (get_or (drop w q₀) i 0 ∷ []) (drop (suc i) q₀)))
-
-  pub shift_done : i + w ≡ length q₀ → q ≡ drop w q₀ ++ drop (length q₀ - w) q₀
-  shift_done h =
-      let s : i ≡ length q₀ - w = omega arith in
-      so_far ∙ ap₂ {C = List ℕ} (λ a b. a ++ b) (take_all i (drop w q₀) (omega (arith, length-drop w q₀))) (ap (λ (k : ℕ). drop k q₀) s)
-
--- zeros in the last w places
-pub last_blank : (w : ℕ) (q₀ q new zeros : List ℕ) → w ≤ length q₀ → q ≡ drop w q₀ ++ drop (length q₀ - w) q₀ → zeros ≡ blank w →
-    new ≡ take (length q - w) q ++ (zeros ++ drop w (drop (length q - w) q)) → new ≡ drop w q₀ ++ blank w
-last_blank w q₀ q new zeros l e z h =
-    let size : length q ≡ length q₀ = ap length e ∙ length-append (drop w q₀) (drop (length q₀ - w) q₀) ∙ omega (arith, length-drop w q₀, length-drop (length q₀ - w) q₀) in
-    let front : take (length q - w) q ≡ drop w q₀ = ap (take (length q - w)) e ∙ take_at (drop w q₀) (drop (length q₀ - w) q₀) (length q - w) (omega (arith, length-drop w q₀)) in
-    let n : length q - w + w ≡ length q = omega arith in
-    let behind : drop w (drop (length q - w) q) ≡ [] = drop-drop w (length q - w) q ∙ ap (λ (k : ℕ). drop k q) n ∙ drop-length q in
-    h ∙ ap₂ {C = List ℕ} (λ a b. a ++ b) front (ap₂ {C = List ℕ} (λ a b. a ++ b) z behind ∙ append-nil (blank w))
 
 -- ---- the part from a place on
 

@@ -1,7 +1,7 @@
 -- The tests of all parts are the test of the record, and what each way out of the code says.
 use Rattle.std.specs.Prelude.{◌≡◌, Bool, ◌||◌, ℕ, suc, ◌+◌, ◌*◌, ◌≤◌, ◌<◌, eqb, length, get_or, take, drop}
 use Rattle.std.proofs.Math.Path.{refl, sym, ap}
-use Rattle.std.proofs.Common.{◌∙◌, add-zero, arith, get_or-drop, le-leb, ne_eqb}
+use Rattle.std.proofs.Common.{◌∙◌, arith, le-leb, ne_eqb}
 use Rattle.std.proofs.Math.Bool.{true, false, not}
 use mathlib.Core.List.{List, [], ◌∷◌}
 use Rattle.std.proofs.Math.Dec.{leb}
@@ -20,23 +20,12 @@ use Rattle.laws.specs.Cells.{cells, cell_in}
 use Rattle.laws.specs.Loops.{each_below, below_each}
 use Rattle.laws.specs.Maps.{all_at}
 use Rattle.clock.specs.Records.{bytes_of, number_at, due_bytes, event_slot, id_slot, clock_bytes, timer_at, clock_in, is_clock, ClockHolds}
-use Rattle.clock.specs.Numbers.{number_part, eight_again, first_eight}
+use Rattle.clock.specs.Numbers.{number_part, number_back}
 use Rattle.clock.specs.Parts.{Parts, parts_of_lem, dues_of, events_of, ids_of, due_part, events_part, ids_part, due_cell, due_number, event_name, id_name}
 use Rattle.clock.specs.Spelled.{no_timer, clock_parts, due_size_lem, event_size, id_size, fits_ticks, fits_few, fits_timers, fits_ended, holds_is_clock, is_clock_holds, holds_length}
 use Rattle.clock.specs.Left.{parts_spell, count_read, ticks_read}
 use Rattle.clock.specs.Cancelling.{timer_read}
 use Rattle.clock.specs.Judging.{due_fits, dues_fit, slot_fits, slot_fits_at, slots_fit, fits_again, fits_named, fits_named_or_blank, name_fits, id_fits_lem, cells_known, cells_zeros}
-
--- a part of bytes, each below 256, is spelled again by its number
-number_back : (bytes : List ℕ) (i : ℕ) → ((k : ℕ) → get_or bytes k 0 < 256) → i + 8 ≤ length bytes → bytes_of (number_at bytes i) ≡ take 8 (drop i bytes)
-unfolding number_at
-number_back bytes i small l =
-    let at = reads in
-    eight_again _ _ _ _ _ _ _ _ (small i) (small (i + 1)) (small (i + 2)) (small (i + 3)) (small (i + 4)) (small (i + 5)) (small (i + 6)) (small (i + 7)) ∙
-    sym (first_eight (drop i bytes) (omega (arith, length-drop i bytes)) ∙ rw (at 0, at 1, at 2, at 3, at 4, at 5, at 6, at 7, add-zero i))
-  where
-    reads : (k : ℕ) → get_or (drop i bytes) k 0 ≡ get_or bytes (i + k) 0
-    reads k = get_or-drop i bytes k 0
 
 each_timer : (ticks : ℕ) (xs : List Timer) → ((i : ℕ) → i < length xs → timer_fits ticks (get_or xs i no_timer) ≡ true) → all (timer_fits ticks) xs ≡ true
 unfolding all

@@ -1,7 +1,8 @@
 -- Numbers in eight bytes, the lowest first: read back as they were written, and written as they were read.
-use Rattle.std.specs.Prelude.{◌≡◌, refl, List, [], ◌∷◌, ◌++◌, ℕ, ◌+◌, ◌-◌, ◌*◌, ◌/◌, ◌%◌, ◌≤◌, ◌<◌, length, take, drop, set}
+use Rattle.std.specs.Prelude.{◌≡◌, refl, List, [], ◌∷◌, ◌++◌, ℕ, ◌+◌, ◌-◌, ◌*◌, ◌/◌, ◌%◌, ◌≤◌, ◌<◌, length, take, drop}
 use Rattle.std.proofs.Math.Path.{sym, ap}
-use Rattle.std.proofs.Common.{◌∙◌, get_or-take, length-take-le}
+use Rattle.std.specs.Int.{w64, from_le_bytes, to_le_bytes}
+use Rattle.std.proofs.Common.{◌∙◌, get_or-take}
 use Rattle.std.proofs.Math.Nat.{add-zero, div-div-eq-div-mul}
 use native.Mathlib.Omega.{arith}
 use Rattle.std.proofs.Math.ListN.{get_or, length-drop}
@@ -98,13 +99,6 @@ module _ (a b c d e f g h : ℕ) (la : a < 256) (lb : b < 256) (lc : c < 256) (l
 
 -- ---- what reading gives
 
-pub record Half (bytes : List ℕ) (i n : ℕ) : Type 0 where
-  pub is : n ≡ get_or bytes i 0 + 256 * (get_or bytes (i + 1) 0 + 256 * (get_or bytes (i + 2) 0 + 256 * get_or bytes (i + 3) 0))
-  pub below₀ : get_or bytes i 0 < 256
-  pub below₁ : get_or bytes (i + 1) 0 < 256
-  pub below₂ : get_or bytes (i + 2) 0 < 256
-  pub below₃ : get_or bytes (i + 3) 0 < 256
-
 -- the number, and its bytes are those that stand there
 pub record Number (bytes : List ℕ) (i n : ℕ) : Type 0 where
   pub is : n ≡ number_at bytes i
@@ -121,46 +115,34 @@ first_eight (a ∷ b ∷ c ∷ d ∷ e ∷ []) l = absurd (omega arith)
 first_eight (a ∷ b ∷ c ∷ d ∷ e ∷ f ∷ []) l = absurd (omega arith)
 first_eight (a ∷ b ∷ c ∷ d ∷ e ∷ f ∷ g ∷ []) l = absurd (omega arith)
 
--- eight bytes written one by one
-pub eight_set : (q : List ℕ) (x : ℕ) → length q ≡ 8 →
-    set (set (set (set (set (set (set (set q 0 (x % 256)) 1 (x / 256 % 256)) 2 (x / 65536 % 256)) 3 (x / 16777216 % 256)) 4 (x / 4294967296 % 256)) 5 (x / 1099511627776 % 256)) 6 (x / 281474976710656 % 256)) 7 (x / 72057594037927936 % 256) ≡ bytes_of x
+-- a part of bytes, each below 256, is spelled again by its number
+pub number_back : (bytes : List ℕ) (i : ℕ) → ((k : ℕ) → get_or bytes k 0 < 256) → i + 8 ≤ length bytes → bytes_of (number_at bytes i) ≡ take 8 (drop i bytes)
+unfolding number_at
+number_back bytes i small l =
+    let at = reads in
+    eight_again _ _ _ _ _ _ _ _ (small i) (small (i + 1)) (small (i + 2)) (small (i + 3)) (small (i + 4)) (small (i + 5)) (small (i + 6)) (small (i + 7)) ∙
+    sym (first_eight (drop i bytes) (omega (arith, length-drop i bytes)) ∙ rw (at 0, at 1, at 2, at 3, at 4, at 5, at 6, at 7, add-zero i))
+  where
+    reads : (k : ℕ) → get_or (drop i bytes) k 0 ≡ get_or bytes (i + k) 0
+    reads k = get_or-drop i bytes k 0
+
+-- ---- as std reads and writes them
+
+number_sum : (q : List ℕ) → from_le_bytes w64 q ≡ number_at q 0
+unfolding number_at
+number_sum q = omega arith
+
+pub number_read : (bytes part : List ℕ) (i n : ℕ) → ((k : ℕ) → get_or bytes k 0 < 256) → i + 8 ≤ length bytes → part ≡ take (i + 8 - i) (drop i bytes) → n ≡ from_le_bytes w64 part → Number bytes i n
+number_read bytes part i n small l e h =
+    let w : i + 8 - i ≡ 8 = omega arith in
+    let p : part ≡ take 8 (drop i bytes) = e ∙ rw w in
+    let is : n ≡ number_at bytes i = h ∙ number_sum part ∙ ap (λ (q : List ℕ). number_at q 0) p ∙ number_part bytes i in
+    record { is = is; again = ap bytes_of is ∙ number_back bytes i small l }
+
+pub bytes_written : (n : ℕ) → to_le_bytes w64 n ≡ bytes_of n
 unfolding bytes_of
-eight_set (a ∷ b ∷ c ∷ d ∷ e ∷ f ∷ g ∷ h ∷ []) x l = refl
-eight_set (a ∷ b ∷ c ∷ d ∷ e ∷ f ∷ g ∷ h ∷ i ∷ q) x l = absurd (omega arith)
-eight_set [] x l = absurd (omega arith)
-eight_set (a ∷ []) x l = absurd (omega arith)
-eight_set (a ∷ b ∷ []) x l = absurd (omega arith)
-eight_set (a ∷ b ∷ c ∷ []) x l = absurd (omega arith)
-eight_set (a ∷ b ∷ c ∷ d ∷ []) x l = absurd (omega arith)
-eight_set (a ∷ b ∷ c ∷ d ∷ e ∷ []) x l = absurd (omega arith)
-eight_set (a ∷ b ∷ c ∷ d ∷ e ∷ f ∷ []) x l = absurd (omega arith)
-eight_set (a ∷ b ∷ c ∷ d ∷ e ∷ f ∷ g ∷ []) x l = absurd (omega arith)
+bytes_written n = refl
 
 -- the eight bytes at a place, as they are lent
 pub number_put : (q : List ℕ) (i : ℕ) (part new : List ℕ) → part ≡ new → take i q ++ (part ++ drop (i + 8 - i) (drop i q)) ≡ take i q ++ (new ++ drop 8 (drop i q))
 number_put q i part new e = let w : i + 8 - i ≡ 8 = omega arith in rw (w, e)
-
-pub number_room : (q : List ℕ) (i : ℕ) → i + 8 ≤ length q → length (take (i + 8 - i) (drop i q)) ≡ 8
-number_room q i l = let w : i + 8 - i ≡ 8 = omega arith in rw w (length-take-le 8 (drop i q) (omega (arith, length-drop i q)))
-
-module _ (bytes : List ℕ) (i low high : ℕ) (fits : i + 8 ≤ length bytes) (x : Half bytes i low) (y : Half bytes (i + 4) high) where
-  pub number_halves : Number bytes i (low + 4294967296 * high)
-  unfolding number_at
-  number_halves =
-      let e₅ : i + 4 + 1 ≡ i + 5 = omega arith in
-      let e₆ : i + 4 + 2 ≡ i + 6 = omega arith in
-      let e₇ : i + 4 + 3 ≡ i + 7 = omega arith in
-      let h : high ≡ get_or bytes (i + 4) 0 + 256 * (get_or bytes (i + 5) 0 + 256 * (get_or bytes (i + 6) 0 + 256 * get_or bytes (i + 7) 0)) = rw (e₅, e₆, e₇) at y.is in
-      let l = x.is in
-      let whole : low + 4294967296 * high ≡ number_at bytes i = omega arith in
-      let at = reads in
-      record {
-        is = whole;
-        again =
-            ap bytes_of whole ∙
-            eight_again _ _ _ _ _ _ _ _ x.below₀ x.below₁ x.below₂ x.below₃ y.below₀ (rw e₅ at y.below₁) (rw e₆ at y.below₂) (rw e₇ at y.below₃) ∙
-            sym (first_eight (drop i bytes) (omega (arith, length-drop i bytes)) ∙ rw (at 0, at 1, at 2, at 3, at 4, at 5, at 6, at 7, add-zero i));
-      }
-    where
-      reads : (k : ℕ) → get_or (drop i bytes) k 0 ≡ get_or bytes (i + k) 0
-      reads k = get_or-drop i bytes k 0

@@ -45,13 +45,11 @@ pub fn apply(names: &[u8], timers: &[u32], clock: &mut [u8]) -> bool
     ensures { Applied names.now timers.now clock.old clock.new result }
 {
     let n = timers.len() / 2;
-    let mut i = 0;
-    while i < n {
+    for i in 0..n {
         let at = i * 2;
         if apply_one(names, timers[at], timers[at + 1], clock) {
             return true;
         }
-        i += 1;
     }
     false
 }

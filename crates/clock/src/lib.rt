@@ -6,7 +6,7 @@ ghost use Rattle.clock.specs.Records.{clock_in, emptied_bytes};
 
 pub use applying::apply;
 pub use joining::join_due;
-pub use judging::is_clock;
+pub use judging::{MOST_TICKS, is_clock};
 use record_numbers::get_number;
 
 pub mod applying;
@@ -55,6 +55,6 @@ pub fn drop_pending(clock: &mut [u8])
     ensures { clock.new ≡ emptied_bytes clock.old }
 {
     let ticks = ticks_of(clock);
-    places::clear_u8(clock);
+    clock.fill(0);
     record_numbers::put_number(clock, 0, ticks);
 }

@@ -10,7 +10,7 @@ ghost use Rattle.compiler.specs.Compilable.{RowRoom, TransitionRoom, TargetRoom,
 ghost use Rattle.compiler.specs.Targets.{WithChildren, TransitionKept};
 
 use numbers::{Row, Transition};
-use rowset::{Found, RowSet};
+use rowset::RowSet;
 use tables::columns::{ANCHORS, CHILDREN, DESCENDANTS, SET_WIDTH};
 use tables::put_set;
 
@@ -19,10 +19,8 @@ fn clear(sets: &mut [u64], n: usize)
     requires { n * 4 ≤ length sets.old }
     ensures { sets.new ≡ column_over nothing_at n sets.old }
 {
-    let mut i = 0;
-    while i < n {
+    for i in 0..n {
         put_set(sets, i * SET_WIDTH, RowSet::empty());
-        i += 1;
     }
 }
 
@@ -33,15 +31,14 @@ fn write_children(numbers: &[u64], sets: &mut [u64])
 {
     let rows = tables::row_count(numbers) as usize;
     clear(sets, rows);
-    let mut i = 1;
-    while i < rows {
+    for i in 1..rows {
         let r = Row(i as u8);
-        i += 1;
-        if !tables::is_history(tables::kind_of(numbers, r)) {
-            let at = tables::parent_row(numbers, r).0 as usize * SET_WIDTH;
-            let siblings = chart::set_at(sets, at);
-            put_set(sets, at, siblings.with(r));
+        if tables::is_history(tables::kind_of(numbers, r)) {
+            continue;
         }
+        let at = tables::parent_row(numbers, r).0 as usize * SET_WIDTH;
+        let siblings = chart::set_at(sets, at);
+        put_set(sets, at, siblings.with(r));
     }
 }
 
@@ -52,9 +49,7 @@ fn write_descendants(numbers: &[u64], sets: &mut [u64])
 {
     let rows = tables::row_count(numbers) as usize;
     clear(sets, rows);
-    let mut i = rows;
-    while 1 < i {
-        i -= 1;
+    for i in (1..rows).rev() {
         let r = Row(i as u8);
         if !tables::is_history(tables::kind_of(numbers, r)) {
             let own = chart::set_at(sets, i * SET_WIDTH).with(r);
@@ -74,7 +69,7 @@ pub fn default_targets(numbers: &[u64], r: Row, kids: RowSet) -> RowSet
     }
     let list = tables::list_of(numbers, r);
     if list.len() == 0 {
-        let Found::At(child) = kids.first() else {
+        let Some(child) = kids.first() else {
             return RowSet::empty();
         };
         return RowSet::single(child);
@@ -88,15 +83,13 @@ fn write_default_targets(numbers: &[u64], sets: &mut [u64])
     ensures { sets.new ≡ children_and_targets (chart_of numbers.now) sets.old }
 {
     let rows = tables::row_count(numbers) as usize;
-    let mut i = 0;
-    while i < rows {
+    for i in 0..rows {
         let kids = chart::set_at(sets, i * SET_WIDTH);
         put_set(
             sets,
             (rows + i) * SET_WIDTH,
             default_targets(numbers, Row(i as u8), kids),
         );
-        i += 1;
     }
 }
 
@@ -106,11 +99,9 @@ pub fn anchors(numbers: &[u64], t: Transition) -> RowSet
 {
     let targets = tables::targets_of(numbers, t);
     let mut set = RowSet::empty();
-    let mut k = 0;
-    while k < targets.len() {
+    for k in 0..targets.len() {
         let a = rules3::anchor_of(numbers, tables::row_at(numbers, targets, k));
         set = set.with(a);
-        k += 1;
     }
     set
 }
@@ -120,10 +111,8 @@ fn write_anchors(numbers: &[u64], sets: &mut [u64])
     ensures { sets.new ≡ column_over (anchors (chart_of numbers.now)) (transition_count numbers.now) sets.old }
 {
     let transitions = tables::transition_count(numbers) as usize;
-    let mut t = 0;
-    while t < transitions {
+    for t in 0..transitions {
         put_set(sets, t * SET_WIDTH, anchors(numbers, Transition(t as u16)));
-        t += 1;
     }
 }
 

@@ -11,7 +11,7 @@ ghost use Rattle.compiler.specs.Targets.{WithChildren};
 
 use crate::columns::{anchors, default_targets};
 use numbers::{Row, Transition};
-use rowset::{Found, RowSet};
+use rowset::RowSet;
 use tables::columns::{ANCHORS, CHILDREN, DEFAULT_TARGETS, DESCENDANTS, SET_WIDTH};
 
 // A row's ancestors are its parent's and the parent; the root has none.
@@ -33,14 +33,7 @@ pub fn ancestors_hold(numbers: &[u64], sets: &[u64]) -> bool
     ensures { result ≡ all (is_above (chart_of numbers.now) sets.now) (from (row_count numbers.now) 0) }
 {
     let rows = tables::row_count(numbers) as usize;
-    let mut i = 0;
-    while i < rows {
-        if !above_holds(numbers, sets, i) {
-            return false;
-        }
-        i += 1;
-    }
-    true
+    (0..rows).all(|i| above_holds(numbers, sets, i))
 }
 
 // A row that is no history is among its parent's children.
@@ -64,14 +57,7 @@ fn all_joined(numbers: &[u64], kids: &[u64]) -> bool
     ensures { result ≡ all (is_joined (chart_of numbers.now) kids.now) (from (row_count numbers.now) 0) }
 {
     let rows = tables::row_count(numbers) as usize;
-    let mut i = 0;
-    while i < rows {
-        if !is_joined(numbers, kids, i) {
-            return false;
-        }
-        i += 1;
-    }
-    true
+    (0..rows).all(|i| is_joined(numbers, kids, i))
 }
 
 // Whether x is a row of the chart, and a child of row p.
@@ -95,18 +81,14 @@ fn are_own(numbers: &[u64], below: &[u64], p: Row, set: RowSet, own: RowSet) -> 
     ensures { result ≡ (all (is_child_row (chart_of numbers.now) p.0) (rows_of set) && same (rows_of own) (fold (with_below below.now) [] (rows_of set))) }
 {
     let mut all = RowSet::empty();
-    let mut k = 0;
-    loop {
-        let Found::At(x) = set.next_from(k) else {
-            return own.same(all);
-        };
+    for x in set.iter() {
         if !is_child_row(numbers, p, x) {
             return false;
         }
         let more = chart::set_at(below, x.0 as usize * SET_WIDTH).with(x);
         all = all.union(more);
-        k = x.0 as u16 + 1;
     }
+    own.same(all)
 }
 
 // A row's descendants are its children and theirs. Most rows have none.
@@ -127,14 +109,7 @@ fn all_down(numbers: &[u64], below: &[u64], kids: &[u64]) -> bool
     ensures { result ≡ all (is_down (chart_of numbers.now) below.now kids.now) (from (row_count numbers.now) 0) }
 {
     let rows = tables::row_count(numbers) as usize;
-    let mut i = 0;
-    while i < rows {
-        if !down_holds(numbers, below, kids, i) {
-            return false;
-        }
-        i += 1;
-    }
-    true
+    (0..rows).all(|i| down_holds(numbers, below, kids, i))
 }
 
 // Most rows have no default targets: for these no set is made.
@@ -148,22 +123,30 @@ fn aim_holds(numbers: &[u64], own: RowSet, r: Row, kids: RowSet) -> bool
     own.same(default_targets(numbers, r, kids))
 }
 
-// The default targets need no other set than the children.
+// The default targets of a row need no other set than its children.
+fn is_aimed(numbers: &[u64], kids: &[u64], targets: &[u64], i: usize) -> bool
+    requires { KidsKnown numbers.now kids.now × RowRoom numbers.now targets.now × (i < row_count numbers.now) }
+    ensures { result ≡ is_aimed (chart_of numbers.now) targets.now i }
+{
+    let set = chart::set_at(kids, i * SET_WIDTH);
+    let own = chart::set_at(targets, i * SET_WIDTH);
+    aim_holds(numbers, own, Row(i as u8), set)
+}
+
 fn all_aimed(numbers: &[u64], kids: &[u64], targets: &[u64]) -> bool
     requires { KidsKnown numbers.now kids.now × RowRoom numbers.now targets.now }
     ensures { result ≡ all (is_aimed (chart_of numbers.now) targets.now) (from (row_count numbers.now) 0) }
 {
     let rows = tables::row_count(numbers) as usize;
-    let mut i = 0;
-    while i < rows {
-        let set = chart::set_at(kids, i * SET_WIDTH);
-        let own = chart::set_at(targets, i * SET_WIDTH);
-        if !aim_holds(numbers, own, Row(i as u8), set) {
-            return false;
-        }
-        i += 1;
-    }
-    true
+    (0..rows).all(|i| is_aimed(numbers, kids, targets, i))
+}
+
+fn is_anchored(numbers: &[u64], sets: &[u64], t: usize) -> bool
+    requires { TransitionRoom numbers.now sets.now × (t < transition_count numbers.now) }
+    ensures { result ≡ is_anchored (chart_of numbers.now) sets.now t }
+{
+    let own = chart::set_at(sets, t * SET_WIDTH);
+    own.same(anchors(numbers, Transition(t as u16)))
 }
 
 fn all_anchored(numbers: &[u64], sets: &[u64]) -> bool
@@ -171,15 +154,7 @@ fn all_anchored(numbers: &[u64], sets: &[u64]) -> bool
     ensures { result ≡ all (is_anchored (chart_of numbers.now) sets.now) (from (transition_count numbers.now) 0) }
 {
     let transitions = tables::transition_count(numbers) as usize;
-    let mut t = 0;
-    while t < transitions {
-        let own = chart::set_at(sets, t * SET_WIDTH);
-        if !own.same(anchors(numbers, Transition(t as u16))) {
-            return false;
-        }
-        t += 1;
-    }
-    true
+    (0..transitions).all(|t| is_anchored(numbers, sets, t))
 }
 
 // Whether the sets are those that the numbers give, the ancestors being judged. None is derived apart: each is compared where it lies.

@@ -10,13 +10,14 @@ ghost use Rattle.compiler.specs.Results.{Compiles};
 use crate::columns::write_columns;
 use crate::judging::{ancestors_hold, has_columns};
 use definition::Answer;
-use places::{copy_u8, copy_u64};
+use places::copy;
 use tables::limits;
 
 mod columns;
 mod judging;
 
 // The sizes that a chart's counts ask of the two places; 0 where the counts break rule 1.
+// Kept: C is answered this number (auttervil_raw3_numbers_size, auttervil_raw3_names_size), so 0 stands in place of an Option.
 pub fn numbers_size(numbers: &[u64]) -> usize
     ensures { result ≡ cond (counts_fit numbers.now) (compiled_size numbers.now) 0 }
 {
@@ -44,9 +45,9 @@ pub fn compile(numbers: &[u64], names: &[u8], place: &mut [u64], name_place: &mu
         return answer;
     };
     let size = numbers.len();
-    copy_u64(numbers, place);
+    copy(numbers, place);
     write_columns(numbers, &mut place[size..]);
-    copy_u8(names, name_place);
+    copy(names, name_place);
     Answer::Done
 }
 

@@ -1,5 +1,5 @@
 -- The numbers that answers, statuses and modes are known by.
-use Rattle.std.specs.Prelude.{ℕ}
+use Rattle.std.specs.Prelude.{ℕ, zero, suc}
 use Rattle.definition.specs.declared.Mode.{Mode}
 use Rattle.definition.specs.declared.Mode.TheVariants.{Running, Closing, Ended}
 use Rattle.definition.specs.declared.Answer.{Answer}
@@ -13,6 +13,12 @@ unfoldable pub mode_no : Mode → ℕ
 mode_no Ended = 0
 mode_no Running = 1
 mode_no Closing = 2
+
+-- the mode of a number
+unfoldable pub mode_from : ℕ → Mode
+mode_from zero = Ended
+mode_from (suc zero) = Running
+mode_from (suc (suc n)) = Closing
 
 -- the table of answers (74 to 82); 14 is R-9's, 15 R-10's, 16 and 17 are R-11's; 12 is given by the reader of texts, 13 by the writer
 unfoldable pub answer_no : Answer → ℕ

@@ -1,6 +1,6 @@
 -- The seventh marked run, by computation: it needs the rules alone. This stands beside the rules so that a must-fail edit of one of them is
 -- refused here.
-use Rattle.std.specs.Prelude.{◌≡◌, refl, Bool, true, List, [], ◌∷◌, replicate}
+use Rattle.std.specs.Prelude.{◌≡◌, refl, true, [], ◌∷◌, replicate}
 use Rattle.definition.specs.Rows.{same}
 use Rattle.definition.specs.Rules.{keeps_rules}
 use Rattle.definition.specs.Answers.{answer_no}

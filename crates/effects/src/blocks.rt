@@ -71,8 +71,7 @@ pub fn perform_plain(block: &[u64], trace: &mut [u32], joins: &mut [u32], tally:
 {
     let n = actions_in(block);
     let mut sum = tally;
-    let mut k = 0;
-    while k < n {
+    for k in 0..n {
         let action = action_of(block, k);
         if is_branch(action) {
             return Plain {
@@ -81,11 +80,10 @@ pub fn perform_plain(block: &[u64], trace: &mut [u32], joins: &mut [u32], tally:
             };
         }
         sum = perform_action(trace, joins, sum, action);
-        k += 1;
     }
     Plain {
         tally: sum,
-        actions: k,
+        actions: n,
     }
 }
 
@@ -104,12 +102,10 @@ pub fn perform_rest(
     let n = actions_in(block);
     let mut sum = tally;
     let mut reach = Reach::Live;
-    let mut k = start;
-    while k < n {
+    for k in start..n {
         let action = action_of(block, k);
         sum = perform_in(reach, trace, joins, sum, action);
         reach = reach_after(active, action, reach);
-        k += 1;
     }
     sum
 }

@@ -15,7 +15,7 @@ use crate::writing::{DONE, emit_join};
 use chart::{children_of, descendants_of, is_compound, parent_row};
 use kinds::{is_final, is_parallel, is_root};
 use numbers::{Row, row_after};
-use rowset::{Found, RowSet};
+use rowset::RowSet;
 use tables::kind_of;
 
 // Whether a row of the set is a final.
@@ -23,20 +23,12 @@ fn any_final(chart: &[u64], set: RowSet) -> bool
     requires { InTables chart.now × Within (row_count chart.now) (rows_of set) }
     ensures { result ≡ any (is_final_row (chart_of chart.now)) (rows_of set) }
 {
-    let mut k: u16 = 0;
-    loop {
-        match set.next_from(k) {
-            Found::At(r) => {
-                if is_final(kind_of(chart, r)) {
-                    return true;
-                }
-                k = row_after(r);
-            }
-            Found::Nothing => {
-                return false;
-            }
+    for r in set.iter() {
+        if is_final(kind_of(chart, r)) {
+            return true;
         }
     }
+    false
 }
 
 // Whether row r is in a final state, by the rows below it that are.
@@ -70,18 +62,10 @@ fn final_below(chart: &[u64], active: RowSet, g: Row) -> RowSet
 {
     let below = descendants_of(chart, g);
     let mut set = RowSet::empty();
-    let mut k: u16 = 256;
-    loop {
-        match below.prev_below(k) {
-            Found::At(r) => {
-                set = add_in_final(chart, active, set, r);
-                k = r.0 as u16;
-            }
-            Found::Nothing => {
-                return set;
-            }
-        }
+    for r in below.down() {
+        set = add_in_final(chart, active, set, r);
     }
+    set
 }
 
 // Whether g is parallel and all its children are in a final state.

@@ -20,8 +20,8 @@ use crate::blocks::{perform_plain, perform_rest};
 use crate::done::{active_at, done_effects};
 use crate::writing::{ENTERED, emit};
 use chart::parent_row;
-use numbers::{Row, row_after, same_row};
-use rowset::{Found, RowSet};
+use numbers::Row;
+use rowset::RowSet;
 use tables::{actions_in, entry_block_of, list_block_of};
 
 // The actions of a block from that one on, in the entry of row r. The rows that are active then are worked out for ifs and done events alone.
@@ -121,7 +121,7 @@ fn default_block(
     requires { HistoryRow chart.now h.0 × Room tally (default_effects (chart_of chart.now) (active_at (rows_of stay) (rows_of set) r.0) r.0 h.0) }
     ensures { Wrote (places trace.old joins.old) (places trace.new joins.new) tally result (default_effects (chart_of chart.now) (active_at (rows_of stay) (rows_of set) r.0) r.0 h.0) }
 {
-    if !same_row(r, parent_row(chart, h)) {
+    if r != parent_row(chart, h) {
         return tally;
     }
     let block = list_block_of(chart, h);
@@ -146,18 +146,10 @@ fn default_blocks(
         return tally;
     }
     let mut sum = tally;
-    let mut k: u16 = 0;
-    loop {
-        match fallen.next_from(k) {
-            Found::At(h) => {
-                sum = default_block(chart, stay, set, r, h, trace, joins, sum);
-                k = row_after(h);
-            }
-            Found::Nothing => {
-                return sum;
-            }
-        }
+    for h in fallen.iter() {
+        sum = default_block(chart, stay, set, r, h, trace, joins, sum);
     }
+    sum
 }
 
 // Row r is entered, without its done events: active are the rows that stay and those of the set up to it, itself among them.
@@ -196,17 +188,9 @@ pub fn entry_effects(
     ensures { Wrote (places trace.old joins.old) (places trace.new joins.new) tally result (entering (chart_of chart.now) (rows_of stay) (entry_is set defaults) (rows_of fallen)) }
 {
     let mut sum = tally;
-    let mut k: u16 = 0;
-    loop {
-        match set.next_from(k) {
-            Found::At(r) => {
-                sum = enter_row(chart, stay, set, defaults, fallen, r, trace, joins, sum);
-                sum = done_effects(chart, stay, set, r, trace, joins, sum);
-                k = row_after(r);
-            }
-            Found::Nothing => {
-                return sum;
-            }
-        }
+    for r in set.iter() {
+        sum = enter_row(chart, stay, set, defaults, fallen, r, trace, joins, sum);
+        sum = done_effects(chart, stay, set, r, trace, joins, sum);
     }
+    sum
 }

@@ -12,7 +12,7 @@ use crate::Tally;
 use crate::blocks::{perform_plain, perform_rest};
 use crate::writing::{EXITED, emit};
 use numbers::{Row, row_after};
-use rowset::{Found, RowSet};
+use rowset::{RowSet, RowsDown};
 use tables::{actions_in, exit_block_of, row_count};
 
 // The rows that are active when row r is exited: those of the configuration, but for the rows of out behind it.
@@ -77,16 +77,12 @@ pub fn exit_effects(
     ensures { Wrote (places trace.old joins.old) (places trace.new joins.new) tally result (exiting (chart_of chart.now) (rows_of conf) (rows_of out)) }
 {
     let mut sum = tally;
-    let mut k: u16 = row_count(chart) as u16;
-    loop {
-        match out.prev_below(k) {
-            Found::At(r) => {
-                sum = exit_row(chart, conf, out, r, trace, joins, sum);
-                k = r.0 as u16;
-            }
-            Found::Nothing => {
-                return sum;
-            }
-        }
+    let rows = RowsDown {
+        set: out,
+        below: row_count(chart) as u16,
+    };
+    for r in rows {
+        sum = exit_row(chart, conf, out, r, trace, joins, sum);
     }
+    sum
 }

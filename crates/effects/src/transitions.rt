@@ -72,10 +72,8 @@ pub fn transition_effects(
     ensures { Wrote (places trace.old joins.old) (places trace.new joins.new) tally result (flat (transition_effects (chart_of chart.now) (rows_of stay) (chooser_in by.now)) chosen.now) }
 {
     let mut sum = tally;
-    let mut i = 0;
-    while i < chosen.len() {
+    for i in 0..chosen.len() {
         sum = take_transition(chart, stay, by, Transition(chosen[i]), trace, joins, sum);
-        i += 1;
     }
     sum
 }

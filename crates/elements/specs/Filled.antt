@@ -17,6 +17,7 @@ use Rattle.written.specs.AcceptedRows.{id_parts_of}
 use Rattle.tables.specs.Ranges.{RowsIn, NamesIn}
 use Rattle.tables.specs.Parts.{Listed}
 use Rattle.spell.specs.Ready.{Ready, RowReady, id_is, id_below}
+use Rattle.spell.specs.declared.lists.Items.TheVariants.{Names, Rows}
 use Rattle.spell.specs.Lists.{item, ListReady}
 
 descriptor_filled : (d : List ℕ) → is_descriptor d ≡ true → is_empty d ≡ false
@@ -50,11 +51,11 @@ module _ (numbers names : List ℕ) (h : Ready numbers names) where
       by [] = refl
       by (b ∷ bs) = refl
 
-  pub names_ready : (most : ℕ) (xs l : List ℕ) → Listed (NamesIn numbers) most xs l → ListReady numbers names false l
+  pub names_ready : (most : ℕ) (xs l : List ℕ) → Listed (NamesIn numbers) most xs l → ListReady numbers names Names l
   names_ready most xs l k =
       record {
         items = record { ready = h; inside = k.within.low };
-        filled = list_filled (item numbers names false) l (λ j b. name_filled (get_or l j 0) (k.within.low j b));
+        filled = list_filled (item numbers names Names) l (λ j b. name_filled (get_or l j 0) (k.within.low j b));
       }
 
   all_at : (n : ℕ) (l : List ℕ) → AllOf (Ref n) l → (k : ℕ) → k < length l → Ref n (get_or l k 0)
@@ -62,9 +63,9 @@ module _ (numbers names : List ℕ) (h : Ready numbers names) where
   all_at n (x ∷ l) (more f g) zero b = f
   all_at n (x ∷ l) (more f g) (suc k) b = all_at n l g k (omega arith)
 
-  pub rows_ready : (most : ℕ) (xs l : List ℕ) → AllOf (Ref (row_count numbers)) xs → Listed (RowsIn numbers) most xs l → ListReady numbers names true l
+  pub rows_ready : (most : ℕ) (xs l : List ℕ) → AllOf (Ref (row_count numbers)) xs → Listed (RowsIn numbers) most xs l → ListReady numbers names Rows l
   rows_ready most xs l refs k =
       record {
         items = record { ready = h; inside = k.within.low };
-        filled = list_filled (item numbers names true) l (λ j b. id_filled (get_or l j 0) (all_at (row_count numbers) l (rw (sym k.is) at refs) j b));
+        filled = list_filled (item numbers names Rows) l (λ j b. id_filled (get_or l j 0) (all_at (row_count numbers) l (rw (sym k.is) at refs) j b));
       }

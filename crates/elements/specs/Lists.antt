@@ -1,12 +1,14 @@
 -- The list of a row: in an element of its own, or in an attribute.
-use Rattle.std.specs.Prelude.{◌≡◌, Bool, true, false, not, ◌||◌, cond, List, [], ◌∷◌, ◌++◌, map, ℕ, zero, suc, ◌+◌, ◌≤◌, ◌<◌, eqb, length, drop}
+use Rattle.std.specs.Prelude.{◌≡◌, Bool, true, false, not, ◌||◌, cond, List, [], ◌∷◌, ◌++◌, map, ℕ, zero, suc, ◌+◌, ◌<◌, eqb, leb, length, drop}
 use Rattle.std.proofs.Math.Path.{refl, ap}
 use Rattle.std.proofs.Common.{sym, ◌∙◌, arith, eqb-true, le-leb}
 use Rattle.std.proofs.Math.ListN.{length-drop}
 use Rattle.std.proofs.Math.Seq.{length-take-le}
-use Rattle.std.proofs.lemmas.Bool.{eqb-false, lt-leb}
+use Rattle.std.proofs.lemmas.Bool.{eqb-false}
+use Rattle.definition.specs.declared.Kind.{Kind}
+use Rattle.definition.specs.Chart.{is_history}
 use Rattle.definition.specs.Rows.{is_empty, from}
-use Rattle.definition.specs.Tables.{row_count, reference_count, reference_base, row_cell, part, references_at, list_at}
+use Rattle.definition.specs.Tables.{row_count, reference_count, reference_base, kind_of, kind_at, row_cell, part, references_at, list_at}
 use Rattle.laws.specs.Bools.{no, and_false, bool_case}
 use Rattle.tables.specs.Ranges.{RowIn, RowsIn, row_fits, layout}
 use Rattle.tables.specs.Parts.{Listed}
@@ -17,6 +19,7 @@ use Rattle.written.specs.Sound.{AllOf, Ref}
 use Rattle.written.specs.AcceptedRows as accepted
 use Rattle.spell.specs.Laid.{Laid, laid_as, laid_none, laid_then}
 use Rattle.spell.specs.Ready.{RowReady}
+use Rattle.spell.specs.declared.lists.Items.TheVariants.{Rows}
 use Rattle.spell.specs.Lists.{item, ListReady}
 use Rattle.spell.specs.Blocks.{BlockReady, closing}
 use Rattle.elements.specs.Filled.{rows_ready}
@@ -34,6 +37,14 @@ some_left : {A : Type 0} (l : List A) → (length l ≡ 0 → ⊥) → is_empty 
 unfolding is_empty
 some_left [] d = absurd (d refl)
 some_left (x ∷ l) d = refl
+
+pub history_kind : (n : ℕ) → is_history (kind_of n) ≡ leb 4 n
+history_kind zero = refl
+history_kind (suc zero) = refl
+history_kind (suc (suc zero)) = refl
+history_kind (suc (suc (suc zero))) = refl
+history_kind (suc (suc (suc (suc zero)))) = refl
+history_kind (suc (suc (suc (suc (suc n))))) = sym (le-leb 4 (suc (suc (suc (suc (suc n))))) (omega arith))
 
 module _ (numbers names : List ℕ) (i : ℕ) (h : RowReady numbers names i) where
   abbrev back : Row
@@ -89,11 +100,10 @@ module _ (numbers names : List ℕ) (i : ℕ) (h : RowReady numbers names i) whe
   pub block_empty : is_empty (row_back numbers names i).block ≡ eqb (row_cell numbers i 10) 0
   block_empty = bool_case (eqb (row_cell numbers i 10) 0) (λ e. no_block (eqb-true _ _ e) ∙ sym e) (λ e. some_block (eqb-false _ _ e) ∙ sym e)
 
-  history : 4 ≤ row_cell numbers i 0 → is_history_kind back.kind ≡ true
-  history l = ap is_history_kind kind_is ∙ le-leb 4 (row_cell numbers i 0) l
-
-  no_history_lem : row_cell numbers i 0 < 4 → is_history_kind back.kind ≡ false
-  no_history_lem l = ap is_history_kind kind_is ∙ lt-leb 4 (row_cell numbers i 0) l
+  -- the kind that the writer read says whether the row is a history
+  history : (kind : Kind) (b : Bool) → kind ≡ kind_at numbers i → b ≡ is_history kind → is_history_kind back.kind ≡ b
+  unfolding kind_at
+  history kind b e q = ap is_history_kind kind_is ∙ sym (history_kind (row_cell numbers i 0)) ∙ ap is_history (sym e) ∙ sym q
 
   -- ---- the list and its block
 
@@ -101,7 +111,7 @@ module _ (numbers names : List ℕ) (i : ℕ) (h : RowReady numbers names i) whe
   refs zero l = (accepted.root_fits numbers names h.ready.accepted).list
   refs (suc k) l = (accepted.row_fits numbers names h.ready.accepted k l).list
 
-  pub list_ready : (l : List ℕ) → Listed (RowsIn numbers) (reference_count numbers) (list_at numbers i) l → ListReady numbers names true l
+  pub list_ready : (l : List ℕ) → Listed (RowsIn numbers) (reference_count numbers) (list_at numbers i) l → ListReady numbers names Rows l
   list_ready l k = rows_ready numbers names h.ready (reference_count numbers) (list_at numbers i) l (rw list_is at (refs i h.below)) k
 
   pub block_ready : (start count : ℕ) → start ≡ row_cell numbers i 9 → count ≡ row_cell numbers i 10 → BlockReady numbers names start count
@@ -114,7 +124,7 @@ module _ (numbers names : List ℕ) (i : ℕ) (h : RowReady numbers names i) whe
   target = 32 ∷ 116 ∷ 97 ∷ 114 ∷ 103 ∷ 101 ∷ 116 ∷ 61 ∷ []
 
   abbrev ids : List ℕ → List ℕ
-  ids l = spaced (map (item numbers names true) l)
+  ids l = spaced (map (item numbers names Rows) l)
 
   default_laid : (row_cell numbers i 8 ≡ 0 → ⊥) → (l : List ℕ) (start count : ℕ) → Listed (RowsIn numbers) (reference_count numbers) (list_at numbers i) l → start ≡ row_cell numbers i 9 → count ≡ row_cell numbers i 10 →
       {place o1 o2 out : List ℕ} {from a1 a2 at : ℕ} → Laid (60 ∷ word) place from o1 a1 → Laid (given target (ids l)) o1 a1 o2 a2 →
@@ -159,25 +169,25 @@ module _ (numbers names : List ℕ) (i : ℕ) (h : RowReady numbers names i) whe
       pub row_list_ready : DefaultReady numbers names i
       row_list_ready = record { row = h; some = λ q. d (m ∙ q) }
 
-      module _ (kind : ℕ) (k : kind ≡ row_cell numbers i 0) where
-        pub initial_history : 4 ≤ kind → {out : List ℕ} {at : ℕ} → Laid (initial_text (content numbers names).rows (row_back numbers names i)) out at out at
-        initial_history l = laid_as (rw (history (omega arith))) laid_none
+      module _ (kind : Kind) (k : kind ≡ kind_at numbers i) (past : Bool) (z : past ≡ is_history kind) where
+        pub initial_history : past ≡ true → {out : List ℕ} {at : ℕ} → Laid (initial_text (content numbers names).rows (row_back numbers names i)) out at out at
+        initial_history l = laid_as (rw (history kind past k z ∙ l)) laid_none
 
-        module _ (l : kind < 4) (held : ℕ) (b : held ≡ row_cell numbers i 10) where
+        module _ (l : past ≡ false) (held : ℕ) (b : held ≡ row_cell numbers i 10) where
           pub initial_element : (held ≡ 0 → ⊥) → {out : List ℕ} {at : ℕ} → Laid (initial_text (content numbers names).rows (row_back numbers names i)) out at out at
-          initial_element f = laid_as (rw (no_history_lem (omega arith), some_list (λ q. d (m ∙ q)), some_block (λ q. f (b ∙ q)))) laid_none
+          initial_element f = laid_as (rw (history kind past k z ∙ l, some_list (λ q. d (m ∙ q)), some_block (λ q. f (b ∙ q)))) laid_none
 
           pub initial_some : held ≡ 0 → (g : List ℕ) → Listed (RowsIn numbers) (reference_count numbers) (list_at numbers i) g → {place out : List ℕ} {from at : ℕ} →
-              Laid (given (32 ∷ 105 ∷ 110 ∷ 105 ∷ 116 ∷ 105 ∷ 97 ∷ 108 ∷ 61 ∷ []) (spaced (map (item numbers names true) g))) place from out at →
+              Laid (given (32 ∷ 105 ∷ 110 ∷ 105 ∷ 116 ∷ 105 ∷ 97 ∷ 108 ∷ 61 ∷ []) (spaced (map (item numbers names Rows) g))) place from out at →
               Laid (initial_text (content numbers names).rows (row_back numbers names i)) place from out at
           initial_some e g s p =
-              laid_as (rw (no_history_lem (omega arith), no_block (sym b ∙ e), and_false (not (is_empty back.list)))
+              laid_as (rw (history kind past k z ∙ l, no_block (sym b ∙ e), and_false (not (is_empty back.list)))
               (ap (λ (x : List ℕ). given (32 ∷ 105 ∷ 110 ∷ 105 ∷ 116 ∷ 105 ∷ 97 ∷ 108 ∷ 61 ∷ []) (ids x)) (list_is ∙ sym s.is))) p
 
 -- ---- the transition to the list
 
 module _ (numbers names : List ℕ) (i : ℕ) (h : DefaultReady numbers names i) where
-  pub default_list : (l : List ℕ) → Listed (RowsIn numbers) (reference_count numbers) (list_at numbers i) l → ListReady numbers names true l
+  pub default_list : (l : List ℕ) → Listed (RowsIn numbers) (reference_count numbers) (list_at numbers i) l → ListReady numbers names Rows l
   default_list = list_ready numbers names i h.row
 
   pub default_block_lem : (start count : ℕ) → start ≡ row_cell numbers i 9 → count ≡ row_cell numbers i 10 → BlockReady numbers names start count
@@ -185,23 +195,23 @@ module _ (numbers names : List ℕ) (i : ℕ) (h : DefaultReady numbers names i)
 
   pub default_whole : (l : List ℕ) (start count : ℕ) → Listed (RowsIn numbers) (reference_count numbers) (list_at numbers i) l → start ≡ row_cell numbers i 9 → count ≡ row_cell numbers i 10 →
       {place o1 o2 out : List ℕ} {from a1 a2 at : ℕ} → Laid (60 ∷ 116 ∷ 114 ∷ 97 ∷ 110 ∷ 115 ∷ 105 ∷ 116 ∷ 105 ∷ 111 ∷ 110 ∷ []) place from o1 a1 →
-      Laid (given (32 ∷ 116 ∷ 97 ∷ 114 ∷ 103 ∷ 101 ∷ 116 ∷ 61 ∷ []) (spaced (map (item numbers names true) l))) o1 a1 o2 a2 →
+      Laid (given (32 ∷ 116 ∷ 97 ∷ 114 ∷ 103 ∷ 101 ∷ 116 ∷ 61 ∷ []) (spaced (map (item numbers names Rows) l))) o1 a1 o2 a2 →
       Laid (closing (116 ∷ 114 ∷ 97 ∷ 110 ∷ 115 ∷ 105 ∷ 116 ∷ 105 ∷ 111 ∷ 110 ∷ []) (block_text (content numbers names).rows (acts_at numbers names start count))) o2 a2 out at →
       Laid (default_text (content numbers names).rows (row_back numbers names i)) place from out at
   default_whole = default_laid numbers names i h.row h.some
 
   -- as an element
-  module _ (kind : ℕ) (k : kind ≡ row_cell numbers i 0) where
-    pub row_list_history : 4 ≤ kind → {place out : List ℕ} {from at : ℕ} → Laid (default_text (content numbers names).rows (row_back numbers names i)) place from out at →
+  module _ (kind : Kind) (k : kind ≡ kind_at numbers i) (past : Bool) (z : past ≡ is_history kind) where
+    pub row_list_history : past ≡ true → {place out : List ℕ} {from at : ℕ} → Laid (default_text (content numbers names).rows (row_back numbers names i)) place from out at →
         Laid (list_text (content numbers names).rows (row_back numbers names i)) place from out at
-    row_list_history l p = laid_as (rw (history numbers names i h.row (omega arith), some_list numbers names i h.row h.some)) p
+    row_list_history l p = laid_as (rw (history numbers names i h.row kind past k z ∙ l, some_list numbers names i h.row h.some)) p
 
-    module _ (l : kind < 4) (held : ℕ) (b : held ≡ row_cell numbers i 10) where
+    module _ (l : past ≡ false) (held : ℕ) (b : held ≡ row_cell numbers i 10) where
       pub row_list_plain : held ≡ 0 → {out : List ℕ} {at : ℕ} → Laid (list_text (content numbers names).rows (row_back numbers names i)) out at out at
-      row_list_plain e = laid_as (rw (no_history_lem numbers names i h.row (omega arith), no_block numbers names i h.row (sym b ∙ e), and_false (not (is_empty (row_back numbers names i).list)))) laid_none
+      row_list_plain e = laid_as (rw (history numbers names i h.row kind past k z ∙ l, no_block numbers names i h.row (sym b ∙ e), and_false (not (is_empty (row_back numbers names i).list)))) laid_none
 
       pub row_list_element : (held ≡ 0 → ⊥) → {place o1 o2 out : List ℕ} {from a1 a2 at : ℕ} →
           Laid (60 ∷ 105 ∷ 110 ∷ 105 ∷ 116 ∷ 105 ∷ 97 ∷ 108 ∷ 62 ∷ []) place from o1 a1 → Laid (default_text (content numbers names).rows (row_back numbers names i)) o1 a1 o2 a2 →
           Laid (60 ∷ 47 ∷ 105 ∷ 110 ∷ 105 ∷ 116 ∷ 105 ∷ 97 ∷ 108 ∷ 62 ∷ []) o2 a2 out at → Laid (list_text (content numbers names).rows (row_back numbers names i)) place from out at
       row_list_element f p q r =
-          laid_as (rw (no_history_lem numbers names i h.row (omega arith), some_list numbers names i h.row h.some, some_block numbers names i h.row (λ q. f (b ∙ q)))) (laid_then (laid_then p q) r)
+          laid_as (rw (history numbers names i h.row kind past k z ∙ l, some_list numbers names i h.row h.some, some_block numbers names i h.row (λ q. f (b ∙ q)))) (laid_then (laid_then p q) r)

@@ -1,9 +1,14 @@
 -- The start tag of a row.
-use Rattle.std.specs.Prelude.{◌≡◌, refl, cond, List, [], ◌∷◌, ◌++◌, ℕ, zero, suc, eqb}
+use Rattle.std.specs.Prelude.{◌≡◌, refl, Bool, true, false, not, cond, List, [], ◌∷◌, ◌++◌, ℕ, zero, suc, ◌≤◌, eqb}
 use Rattle.std.proofs.Math.Path.{sym}
-use Rattle.std.proofs.Common.{ap, ◌∙◌, append_assoc, eq-eqb, ne_eqb}
+use Rattle.std.proofs.Common.{ap, ◌∙◌, append_assoc, arith, eq-eqb, ne_eqb}
+use Rattle.std.proofs.lemmas.Bool.{not-true, not-false}
+use Rattle.definition.specs.declared.Kind.{Kind}
+use Rattle.definition.specs.declared.Kind.TheVariants.{Root, State, Parallel, Final, Shallow, Deep}
+use Rattle.definition.specs.Chart.{kind_no, is_root}
 use Rattle.definition.specs.Rows.{is_empty}
-use Rattle.definition.specs.Tables.{no_number, row_cell, name_at}
+use Rattle.definition.specs.Tables.{no_number, kind_of, kind_at, row_cell, name_at}
+use Rattle.tables.specs.Ranges.{row_fits}
 use Rattle.reading.specs.Faults.{deep}
 use Rattle.reading.specs.Content.{Row}
 use Rattle.reading.specs.Layout.{content, row_back}
@@ -25,41 +30,41 @@ id_text r = given (32 ∷ 105 ∷ 100 ∷ 61 ∷ []) r.id
 abbrev pub start_text : List Row → Row → List ℕ
 start_text rs r = 60 ∷ (kind_name r.kind ++ attributes_of rs r)
 
-kind_history : (k : ℕ) → (k ≡ 0 → ⊥) → (k ≡ 1 → ⊥) → (k ≡ 2 → ⊥) → (k ≡ 3 → ⊥) → kind_name k ≡ 104 ∷ 105 ∷ 115 ∷ 116 ∷ 111 ∷ 114 ∷ 121 ∷ []
-kind_history zero a b c d = absurd (a refl)
-kind_history (suc zero) a b c d = absurd (b refl)
-kind_history (suc (suc zero)) a b c d = absurd (c refl)
-kind_history (suc (suc (suc zero))) a b c d = absurd (d refl)
-kind_history (suc (suc (suc (suc k)))) a b c d = refl
+-- ---- kinds
 
-module _ (k : ℕ) {place out : List ℕ} {from at : ℕ} where
-  pub kind_zero : k ≡ 0 → Laid (115 ∷ 99 ∷ 120 ∷ 109 ∷ 108 ∷ []) place from out at → Laid (kind_name k) place from out at
-  kind_zero e l = laid_as (ap kind_name e) l
+-- the kind of a cell has the cell's number, or both are past the last
+pub kind_name_of : (n : ℕ) → kind_name (kind_no (kind_of n)) ≡ kind_name n
+kind_name_of zero = refl
+kind_name_of (suc zero) = refl
+kind_name_of (suc (suc zero)) = refl
+kind_name_of (suc (suc (suc zero))) = refl
+kind_name_of (suc (suc (suc (suc zero)))) = refl
+kind_name_of (suc (suc (suc (suc (suc n))))) = refl
 
-  pub kind_one : k ≡ 1 → Laid (115 ∷ 116 ∷ 97 ∷ 116 ∷ 101 ∷ []) place from out at → Laid (kind_name k) place from out at
-  kind_one e l = laid_as (ap kind_name e) l
+kind_no_of : (n : ℕ) → n ≤ 5 → kind_no (kind_of n) ≡ n
+kind_no_of zero h = refl
+kind_no_of (suc zero) h = refl
+kind_no_of (suc (suc zero)) h = refl
+kind_no_of (suc (suc (suc zero))) h = refl
+kind_no_of (suc (suc (suc (suc zero)))) h = refl
+kind_no_of (suc (suc (suc (suc (suc zero))))) h = refl
+kind_no_of (suc (suc (suc (suc (suc (suc n)))))) h = absurd (omega arith)
 
-  pub kind_two : k ≡ 2 → Laid (112 ∷ 97 ∷ 114 ∷ 97 ∷ 108 ∷ 108 ∷ 101 ∷ 108 ∷ []) place from out at → Laid (kind_name k) place from out at
-  kind_two e l = laid_as (ap kind_name e) l
+module _ (k : Kind) where
+  module _ (b : Bool) (e : b ≡ is_root k) where
+    pub root_none : not b ≡ true → {out : List ℕ} {at : ℕ} → Laid (root_text (kind_no k)) out at out at
+    root_none q = laid_as (rw (sym e ∙ not-true b q)) laid_none
 
-  pub kind_three : k ≡ 3 → Laid (102 ∷ 105 ∷ 110 ∷ 97 ∷ 108 ∷ []) place from out at → Laid (kind_name k) place from out at
-  kind_three e l = laid_as (ap kind_name e) l
+    pub root_some : not b ≡ false → {place out : List ℕ} {from at : ℕ} → Laid (root_text 0) place from out at → Laid (root_text (kind_no k)) place from out at
+    root_some q l = laid_as (rw (sym e ∙ not-false b q)) l
 
-  pub kind_rest : (k ≡ 0 → ⊥) → (k ≡ 1 → ⊥) → (k ≡ 2 → ⊥) → (k ≡ 3 → ⊥) → Laid (104 ∷ 105 ∷ 115 ∷ 116 ∷ 111 ∷ 114 ∷ 121 ∷ []) place from out at → Laid (kind_name k) place from out at
-  kind_rest a b c d l = laid_as (kind_history k a b c d) l
-
-module _ (k : ℕ) where
-  pub root_none : (k ≡ 0 → ⊥) → {out : List ℕ} {at : ℕ} → Laid (root_text k) out at out at
-  root_none d = laid_as (rw (ne_eqb k 0 d)) laid_none
-
-  pub root_some : k ≡ 0 → {place out : List ℕ} {from at : ℕ} → Laid (root_text 0) place from out at → Laid (root_text k) place from out at
-  root_some e l = laid_as (ap root_text e) l
-
-  pub deep_none : (k ≡ 5 → ⊥) → {out : List ℕ} {at : ℕ} → Laid (deep_text k) out at out at
-  deep_none d = laid_as (rw (ne_eqb k 5 d)) laid_none
-
-  pub deep_some : k ≡ 5 → {place out : List ℕ} {from at : ℕ} → Laid (deep_text 5) place from out at → Laid (deep_text k) place from out at
-  deep_some e l = laid_as (ap deep_text e) l
+pub deep_none : (k : Kind) → (k ≡ Deep → ⊥) → {out : List ℕ} {at : ℕ} → Laid (deep_text (kind_no k)) out at out at
+deep_none Root d = laid_none
+deep_none State d = laid_none
+deep_none Parallel d = laid_none
+deep_none Final d = laid_none
+deep_none Shallow d = laid_none
+deep_none Deep d = absurd (d refl)
 
 module _ (numbers names : List ℕ) (i : ℕ) (h : RowReady numbers names i) where
   module _ (n : ℕ) (e : n ≡ row_cell numbers i 2) where
@@ -77,12 +82,12 @@ module _ (numbers names : List ℕ) (i : ℕ) (h : RowReady numbers names i) whe
   regroup : (a b c d e : List ℕ) → 60 ∷ (a ++ (b ++ c ++ d ++ e)) ≡ (60 ∷ []) ++ a ++ b ++ c ++ d ++ e
   regroup a b c d e = simp append_assoc
 
-  pub start_laid : (k : ℕ) → k ≡ row_cell numbers i 0 → {place o1 o2 o3 o4 o5 out : List ℕ} {from a1 a2 a3 a4 a5 at : ℕ} → Laid (60 ∷ []) place from o1 a1 → Laid (kind_name k) o1 a1 o2 a2 → Laid (root_text k) o2 a2 o3 a3 →
-      Laid (id_text (row_back numbers names i)) o3 a3 o4 a4 → Laid (initial_text (content numbers names).rows (row_back numbers names i)) o4 a4 o5 a5 → Laid (deep_text k) o5 a5 out at →
+  pub start_laid : (k : Kind) → k ≡ kind_at numbers i → {place o1 o2 o3 o4 o5 out : List ℕ} {from a1 a2 a3 a4 a5 at : ℕ} → Laid (60 ∷ []) place from o1 a1 → Laid (kind_name (kind_no k)) o1 a1 o2 a2 → Laid (root_text (kind_no k)) o2 a2 o3 a3 →
+      Laid (id_text (row_back numbers names i)) o3 a3 o4 a4 → Laid (initial_text (content numbers names).rows (row_back numbers names i)) o4 a4 o5 a5 → Laid (deep_text (kind_no k)) o5 a5 out at →
       Laid (start_text (content numbers names).rows (row_back numbers names i)) place from out at
   start_laid k e p q r s t u =
       laid_as (regroup (kind_name (row_back numbers names i).kind) (root_text (row_back numbers names i).kind) _ _ (deep_text (row_back numbers names i).kind))
       (laid_then (laid_then (laid_then (laid_then (laid_then p (laid_as (ap kind_name here) q)) (laid_as (ap root_text here) r)) s) t) (laid_as (ap deep_text here) u))
     where
-      here : (row_back numbers names i).kind ≡ k
-      here = unfold row_back in sym e
+      here : (row_back numbers names i).kind ≡ kind_no k
+      here = unfold row_back kind_at in sym (ap kind_no e ∙ kind_no_of (row_cell numbers i 0) (row_fits numbers i (record { tables = h.ready.tables; below = h.below })).kind)

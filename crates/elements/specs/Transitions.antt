@@ -13,6 +13,7 @@ use Rattle.written.specs.Sound.{AllOf, Ref}
 use Rattle.written.specs.AcceptedTransitions as accepted
 use Rattle.spell.specs.Laid.{Laid, laid_as, laid_none, laid_then}
 use Rattle.spell.specs.Ready.{Ready, RowReady}
+use Rattle.spell.specs.declared.lists.Items.TheVariants.{Names, Rows}
 use Rattle.spell.specs.Lists.{item, ListReady}
 use Rattle.spell.specs.Blocks.{BlockReady, closing}
 use Rattle.elements.specs.Filled.{names_ready, rows_ready}
@@ -35,10 +36,10 @@ abbrev pub target_word : List ℕ
 target_word = 32 ∷ 116 ∷ 97 ∷ 114 ∷ 103 ∷ 101 ∷ 116 ∷ 61 ∷ []
 
 abbrev pub event_text : List ℕ → List ℕ → ℕ → List ℕ
-event_text numbers names t = given event_word (spaced (map (item numbers names false) (events_at numbers t)))
+event_text numbers names t = given event_word (spaced (map (item numbers names Names) (events_at numbers t)))
 
 abbrev pub target_text : List ℕ → List ℕ → ℕ → List ℕ
-target_text numbers names t = given target_word (spaced (map (item numbers names true) (targets_at numbers t)))
+target_text numbers names t = given target_word (spaced (map (item numbers names Rows) (targets_at numbers t)))
 
 abbrev pub rest_text : List ℕ → List ℕ → ℕ → List ℕ
 rest_text numbers names t = closing word (block_text (content numbers names).rows (acts_at numbers names (transition_cell numbers t 7) (transition_cell numbers t 8)))
@@ -72,26 +73,26 @@ module _ (numbers names : List ℕ) (t : ℕ) (h : TransitionReady numbers names
 
   -- ---- the lists and the block
 
-  pub events_ready : (l : List ℕ) → Listed (NamesIn numbers) most_descriptors (events_at numbers t) l → ListReady numbers names false l
+  pub events_ready : (l : List ℕ) → Listed (NamesIn numbers) most_descriptors (events_at numbers t) l → ListReady numbers names Names l
   events_ready l k = names_ready numbers names h.ready most_descriptors (events_at numbers t) l k
 
   refs : AllOf (Ref (row_count numbers)) (targets_at numbers t)
   unfolding targets_at transition_back
   refs = (accepted.transition_fits_lem numbers names h.ready.accepted t h.below).targets
 
-  pub targets_ready : (l : List ℕ) → Listed (RowsIn numbers) most_targets (targets_at numbers t) l → ListReady numbers names true l
+  pub targets_ready : (l : List ℕ) → Listed (RowsIn numbers) most_targets (targets_at numbers t) l → ListReady numbers names Rows l
   targets_ready l k = rows_ready numbers names h.ready most_targets (targets_at numbers t) l refs k
 
   pub block_ready : (start count : ℕ) → start ≡ transition_cell numbers t 7 → count ≡ transition_cell numbers t 8 → BlockReady numbers names start count
   block_ready start count s c = let f = (transition_fits_lem numbers t transition_in_lem).block.inside in record { ready = h.ready; inside = omega arith }
 
   pub events_laid : (l : List ℕ) → Listed (NamesIn numbers) most_descriptors (events_at numbers t) l → {place out : List ℕ} {from at : ℕ} →
-      Laid (given event_word (spaced (map (item numbers names false) l))) place from out at → Laid (event_text numbers names t) place from out at
-  events_laid l k p = laid_as (ap (λ (x : List ℕ). given event_word (spaced (map (item numbers names false) x))) (sym k.is)) p
+      Laid (given event_word (spaced (map (item numbers names Names) l))) place from out at → Laid (event_text numbers names t) place from out at
+  events_laid l k p = laid_as (ap (λ (x : List ℕ). given event_word (spaced (map (item numbers names Names) x))) (sym k.is)) p
 
   pub targets_laid : (l : List ℕ) → Listed (RowsIn numbers) most_targets (targets_at numbers t) l → {place out : List ℕ} {from at : ℕ} →
-      Laid (given target_word (spaced (map (item numbers names true) l))) place from out at → Laid (target_text numbers names t) place from out at
-  targets_laid l k p = laid_as (ap (λ (x : List ℕ). given target_word (spaced (map (item numbers names true) x))) (sym k.is)) p
+      Laid (given target_word (spaced (map (item numbers names Rows) l))) place from out at → Laid (target_text numbers names t) place from out at
+  targets_laid l k p = laid_as (ap (λ (x : List ℕ). given target_word (spaced (map (item numbers names Rows) x))) (sym k.is)) p
 
   pub rest_laid : (start count : ℕ) → start ≡ transition_cell numbers t 7 → count ≡ transition_cell numbers t 8 → {place out : List ℕ} {from at : ℕ} →
       Laid (closing word (block_text (content numbers names).rows (acts_at numbers names start count))) place from out at → Laid (rest_text numbers names t) place from out at

@@ -7,7 +7,7 @@ ghost use Rattle.elements.specs.Lists.{DefaultReady};
 
 use numbers::Row;
 use spell::blocks::lay_inside;
-use spell::lists::lay_list;
+use spell::lists::{Items, lay_list};
 use spell::parts::lay_part;
 use tables::columns;
 
@@ -18,7 +18,7 @@ fn lay_default(numbers: &[u64], names: &[u8], r: Row, out: &mut [u8], at: usize)
 {
     let begun = lay_part(b"<transition", out, at);
     let list = tables::list_of(numbers, r);
-    let aimed = lay_list(numbers, names, b" target=", true, list, out, begun);
+    let aimed = lay_list(numbers, names, b" target=", Items::Rows, list, out, begun);
     let start = tables::row_cell(numbers, r, columns::LIST_BLOCK);
     let count = tables::row_cell(numbers, r, columns::LIST_BLOCK + 1);
     lay_inside(numbers, names, b"transition", start, count, out, aimed)
@@ -29,7 +29,7 @@ fn lay_stated(numbers: &[u64], names: &[u8], r: Row, out: &mut [u8], at: usize) 
     requires { DefaultReady numbers.now names.now r.0 }
     ensures { Laid (list_text (content numbers.now names.now).rows (row_back numbers.now names.now r.0)) out.old at out.new result }
 {
-    if kinds::SHALLOW <= tables::row_cell(numbers, r, columns::KIND) {
+    if kinds::is_history(tables::kind_of(numbers, r)) {
         return lay_default(numbers, names, r, out, at);
     }
     if tables::row_cell(numbers, r, columns::LIST_BLOCK + 1) == 0 {
@@ -58,12 +58,12 @@ pub fn lay_initial(numbers: &[u64], names: &[u8], r: Row, out: &mut [u8], at: us
     if tables::row_cell(numbers, r, columns::LIST + 1) == 0 {
         return at;
     }
-    if kinds::SHALLOW <= tables::row_cell(numbers, r, columns::KIND) {
+    if kinds::is_history(tables::kind_of(numbers, r)) {
         return at;
     }
     if tables::row_cell(numbers, r, columns::LIST_BLOCK + 1) != 0 {
         return at;
     }
     let list = tables::list_of(numbers, r);
-    lay_list(numbers, names, b" initial=", true, list, out, at)
+    lay_list(numbers, names, b" initial=", Items::Rows, list, out, at)
 }

@@ -1,4 +1,5 @@
 // The start tag of a row: its element's name and its attributes.
+ghost use Rattle.definition.specs.Chart.{kind_no};
 ghost use Rattle.reading.specs.Layout.{content, row_back};
 ghost use Rattle.reading.specs.Print.{kind_name};
 ghost use Rattle.spell.specs.Laid.{Laid};
@@ -6,35 +7,30 @@ ghost use Rattle.spell.specs.Ready.{RowReady};
 ghost use Rattle.elements.specs.Starts.{root_text, deep_text, id_text, start_text};
 
 use crate::lists::lay_initial;
+use definition::Kind;
 use numbers::Row;
 use spell::parts::{lay_byte, lay_part};
 use spell::values::lay_name;
 use tables::{columns, limits};
 
 // The name of the element of a row of this kind; both histories are of one name.
-pub fn lay_kind(kind: u64, out: &mut [u8], at: usize) -> usize
-    ensures { Laid (kind_name kind) out.old at out.new result }
+pub fn lay_kind(kind: Kind, out: &mut [u8], at: usize) -> usize
+    ensures { Laid (kind_name (kind_no kind)) out.old at out.new result }
 {
-    if kind == kinds::ROOT {
-        return lay_part(b"scxml", out, at);
+    match kind {
+        Kind::Root => lay_part(b"scxml", out, at),
+        Kind::State => lay_part(b"state", out, at),
+        Kind::Parallel => lay_part(b"parallel", out, at),
+        Kind::Final => lay_part(b"final", out, at),
+        Kind::Shallow | Kind::Deep => lay_part(b"history", out, at),
     }
-    if kind == kinds::STATE {
-        return lay_part(b"state", out, at);
-    }
-    if kind == kinds::PARALLEL {
-        return lay_part(b"parallel", out, at);
-    }
-    if kind == kinds::FINAL {
-        return lay_part(b"final", out, at);
-    }
-    lay_part(b"history", out, at)
 }
 
 // What the root alone states.
-fn lay_root(kind: u64, out: &mut [u8], at: usize) -> usize
-    ensures { Laid (root_text kind) out.old at out.new result }
+fn lay_root(kind: Kind, out: &mut [u8], at: usize) -> usize
+    ensures { Laid (root_text (kind_no kind)) out.old at out.new result }
 {
-    if kind != kinds::ROOT {
+    if !kinds::is_root(kind) {
         return at;
     }
     lay_part(
@@ -45,13 +41,13 @@ fn lay_root(kind: u64, out: &mut [u8], at: usize) -> usize
 }
 
 // The type of a history, if it is not the default.
-fn lay_deep(kind: u64, out: &mut [u8], at: usize) -> usize
-    ensures { Laid (deep_text kind) out.old at out.new result }
+fn lay_deep(kind: Kind, out: &mut [u8], at: usize) -> usize
+    ensures { Laid (deep_text (kind_no kind)) out.old at out.new result }
 {
-    if kind != kinds::DEEP {
-        return at;
+    match kind {
+        Kind::Deep => lay_part(b" type=\"deep\"", out, at),
+        _ => at,
     }
-    lay_part(b" type=\"deep\"", out, at)
 }
 
 fn lay_row_id(numbers: &[u64], names: &[u8], r: Row, out: &mut [u8], at: usize) -> usize
@@ -72,7 +68,7 @@ pub fn lay_start(numbers: &[u64], names: &[u8], r: Row, out: &mut [u8], at: usiz
     requires { RowReady numbers.now names.now r.0 }
     ensures { Laid (start_text (content numbers.now names.now).rows (row_back numbers.now names.now r.0)) out.old at out.new result }
 {
-    let kind = tables::row_cell(numbers, r, columns::KIND);
+    let kind = tables::kind_of(numbers, r);
     let begun = lay_byte(b'<', out, at);
     let named = lay_kind(kind, out, begun);
     let rooted = lay_root(kind, out, named);

@@ -8,7 +8,7 @@ ghost use Rattle.elements.specs.Transitions.{TransitionReady, type_text, event_t
 
 use numbers::Transition;
 use spell::blocks::lay_inside;
-use spell::lists::lay_list;
+use spell::lists::{Items, lay_list};
 use spell::parts::lay_part;
 use spell::values::lay_condition;
 use tables::{columns, limits};
@@ -40,7 +40,7 @@ fn lay_events(numbers: &[u64], names: &[u8], t: Transition, out: &mut [u8], at: 
     ensures { Laid (event_text numbers.now names.now t.0) out.old at out.new result }
 {
     let events = tables::descriptors_of(numbers, t);
-    lay_list(numbers, names, b" event=", false, events, out, at)
+    lay_list(numbers, names, b" event=", Items::Names, events, out, at)
 }
 
 fn lay_targets(numbers: &[u64], names: &[u8], t: Transition, out: &mut [u8], at: usize) -> usize
@@ -48,7 +48,7 @@ fn lay_targets(numbers: &[u64], names: &[u8], t: Transition, out: &mut [u8], at:
     ensures { Laid (target_text numbers.now names.now t.0) out.old at out.new result }
 {
     let targets = tables::targets_of(numbers, t);
-    lay_list(numbers, names, b" target=", true, targets, out, at)
+    lay_list(numbers, names, b" target=", Items::Rows, targets, out, at)
 }
 
 // The block, and the end of the element.

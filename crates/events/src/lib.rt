@@ -175,10 +175,8 @@ pub fn queue_names(
     ensures { (internal.new ≡ queue_bytes (queue_of internal.old count ++ queued_names (chart_of chart.now) (name_at names.now) joins.now)) × (result ≡ count + length (queued_names (chart_of chart.now) (name_at names.now) joins.now)) }
 {
     let mut n = count;
-    let mut i = 0;
-    while i < joins.len() {
-        n = queue_join(chart, names, joins[i], internal, n);
-        i += 1;
+    for &join in joins {
+        n = queue_join(chart, names, join, internal, n);
     }
     n
 }

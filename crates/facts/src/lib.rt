@@ -21,16 +21,13 @@ pub enum Said {
 pub fn part_of(what: usize) -> usize
     ensures { result ≡ part_of what }
 {
-    if what < 2 {
-        return 0;
-    }
-    what - 2
+    what.saturating_sub(2)
 }
 
 fn is_block(element: u8) -> bool
     ensures { result ≡ block_only element }
 {
-    (element == 5) | (element == 7) | (element == 8)
+    matches!(element, 5 | 7 | 8)
 }
 
 // What a start tag says; plain is one without event and cond.

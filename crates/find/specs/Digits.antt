@@ -10,11 +10,6 @@ use Rattle.definition.specs.Rows.{all, is_empty}
 use Rattle.reading.specs.Faults.{plain, is_decimal_digit, decimal, decimal_from, is_decimal}
 use Rattle.values.specs.Decimals.{digit_low, plain_decimal, Counting, decimal_none, count_start, count_bad, count_over, count_more}
 
-pub record DigitIn (n b : ℕ) : Type 0 where
-  pub small : n ≤ 4294967295
-  pub low : 48 ≤ b
-  pub high : b ≤ 57
-
 and_left : (a b : Bool) → (a && b) ≡ true → a ≡ true
 and_left true b e = refl
 and_left false b e = e
@@ -63,14 +58,14 @@ module _ (most : ℕ) (v : List ℕ) (n i : ℕ) (k : Reading most v n i) (h : i
       by true q = q
       by false q = absurd (clash (count_bad most v n i k.counting (is_decimal_digit (get_or v i 0)) h refl (ap not q) ∙ k.valid))
 
-  pub read_digit : DigitIn n (get_or v i 0)
-  read_digit =
-      let d = is_digit in let s = k.counting.small in let l = k.limit in
-      record { small = omega arith; low = digit_low (get_or v i 0) d; high = leb-true (get_or v i 0) 57 (and_right (leb 48 (get_or v i 0)) (leb (get_or v i 0) 57) d) }
+  pub read_low : 48 ≤ get_or v i 0
+  read_low = digit_low (get_or v i 0) is_digit
 
-  pub read_more : (m : ℕ) → m ≡ n * 10 + (get_or v i 0 - 48) → Reading most v m (i + 1)
+  pub read_more : (d : ℕ) → d ≡ get_or v i 0 - 48 → Reading most v (n * 10 + d) (i + 1)
   unfolding decimal_from
-  read_more m e =
+  read_more d f =
+      let m : ℕ = n * 10 + d in
+      let e : m ≡ n * 10 + (get_or v i 0 - 48) = ap (λ (x : ℕ). n * 10 + x) f in
       record {
         limit = k.limit;
         valid = k.valid;
@@ -79,12 +74,12 @@ module _ (most : ℕ) (v : List ℕ) (n i : ℕ) (k : Reading most v n i) (h : i
             k.left ∙ ap (decimal_from n) (drop-cons v i 0 h ∙ ap (λ (j : ℕ). get_or v i 0 ∷ drop j v) (sym (add-one i))) ∙ ap (λ (x : ℕ). decimal_from x (drop (i + 1) v)) (sym e);
       }
     where
-      small : m ≤ most
-      small = by (ltb most m) refl
+      small : n * 10 + d ≤ most
+      small = by (ltb most (n * 10 + d)) refl
         where
-          by : (z : Bool) → ltb most m ≡ z → m ≤ most
-          by true q = absurd (clash (count_over most v n i k.counting m h e (ltb-true most m q) ∙ k.valid))
-          by false q = ltb-false most m q
+          by : (z : Bool) → ltb most (n * 10 + d) ≡ z → n * 10 + d ≤ most
+          by true q = absurd (clash (count_over most v n i k.counting (n * 10 + d) h (ap (λ (x : ℕ). n * 10 + x) f) (ltb-true most (n * 10 + d) q) ∙ k.valid))
+          by false q = ltb-false most (n * 10 + d) q
 
 pub read_end : (most : ℕ) (v : List ℕ) (n i : ℕ) → Reading most v n i → length v ≤ i → n ≡ decimal (plain v)
 unfolding decimal_from

@@ -1,10 +1,9 @@
 // What the values of a text's attributes say (R-1): a decimal's number, whether a type is deep or internal, how many names there are. The bytes stand between the quotes.
 #![tactic(auto)]
 
-ghost use Rattle.std.specs.Prelude.{◌≡◌, true, ◌+◌, ◌*◌, ◌-◌, ◌≤◌, length};
+ghost use Rattle.std.specs.Prelude.{◌≡◌, true, ◌≤◌, length};
 ghost use Rattle.definition.specs.Rows.{same};
 ghost use Rattle.reading.specs.Faults.{plain, internal, deep, is_decimal, decimal, names_in};
-ghost use Rattle.find.specs.Digits.{DigitIn};
 
 use names::equal;
 use scan::is_space;
@@ -24,25 +23,14 @@ pub fn is_internal(value: &[u8]) -> bool
     equal(value, b"internal")
 }
 
-// The number n with the digit b behind it.
-fn with_digit(n: u64, b: u8) -> u64
-    requires { DigitIn n b }
-    ensures { result ≡ n * 10 + (b - 48) }
-{
-    n * 10 + ((b - 48) as u64)
-}
-
 // The number that a decimal of at most so much says.
 pub fn decimal_of(value: &[u8], most: u64) -> u64
     requires { (most ≤ 4294967295) × (is_decimal most (plain value.now) ≡ true) }
     ensures { result ≡ decimal (plain value.now) }
 {
     let mut n: u64 = 0;
-    let mut i = 0;
-    while i < value.len() {
-        let b = value[i];
-        n = with_digit(n, b);
-        i += 1;
+    for b in value {
+        n = n * 10 + u64::from(*b - b'0');
     }
     n
 }
@@ -53,6 +41,7 @@ pub fn count_items(value: &[u8]) -> usize
 {
     let mut n: usize = 0;
     let mut i = 0;
+    // Kept: no `for` is plainer, since a turn goes over a space or over a whole name.
     while i < value.len() {
         let space = is_space(value[i]);
         if space {

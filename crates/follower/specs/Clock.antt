@@ -1,9 +1,9 @@
 -- The clock record (R-9): the last clock and the sends that are pending, in order of sending.
-use Rattle.std.specs.Prelude.{Bool, true, false, not, ◌&&◌, ◌||◌, cond, List, [], ◌∷◌, ◌++◌, ℕ, zero, suc, ◌+◌, eqb, leb, ltb, length}
-use Rattle.definition.specs.Rows.{all, is_empty, same}
-use Rattle.definition.specs.Names.{Name, is_name}
+use Rattle.std.specs.Prelude.{Bool, true, false, cond, List, [], ◌∷◌, ◌++◌, ℕ, zero, suc, ◌+◌, eqb, leb, ltb, length}
+use Rattle.definition.specs.Rows.{same}
+use Rattle.definition.specs.Names.{Name}
 use Rattle.definition.specs.Chart.{Names}
-use Rattle.definition.specs.Tables.{no_number, most_delay}
+use Rattle.definition.specs.Tables.{no_number}
 use Rattle.follower.specs.Blocks.{Effect, exited, taken, entered, acted, raised, done, chosen, sent, cancelled}
 
 -- a send that is pending: when it is due, its event and its send id, empty where it has none

@@ -5,13 +5,19 @@ use Rattle.std.proofs.Common.{◌∙◌, arith, length-append}
 use mathlib.Core.List.{List, [], ◌∷◌, ◌++◌, append-nil}
 use Rattle.std.proofs.Math.ListN.{length}
 use Rattle.std.proofs.Math.Seq.{append_snoc}
-use borrow.Author.Tests.{not-true, not-false, le-ltb, eq-eqb, ne_eqb}
+use borrow.Author.Tests.{le-ltb, eq-eqb, ne_eqb}
 use Rattle.laws.specs.Bools.{clash}
 use Rattle.marks.specs.declared.Mark.{Mark}
 use Rattle.marks.specs.declared.Mark.TheVariants.{Nothing, Valued, Tagged}
 use Rattle.marks.specs.declared.Walk.{Walk}
 use Rattle.marks.specs.Marks.{marked, is_mark, value_from, value_to}
-use Rattle.markup.specs.declared.Scanned.{Scanned}
+use Rattle.std.specs.declared.option.Option.{Option}
+use Rattle.std.specs.declared.option.Option.TheVariants.{Some, None}
+use Rattle.std.specs.Option.{unwrap_or}
+use Rattle.std.specs.declared.result.Result.{Result}
+use Rattle.std.specs.declared.result.Result.TheVariants.{Ok, Err}
+use Rattle.markup.specs.declared.Fault.{Fault}
+use Rattle.values.specs.declared.conditions.Span.{Span}
 use Rattle.markup.specs.Passes.{Found}
 use Rattle.marks.specs.Told.{Told}
 use Rattle.marks.specs.Walks.{rest_of, Standing, Next, beginning, begin_stands, begin_rest, begin_told}
@@ -23,55 +29,32 @@ use Rattle.reading.specs.Content.{place_of}
 use Rattle.weights.specs.Paid.{text_ids}
 use Rattle.values.specs.Ids.{ids_from, ids_length, Index, Noted, noted_all}
 use Rattle.values.specs.Notes.{Forgotten, forgotten_index, NoteRoom, NotedMore}
-use Rattle.gather.specs.declared.ids.Id.{Id}
-use Rattle.gather.specs.declared.ids.Ids.{Ids}
 use Rattle.gather.specs.Ended.{Stopped, ended_at, ended_found}
 use Rattle.gather.specs.Parts.{part_at, states_snoc, value_snoc, absent}
 
 -- ---- the id of the tag that goes on
 
-abbrev pub no_id : Id
-no_id = record { stated = false; at = 0; long = 0 }
+-- where an id stands, empty where there is none
+abbrev pub span_of : Option Span → Span
+span_of o = unwrap_or o (record { from = 0; to = 0 })
 
-abbrev pub with_value : Id → ℕ → ℕ → ℕ → Id
-with_value id w a b = cond id.stated id (cond (eqb w id_word) (record { stated = true; at = a; long = b - a }) id)
+abbrev pub is_stated : Option Span → Bool
+is_stated None = false
+is_stated (Some s) = true
 
-abbrev pub id_after : Id → Mark → Id
+abbrev pub with_value : Option Span → ℕ → ℕ → ℕ → Option Span
+with_value None w a b = cond (eqb w id_word) (Some (record { from = a; to = b })) None
+with_value (Some s) w a b = Some s
+
+abbrev pub id_after : Option Span → Mark → Option Span
 id_after id Nothing = id
 id_after id (Valued e w a b) = with_value id w a b
-id_after id (Tagged a s e) = no_id
+id_after id (Tagged a s e) = None
 
 abbrev pub is_row_mark : Mark → Bool
 is_row_mark Nothing = false
 is_row_mark (Valued e w a b) = false
 is_row_mark (Tagged a s e) = not (is_closing (shape_of s)) && is_row_tag e
-
-module _ (m : Mark) where
-  pub row_value : (e w a b : ℕ) → m ≡ Valued e w a b → false ≡ is_row_mark m
-  row_value e w a b g = sym (ap is_row_mark g)
-
-  pub row_tag : (a s e : ℕ) (z : Bool) → m ≡ Tagged a s e → z ≡ (not (is_closing (shape_of s)) && is_row_tag e) → z ≡ is_row_mark m
-  row_tag a s e z g q = q ∙ sym (ap is_row_mark g)
-
-  pub id_value : (id id' : Id) (e w a b : ℕ) → m ≡ Valued e w a b → id' ≡ with_value id w a b → id' ≡ id_after id m
-  id_value id id' e w a b g q = q ∙ sym (ap (id_after id) g)
-
-  pub id_tag : (id : Id) (a s e : ℕ) → m ≡ Tagged a s e → no_id ≡ id_after id m
-  id_tag id a s e g = sym (ap (id_after id) g)
-
-  pub value_first : (e w a b : ℕ) → value_from m ≤ value_to m → m ≡ Valued e w a b → a ≤ b
-  value_first e w a b h g = subst (λ (x : Mark). value_from x ≤ value_to x) g h
-
-pub id_stated : (id : Id) (w a b : ℕ) → id.stated ≡ true → id ≡ with_value id w a b
-id_stated id w a b e = sym (ap (λ (z : Bool). cond z id (cond (eqb w id_word) (record { stated = true; at = a; long = b - a }) id)) e)
-
-pub id_stated_now : (id : Id) (w a b : ℕ) → id.stated ≡ false → w ≡ 26 → (record { stated = true; at = a; long = b - a }) ≡ with_value id w a b
-id_stated_now id w a b e f =
-    sym (ap (λ (z : Bool). cond z id (cond (eqb w id_word) (record { stated = true; at = a; long = b - a }) id)) e ∙ ap (λ (z : Bool). cond z (record { stated = true; at = a; long = b - a }) id) (eq-eqb w 26 f))
-
-pub id_other : (id : Id) (w a b : ℕ) → id.stated ≡ false → (w ≡ 26 → ⊥) → id ≡ with_value id w a b
-id_other id w a b e f =
-    sym (ap (λ (z : Bool). cond z id (cond (eqb w id_word) (record { stated = true; at = a; long = b - a }) id)) e ∙ ap (λ (z : Bool). cond z (record { stated = true; at = a; long = b - a }) id) (ne_eqb w 26 f))
 
 pub row_so : (s e : ℕ) → (ltb s 2 && (leb 1 e && leb e 4)) ≡ (not (is_closing (shape_of s)) && is_row_tag e)
 row_so zero e = refl
@@ -79,45 +62,39 @@ row_so (suc zero) e = refl
 row_so (suc (suc n)) e = rw (le-ltb (suc (suc n)) 2 (omega arith)) refl
 
 -- the id stands in the text, and is the value of the parts so far
-pub record Stating (text : List ℕ) (id : Id) (ps : List Part) : Type 0 where
-  pub inside : id.at + id.long ≤ length text
-  pub stated_is : id.stated ≡ states id_word ps
-  pub value_is : take id.long (drop id.at text) ≡ value_of id_word ps
+pub record Stating (text : List ℕ) (id : Option Span) (ps : List Part) : Type 0 where
+  pub order : (span_of id).from ≤ (span_of id).to
+  pub inside : (span_of id).to ≤ length text
+  pub stated_is : is_stated id ≡ states id_word ps
+  pub value_is : take ((span_of id).to - (span_of id).from) (drop (span_of id).from text) ≡ value_of id_word ps
 
-pub stating_none : (text : List ℕ) → Stating text no_id []
+pub stating_none : (text : List ℕ) → Stating text None []
 unfolding states value_of
-stating_none text = record { inside = omega arith; stated_is = refl; value_is = refl }
+stating_none text = record { order = omega arith; inside = omega arith; stated_is = refl; value_is = refl }
 
-pub stating_more : (text : List ℕ) (id : Id) (ps : List Part) (e w a b : ℕ) → Stating text id ps → a ≤ b → b ≤ length text →
+pub stating_more : (text : List ℕ) (id : Option Span) (ps : List Part) (e w a b : ℕ) → Stating text id ps → a ≤ b → b ≤ length text →
     Stating text (with_value id w a b) (ps ++ part_at text e w a b ∷ [])
-stating_more text id ps e w a b h l m = by id.stated refl (eqb w id_word) refl
+stating_more text (Some s) ps e w a b h l m =
+    let p : Part = part_at text e w a b in
+    let st : states id_word ps ≡ true = sym h.stated_is in
+    record { order = h.order; inside = h.inside; stated_is = sym (states_snoc id_word ps p ∙ rw st refl); value_is = h.value_is ∙ sym (value_snoc id_word ps p ∙ rw st refl) }
+stating_more text None ps e w a b h l m = by (eqb w id_word) refl
   where
     p : Part
     p = part_at text e w a b
 
-    now : Id
-    now = record { stated = true; at = a; long = b - a }
+    st : states id_word ps ≡ false
+    st = sym h.stated_is
 
-    with_is : (z : Bool) → id.stated ≡ z → (y : Bool) → eqb w id_word ≡ y → with_value id w a b ≡ cond z id (cond y now id)
-    with_is z q y r = ap (λ (x : Bool). cond x id (cond (eqb w id_word) now id)) q ∙ ap (λ (x : Bool). cond z id (cond x now id)) r
-
-    by : (z : Bool) → id.stated ≡ z → (y : Bool) → eqb w id_word ≡ y → Stating text (with_value id w a b) (ps ++ p ∷ [])
-    by true q y r =
-        let st : states id_word ps ≡ true = sym h.stated_is ∙ q in
-        subst (λ (i : Id). Stating text i (ps ++ p ∷ [])) (sym (with_is true q y r))
-        (record { inside = h.inside; stated_is = q ∙ sym (states_snoc id_word ps p ∙ rw st refl); value_is = h.value_is ∙ sym (value_snoc id_word ps p ∙ rw st refl) })
-    by false q true r =
-        let st : states id_word ps ≡ false = sym h.stated_is ∙ q in
-        subst (λ (i : Id). Stating text i (ps ++ p ∷ [])) (sym (with_is false q true r))
-        (record { inside = omega arith; stated_is = sym (states_snoc id_word ps p ∙ rw (st, r) refl); value_is = sym (value_snoc id_word ps p ∙ rw (st, r) refl) })
-    by false q false r =
-        let st : states id_word ps ≡ false = sym h.stated_is ∙ q in
-        subst (λ (i : Id). Stating text i (ps ++ p ∷ [])) (sym (with_is false q false r))
-        (record {
+    by : (y : Bool) → eqb w id_word ≡ y → Stating text (cond y (Some (record { from = a; to = b })) None) (ps ++ p ∷ [])
+    by true r = record { order = l; inside = m; stated_is = sym (states_snoc id_word ps p ∙ rw (st, r) refl); value_is = sym (value_snoc id_word ps p ∙ rw (st, r) refl) }
+    by false r =
+        record {
+          order = h.order;
           inside = h.inside;
-          stated_is = q ∙ sym (states_snoc id_word ps p ∙ rw (st, r) refl);
+          stated_is = sym (states_snoc id_word ps p ∙ rw (st, r) refl);
           value_is = h.value_is ∙ absent id_word ps st ∙ sym (value_snoc id_word ps p ∙ rw (st, r) refl);
-        })
+        }
 
 -- ---- one id more
 
@@ -157,12 +134,17 @@ pub record Gathered (text levels ids : List ℕ) (n : ℕ) : Type 0 where
   pub noted : Noted text ids n
   pub ids_are : ids_from text ids n 0 ≡ ids_of (tags_of text)
 
--- the ids of a text of the grammar, and whether it is one
-pub record GatheredAs (text levels ids : List ℕ) (r : Ids) : Type 0 where
-  pub gathered : Gathered text levels ids r.count
-  pub found : Found text r.at r.whole
+-- the ids of a text's rows, however many they are
+pub record GatheredSome (text levels ids : List ℕ) : Type 0 where
+  pub count : ℕ
+  pub gathered : Gathered text levels ids count
 
-pub record Gathering (text levels ids : List ℕ) (w : Walk) (id : Id) (n : ℕ) : Type 0 where
+-- the ids of a text of the grammar; or it is none
+abbrev pub GatheredAs : List ℕ → List ℕ → List ℕ → Result ℕ Fault → Type 0
+GatheredAs text levels ids (Ok n) = Gathered text levels ids n × Found text (Ok (tt {0}))
+GatheredAs text levels ids (Err f) = GatheredSome text levels ids × Found text (Err f)
+
+pub record Gathering (text levels ids : List ℕ) (w : Walk) (id : Option Span) (n : ℕ) : Type 0 where
   pub standing : Standing text levels w
   pub told : Told text levels w.cursor w.index
   pub room : length ids ≡ 24434
@@ -174,7 +156,7 @@ pub record Gathering (text levels ids : List ℕ) (w : Walk) (id : Id) (n : ℕ)
 pub begun_keys : (text levels ids : List ℕ) → Begun text levels ids → 1024 ≤ length ids
 begun_keys text levels ids h = let r = h.room in omega arith
 
-pub ids_start : (text levels ids₀ ids : List ℕ) (w : Walk) → Begun text levels ids₀ → Forgotten ids₀ ids → w ≡ beginning → Gathering text levels ids w no_id 0
+pub ids_start : (text levels ids₀ ids : List ℕ) (w : Walk) → Begun text levels ids₀ → Forgotten ids₀ ids → w ≡ beginning → Gathering text levels ids w None 0
 unfolding ids_from
 ids_start text levels ids₀ ids w h f e =
     rw e
@@ -188,7 +170,7 @@ ids_start text levels ids₀ ids w h f e =
       left = ap ids_of (sym (joined text)) ∙ ap (λ (l : List Mark). ids_of (grouped text [] l)) (sym (begin_rest text levels));
     })
 
-module _ (text levels ids : List ℕ) (w : Walk) (id : Id) (n : ℕ) (k : Gathering text levels ids w id n) where
+module _ (text levels ids : List ℕ) (w : Walk) (id : Option Span) (n : ℕ) (k : Gathering text levels ids w id n) where
   -- the ids so far are some of the text's
   few : n ≤ 4681
   few =
@@ -198,36 +180,39 @@ module _ (text levels ids : List ℕ) (w : Walk) (id : Id) (n : ℕ) (k : Gather
       let s = k.standing.short in
       omega (arith, l, m, f, s)
 
-  pub ids_room : RowRoom text ids n id.at (id.at + id.long)
-  ids_room =
-      let f = few in let s = k.standing.short in let r = k.room in
-      record { index = k.index; few = omega arith; room = omega arith; first = omega arith; quote = k.stating.inside }
+  pub ids_room : (s : Span) → s ≡ span_of id → RowRoom text ids n s.from s.to
+  ids_room s e =
+      let f = few in let h = k.standing.short in let r = k.room in
+      rw e (record { index = k.index; few = omega arith; room = omega arith; first = k.stating.order; quote = k.stating.inside })
 
-  pub ids_fits : id.at + id.long < 2 ^ 64
-  ids_fits = let i = k.stating.inside in let s = k.standing.short in omega arith
-
-module _ (text levels ids : List ℕ) (w : Walk) (id : Id) (n : ℕ) (k : Gathering text levels ids w id n) (levels' : List ℕ) (r : Walk) (next : Next text levels levels' w r) where
+module _ (text levels ids : List ℕ) (w : Walk) (id : Option Span) (n : ℕ) (k : Gathering text levels ids w id n) (levels' : List ℕ) (r : Walk) (next : Next text levels levels' w r) where
   pub ids_stopped : Stopped r
   ids_stopped = record { behind = (next.told k.told).behind }
 
-  ids_end : (found : Bool) → found ≡ is_mark r.mark → not found ≡ true → Gathered text levels' ids n
+  ids_end : (found : Bool) → found ≡ is_mark r.mark → found ≡ false → Gathered text levels' ids n
   unfolding grouped ids_of
   ids_end found e q =
-      let none = next.none (sym e ∙ not-true found q) in
+      let none = next.none (sym e ∙ q) in
       record {
         begun = record { short = k.standing.short; deep = next.standing.room; room = k.room };
         noted = noted_all text ids n k.index;
         ids_are = sym (k.left ∙ ap (λ (l : List Mark). ids_from text ids n 0 ++ ids_of (grouped text k.parts l)) none ∙ append-nil (ids_from text ids n 0));
       }
 
-  pub ids_over : (found : Bool) → found ≡ is_mark r.mark → not found ≡ true → (z : Scanned) → z ≡ ended_at (length text) r → GatheredAs text levels' ids (record { count = n; at = z.at; whole = z.whole })
-  ids_over found e q z f =
-      record { gathered = ids_end found e q; found = ended_found text levels' r (next.told k.told) (next.over (sym e ∙ not-true found q)) k.standing.short z f }
+  module _ (found : Bool) (e : found ≡ is_mark r.mark) (q : found ≡ false) (z : Result (Unit {0}) Fault) (is : z ≡ ended_at (length text) r) where
+    found_so : Found text z
+    found_so = ended_found text levels' r (next.told k.told) (next.over (sym e ∙ q)) k.standing.short z is
 
-  pub ids_less : (found : Bool) → found ≡ is_mark r.mark → not found ≡ false → length text - r.index < length text - w.index
-  ids_less found e q = let more = next.further (sym e ∙ not-false found q) in let i = next.standing.within in omega arith
+    pub ids_text : (u : Unit {0}) → z ≡ Ok u → GatheredAs text levels' ids (Ok n)
+    ids_text u h = (ids_end found e q, subst (Found text) h found_so)
 
-  module _ (found : Bool) (e : found ≡ is_mark r.mark) (q : not found ≡ false) where
+    pub ids_fault : (f : Fault) → z ≡ Err f → GatheredAs text levels' ids (Err f)
+    ids_fault f h = (record { count = n; gathered = ids_end found e q }, subst (Found text) h found_so)
+
+  pub ids_less : (found : Bool) → found ≡ is_mark r.mark → found ≡ true → length text - r.index < length text - w.index
+  ids_less found e q = let more = next.further (sym e ∙ q) in let i = next.standing.within in omega arith
+
+  module _ (found : Bool) (e : found ≡ is_mark r.mark) (q : found ≡ true) where
     left_with : (m : Mark) → r.mark ≡ m → ids_of (tags_of text) ≡ ids_from text ids n 0 ++ ids_of (grouped text k.parts (marked m (rest_of text levels' r)))
     left_with m g = k.left ∙ ap (λ (l : List Mark). ids_from text ids n 0 ++ ids_of (grouped text k.parts l)) (next.rest ∙ ap (λ (x : Mark). marked x (rest_of text levels' r)) g)
 
@@ -237,7 +222,7 @@ module _ (text levels ids : List ℕ) (w : Walk) (id : Id) (n : ℕ) (k : Gather
       unfolding grouped ids_of
       noted_none z = rw z refl
 
-      noted_more : (ids' : List ℕ) → ids_from text ids' (n + 1) 0 ≡ ids_from text ids n 0 ++ take id.long (drop id.at text) ∷ [] → is_row_mark (Tagged a s d) ≡ true →
+      noted_more : (ids' : List ℕ) → ids_from text ids' (n + 1) 0 ≡ ids_from text ids n 0 ++ take ((span_of id).to - (span_of id).from) (drop (span_of id).from text) ∷ [] → is_row_mark (Tagged a s d) ≡ true →
           ids_from text ids n 0 ++ ids_of (grouped text k.parts (Tagged a s d ∷ rest_of text levels' r)) ≡
           ids_from text ids' (n + 1) 0 ++ ids_of (grouped text [] (rest_of text levels' r))
       unfolding grouped ids_of
@@ -245,14 +230,17 @@ module _ (text levels ids : List ℕ) (w : Walk) (id : Id) (n : ℕ) (k : Gather
           let rest = ids_of (grouped text [] (rest_of text levels' r)) in
           rw z
           (ap (λ (l : List ℕ). ids_from text ids n 0 ++ l ∷ rest) (sym k.stating.value_is) ∙
-          sym (append_snoc (ids_from text ids n 0) (take id.long (drop id.at text)) rest) ∙
+          sym (append_snoc (ids_from text ids n 0) (take ((span_of id).to - (span_of id).from) (drop (span_of id).from text)) rest) ∙
           ap (λ (l : List (List ℕ)). l ++ rest) (sym g))
 
-    pub ids_more : (row : Bool) (ids' : List ℕ) (n' : ℕ) (id' : Id) → row ≡ is_row_mark r.mark → RowNoted text ids ids' n row id.at (id.at + id.long) n' → id' ≡ id_after id r.mark →
+    pub ids_more : (row : Bool) (ids' : List ℕ) (n' : ℕ) (id' : Option Span) (sp : Span) → sp ≡ span_of id → row ≡ is_row_mark r.mark → RowNoted text ids ids' n row sp.from sp.to n' → id' ≡ id_after id r.mark →
         Gathering text levels' ids' r id' n'
     unfolding grouped
-    ids_more row ids' n' id' rw-is p id_is = by r.mark refl
+    ids_more row ids' n' id' sp se rw-is p₀ id_is = by r.mark refl
       where
+        p : RowNoted text ids ids' n row (span_of id).from (span_of id).to n'
+        p = subst (λ (x : Span). RowNoted text ids ids' n row x.from x.to n') se p₀
+
         valued : (d v a b : ℕ) → r.mark ≡ Valued d v a b → Gathering text levels' ids' r id' n'
         valued d v a b g =
             let same-all = p.none (rw-is ∙ ap is_row_mark g) in
@@ -272,7 +260,6 @@ module _ (text levels ids : List ℕ) (w : Walk) (id : Id) (n : ℕ) (k : Gather
         tagged : (a s d : ℕ) (z : Bool) → r.mark ≡ Tagged a s d → is_row_mark (Tagged a s d) ≡ z → Gathering text levels' ids' r id' n'
         tagged a s d true g z =
             let m = p.more (rw-is ∙ ap is_row_mark g ∙ z) in
-            let long : id.at + id.long - id.at ≡ id.long = omega arith in
             rw m.count_is
             (record {
               standing = next.standing;
@@ -283,7 +270,7 @@ module _ (text levels ids : List ℕ) (w : Walk) (id : Id) (n : ℕ) (k : Gather
               stating = rw (id_is, g) (stating_none text);
               left =
                   left_with (Tagged a s d) g ∙
-                  noted_more a s d ids' (m.ids_are ∙ ap (λ (l : ℕ). ids_from text ids n 0 ++ take l (drop id.at text) ∷ []) long) z;
+                  noted_more a s d ids' m.ids_are z;
             })
         tagged a s d false g z =
             let same-all = p.none (rw-is ∙ ap is_row_mark g ∙ z) in
@@ -299,6 +286,6 @@ module _ (text levels ids : List ℕ) (w : Walk) (id : Id) (n : ℕ) (k : Gather
             })
 
         by : (m : Mark) → r.mark ≡ m → Gathering text levels' ids' r id' n'
-        by Nothing g = absurd (let t : is_mark r.mark ≡ true = sym e ∙ not-false found q in let z : true ≡ false = sym t ∙ ap is_mark g in let z2 : ◌≡◌ {A = ℕ} 0 1 = cc in omega arith)
+        by Nothing g = absurd (let t : is_mark r.mark ≡ true = sym e ∙ q in let z : true ≡ false = sym t ∙ ap is_mark g in let z2 : ◌≡◌ {A = ℕ} 0 1 = cc in omega arith)
         by (Valued d v a b) g = valued d v a b g
         by (Tagged a s d) g = tagged a s d (is_row_mark (Tagged a s d)) g refl

@@ -6,57 +6,43 @@ ghost use Rattle.values.specs.Items.{found_of};
 ghost use Rattle.values.specs.Ids.{Noted, ids_from};
 ghost use Rattle.gather.specs.Parts.{part_at};
 ghost use Rattle.gather.specs.Ids.{Gathered};
-ghost use Rattle.gather.specs.Faults.{sooner_than, sooner, missing, tag_fault, pending_after, stated_after, Inside, Searched};
+ghost use Rattle.gather.specs.Faults.{sooner, missing, tag_fault, pending_after, stated_after, Inside, Searched};
 
 use crate::ids::is_row;
 use marks::{Mark, begin, is_mark, next_mark};
-use values::conditions::{Condition, condition_in};
-use values::{Fault, is_bad, is_decimal, is_namespace, is_type, is_version, item_fault};
-
-fn sooner_than(x: usize, b: Fault) -> Fault
-    ensures { result ≡ sooner_than x b }
-{
-    match b {
-        Fault::Nothing => Fault::At(x),
-        Fault::At(y) => {
-            if x <= y {
-                return Fault::At(x);
-            }
-            Fault::At(y)
-        }
-    }
-}
+use values::conditions::condition_in;
+use values::{is_bad, is_decimal, is_namespace, is_type, is_version, item_fault};
 
 // The one with the smaller offset.
-fn sooner(a: Fault, b: Fault) -> Fault
+fn sooner(a: Option<usize>, b: Option<usize>) -> Option<usize>
     ensures { result ≡ sooner a b }
 {
-    match a {
-        Fault::Nothing => b,
-        Fault::At(x) => sooner_than(x, b),
+    match (a, b) {
+        (None, _) => b,
+        (Some(_), None) => a,
+        (Some(x), Some(y)) => Some(x.min(y)),
     }
 }
 
-fn fault_unless(ok: bool, at: usize) -> Fault
+fn fault_unless(ok: bool, at: usize) -> Option<usize>
     ensures { result ≡ found_of (least (fault_if (not ok) at)) }
 {
     if ok {
-        return Fault::Nothing;
+        return None;
     }
-    Fault::At(at)
+    Some(at)
 }
 
 // The value of cond, whose first byte has the offset from.
-fn condition_fault(text: &[u8], ids: &[u16], n: usize, value: &[u8], from: usize) -> Fault
+fn condition_fault(text: &[u8], ids: &[u16], n: usize, value: &[u8], from: usize) -> Option<usize>
     requires { (from + length value.now ≤ 32768) × Noted text.now ids.now n }
     ensures { result ≡ found_of (least (condition_fault (ids_from text.now ids.now n 0) from value.now)) }
 {
-    let condition = condition_in(value);
-    match condition {
-        Condition::Other => Fault::At(from),
-        Condition::In(a, b) => {
-            let bad = is_bad(text, ids, n, true, &value[a..b]);
-            fault_unless(!bad, from + a)
+    match condition_in(value) {
+        None => Some(from),
+        Some(name) => {
+            let bad = is_bad(text, ids, n, true, &value[name.from..name.to]);
+            fault_unless(!bad, from + name.from)
         }
     }
 }
@@ -70,7 +56,7 @@ fn part_fault(
     word: u8,
     from: usize,
     to: usize,
-) -> Fault
+) -> Option<usize>
     requires { Inside text.now ids.now n from to }
     ensures { result ≡ found_of (least (part_faults (ids_from text.now ids.now n 0) (part_at text.now element word from to))) }
 {
@@ -98,7 +84,7 @@ fn part_fault(
 }
 
 // "Every row but scxml must state an id, else 12 at its "<"."
-fn missing_fault(at: usize, shape: u8, element: u8, stated: bool) -> Fault
+fn missing_fault(at: usize, shape: u8, element: u8, stated: bool) -> Option<usize>
     ensures { result ≡ missing at shape element stated }
 {
     let row = is_row(shape, element);
@@ -106,25 +92,32 @@ fn missing_fault(at: usize, shape: u8, element: u8, stated: bool) -> Fault
 }
 
 // The first fault of the tag that the mark ends, if it ends one; pending is that of its values.
-fn tag_fault(m: Mark, stated: bool, pending: Fault) -> Fault
+fn tag_fault(m: Mark, stated: bool, pending: Option<usize>) -> Option<usize>
     ensures { result ≡ tag_fault m stated pending }
 {
     match m {
-        Mark::Nothing => Fault::Nothing,
-        Mark::Valued(e, w, a, b) => Fault::Nothing,
-        Mark::Tagged(a, s, e) => sooner(missing_fault(a, s, e, stated), pending),
+        Mark::Tagged(at, shape, element) => {
+            sooner(missing_fault(at, shape, element, stated), pending)
+        }
+        _ => None,
     }
 }
 
 // The first fault of the values of the tag that goes on behind the mark.
-fn pending_after(text: &[u8], ids: &[u16], n: usize, pending: Fault, m: Mark) -> Fault
+fn pending_after(
+    text: &[u8],
+    ids: &[u16],
+    n: usize,
+    pending: Option<usize>,
+    m: Mark,
+) -> Option<usize>
     requires { Inside text.now ids.now n (value_from m) (value_to m) }
     ensures { result ≡ pending_after text.now (ids_from text.now ids.now n 0) pending m }
 {
     match m {
         Mark::Nothing => pending,
         Mark::Valued(e, w, a, b) => sooner(pending, part_fault(text, ids, n, e, w, a, b)),
-        Mark::Tagged(a, s, e) => Fault::Nothing,
+        Mark::Tagged(_, _, _) => None,
     }
 }
 
@@ -134,25 +127,24 @@ fn stated_after(stated: bool, m: Mark) -> bool
 {
     match m {
         Mark::Nothing => stated,
-        Mark::Valued(e, w, a, b) => stated | (w == 26),
-        Mark::Tagged(a, s, e) => false,
+        Mark::Valued(_, word, _, _) => stated | (word == 26),
+        Mark::Tagged(_, _, _) => false,
     }
 }
 
 // The first fault of the text: a missing id, a reference or value that does not exist, a name over 63 bytes.
-pub fn first_fault(text: &[u8], levels: &mut [u8], ids: &[u16], n: usize) -> Fault
+pub fn first_fault(text: &[u8], levels: &mut [u8], ids: &[u16], n: usize) -> Option<usize>
     requires { Gathered text.now levels.old ids.now n }
     ensures { Searched text.now levels.new ids.now n result }
 {
     let mut w = begin();
     let mut stated = false;
-    let mut pending = Fault::Nothing;
-    let mut first = Fault::Nothing;
+    let mut pending = None;
+    let mut first = None;
     loop {
         let next = next_mark(text, levels, w);
         let m = next.mark;
-        let found = is_mark(m);
-        if !found {
+        if !is_mark(m) {
             return first;
         }
         let here = tag_fault(m, stated, pending);

@@ -16,8 +16,8 @@ use Rattle.laws.specs.Sets.{mem_insert}
 use Rattle.laws.specs.Orders.{union_none, lt_case}
 use Rattle.numbers.specs.declared.Row.{Row}
 use Rattle.rowset.specs.declared.RowSet.{RowSet}
-use Rattle.rowset.specs.declared.Found.{Found}
-use Rattle.rowset.specs.declared.Found.TheVariants.{At, Nothing}
+use Rattle.std.specs.declared.option.Option.{Option}
+use Rattle.std.specs.declared.option.Option.TheVariants.{Some, None}
 use Rattle.rowset.specs.Member.{rows_of, next_in}
 use Rattle.rowset.specs.Rows.{ascends_rows, rows_low}
 use Rattle.rowset.specs.Visits.{found_next, next_small, no_next}
@@ -106,11 +106,11 @@ module _ (before : List ℕ) (h : ℕ) (rows : RowSet) where
   pub mark_begin : length before ≡ 1024 → MarkedTo before before h rows 0
   mark_begin l = record { size = l; at = λ r x. sym (rw (le-ltb r 0 (omega arith), and_false (eqb x h)) (or_false (has_at before r x))) }
 
-  module _ (now : List ℕ) (k : ℕ) (m : MarkedTo before now h rows k) (o : Found) (e : o ≡ next_in (rows_of rows) k) where
-    pub mark_room : (r : Row) → o ≡ At r → r.0 * 4 + 4 ≤ length now
+  module _ (now : List ℕ) (k : ℕ) (m : MarkedTo before now h rows k) (o : Option Row) (e : o ≡ next_in (rows_of rows) k) where
+    pub mark_room : (r : Row) → o ≡ Some r → r.0 * 4 + 4 ≤ length now
     mark_room r q = let b = next_small rows k o e r q in let z = m.size in omega arith
 
-    pub mark_turn : (r : Row) (s t : RowSet) (next : List ℕ) → o ≡ At r → s ≡ row_set_at now (r.0 * 4) → rows_of t ≡ insert h (rows_of s) → next ≡ put_at now (r.0 * 4) (rows_of t) →
+    pub mark_turn : (r : Row) (s t : RowSet) (next : List ℕ) → o ≡ Some r → s ≡ row_set_at now (r.0 * 4) → rows_of t ≡ insert h (rows_of s) → next ≡ put_at now (r.0 * 4) (rows_of t) →
         MarkedTo before next h rows (r.0 + 1)
     unfolding has_at
     mark_turn r s t next q f g u =
@@ -137,7 +137,7 @@ module _ (before : List ℕ) (h : ℕ) (rows : RowSet) where
             lt_case j k (λ d. rw (lt-ltb j k d, lt-ltb j (r.0 + 1) (omega arith)))
             (λ d. lt_case j r.0 (λ w. rw (le-ltb j k d, lt-ltb j (r.0 + 1) (omega arith), n.none j d w)) (λ w. rw (le-ltb j k d, le-ltb j (r.0 + 1) (omega (arith, p)))))
 
-    pub mark_end : o ≡ Nothing → Marked before now h (rows_of rows)
+    pub mark_end : o ≡ None → Marked before now h (rows_of rows)
     mark_end q =
         record {
           size = m.size;

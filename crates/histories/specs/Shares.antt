@@ -13,8 +13,8 @@ use Rattle.laws.specs.Lists.{any_true, all_mem, mem_all, mem_tail, subset_mem, m
 use Rattle.accepted.specs.Tree.{Tree, child_facts, mem_children, parent_kind}
 use Rattle.numbers.specs.declared.Row.{Row}
 use Rattle.rowset.specs.declared.RowSet.{RowSet}
-use Rattle.rowset.specs.declared.Found.{Found}
-use Rattle.rowset.specs.declared.Found.TheVariants.{At, Nothing}
+use Rattle.std.specs.declared.option.Option.{Option}
+use Rattle.std.specs.declared.option.Option.TheVariants.{Some, None}
 use Rattle.rowset.specs.Member.{rows_of, next_in}
 use Rattle.rowset.specs.Search.{rest_from, rest_all}
 use Rattle.rowset.specs.Visits.{next_small, rest_at, rest_end}
@@ -59,8 +59,8 @@ module _ (marks : List ℕ) (rows : RowSet) where
         in_every = λ h l. rw (d, rest_all (rows_of rows)) (ap (λ (x : Bool). x && all (rows_with marks h) (rows_of rows)) (mem_below 256 h l));
       }
 
-  module _ (some twice every : List ℕ) (k : ℕ) (o : Found) (e : o ≡ next_in (rows_of rows) k) (i : Sharing marks rows some twice every k) where
-    pub share_turn : (r : Row) (here both more again each : RowSet) → o ≡ At r → here ≡ row_set_at marks (r.0 * 4) → rows_of both ≡ intersection some (rows_of here) →
+  module _ (some twice every : List ℕ) (k : ℕ) (o : Option Row) (e : o ≡ next_in (rows_of rows) k) (i : Sharing marks rows some twice every k) where
+    pub share_turn : (r : Row) (here both more again each : RowSet) → o ≡ Some r → here ≡ row_set_at marks (r.0 * 4) → rows_of both ≡ intersection some (rows_of here) →
         rows_of again ≡ union twice (rows_of both) → rows_of more ≡ union some (rows_of here) → rows_of each ≡ intersection every (rows_of here) →
         Sharing marks rows (rows_of more) (rows_of again) (rows_of each) (r.0 + 1)
     unfolding any two all
@@ -104,7 +104,7 @@ module _ (marks : List ℕ) (rows : RowSet) where
         in_each : (h : ℕ) → mem h (rows_of each) ≡ (mem h every && rows_with marks h r.0)
         in_each h = ap (mem h) a ∙ mem_intersection h every (rows_of here) ∙ ap (λ (x : Bool). mem h every && x) (at h)
 
-    pub share_end : o ≡ Nothing → Shared marks (rows_of rows) some twice every
+    pub share_end : o ≡ None → Shared marks (rows_of rows) some twice every
     unfolding any two all
     share_end q =
         record {

@@ -14,7 +14,7 @@ ghost use Rattle.histories.specs.Places.{holds_place, Blank, Marking, Put};
 ghost use Rattle.histories.specs.Turns.{RowJudged};
 
 use numbers::Row;
-use rowset::{Found, RowSet};
+use rowset::RowSet;
 use tables::columns::SET_WIDTH;
 
 // History h is put into the set at each of the rows.
@@ -22,14 +22,9 @@ fn mark(marks: &mut [u64], h: Row, rows: RowSet)
     requires { length marks.old ≡ 1024 }
     ensures { Marked marks.old marks.new h.0 (rows_of rows) }
 {
-    let mut k: u16 = 0;
-    loop {
-        let Found::At(r) = rows.next_from(k) else {
-            return;
-        };
-        let at = r.0 as usize * SET_WIDTH;
+    for r in rows.iter() {
+        let at = usize::from(r) * SET_WIDTH;
         tables::put_set(marks, at, tables::set_at(marks, at).with(h));
-        k = r.0 as u16 + 1;
     }
 }
 
@@ -63,12 +58,10 @@ fn mark_all(chart: &[u64], history: &[u64], marks: &mut [u64]) -> bool
 {
     let leaves = matching::rows::atomic_rows(chart);
     let n = tables::row_count(chart);
-    let mut i = 0;
-    while i < n {
+    for i in 0..n {
         if !mark_place(chart, history, leaves, marks, Row(i as u8)) {
             return false;
         }
-        i += 1;
     }
     true
 }
@@ -88,20 +81,16 @@ fn common_of(marks: &[u64], rows: RowSet) -> Common
     let mut some = RowSet::empty();
     let mut twice = RowSet::empty();
     let mut every = RowSet::below(256);
-    let mut k: u16 = 0;
-    loop {
-        let Found::At(r) = rows.next_from(k) else {
-            return Common {
-                some: some,
-                twice: twice,
-                every: every,
-            };
-        };
-        let here = tables::set_at(marks, r.0 as usize * SET_WIDTH);
+    for r in rows.iter() {
+        let here = tables::set_at(marks, usize::from(r) * SET_WIDTH);
         twice = twice.union(some.intersection(here));
         some = some.union(here);
         every = every.intersection(here);
-        k = r.0 as u16 + 1;
+    }
+    Common {
+        some: some,
+        twice: twice,
+        every: every,
     }
 }
 
@@ -135,9 +124,8 @@ fn judge(chart: &[u64], history: &[u64], marks: &mut [u64]) -> bool
     if !mark_all(chart, history, marks) {
         return false;
     }
-    let mut i = tables::row_count(chart);
-    while 0 < i {
-        i -= 1;
+    let n = tables::row_count(chart);
+    for i in (0..n).rev() {
         if !judge_row(chart, marks, Row(i as u8)) {
             return false;
         }

@@ -1,12 +1,12 @@
 -- The names of a text, one slot behind the other.
-use Rattle.std.specs.Prelude.{◌≡◌, refl, length, set}
-use Rattle.std.proofs.Common.{sym, ◌∙◌, add-one, length-append, length-drop, length-set, take_all, take_at, drop-drop}
+use Rattle.std.specs.Prelude.{◌≡◌, refl, length}
+use Rattle.std.proofs.Common.{sym, ◌∙◌, add-one, length-append, length-drop, take_at, drop-drop}
 use Rattle.std.proofs.Math.Path.{ap}
 use mathlib.Core.List.{List, [], ◌++◌, append_assoc, append-nil}
 use Prim.Native.Nat.{ℕ, suc, ◌+◌, ◌*◌, ◌-◌, ◌^◌, ◌≤◌, ◌<◌}
 use native.Mathlib.Omega.{arith}
 use Rattle.std.proofs.Math.ListN.{get_or, take, drop}
-use Rattle.std.proofs.Math.Seq.{paste, paste-zero, paste-suc, drop-append-add}
+use Rattle.std.proofs.Math.Seq.{drop-append-add}
 use Rattle.definition.specs.Tables.{slot_of}
 use Rattle.definition.specs.Rows.{flat}
 use Rattle.reading.specs.Layout.{names_of}
@@ -21,48 +21,6 @@ pub record SlotRoom (place : List ℕ) (at : ℕ) : Type 0 where
 
 abbrev pub slot_laid : List ℕ → ℕ → List ℕ → List ℕ
 slot_laid place at name = take at place ++ slot_of name ++ drop (at + 64) place
-
-pub record Laying (name place₀ : List ℕ) (at : ℕ) (slot place : List ℕ) (j : ℕ) : Type 0 where
-  pub slot_room : SlotRoom place₀ at
-  pub slot_is : slot ≡ slot_of name
-  pub below : j ≤ 64
-  pub size : length place ≡ length place₀
-  pub is : place ≡ paste place₀ at slot j
-
-pub lay_begin : (name place : List ℕ) (at : ℕ) (slot : List ℕ) → SlotRoom place at → slot ≡ slot_of name → Laying name place at slot place 0
-lay_begin name place at slot r e = record { slot_room = r; slot_is = e; below = omega arith; size = refl; is = paste-zero place at slot }
-
-module _ (name place₀ : List ℕ) (at : ℕ) (slot place : List ℕ) (j : ℕ) (k : Laying name place₀ at slot place j) where
-  slot_long : length slot ≡ 64
-  slot_long = ap length k.slot_is ∙ slot_size_lem name
-
-  pub lay_read : j < 64 → j < length slot
-  lay_read h = let l = slot_long in omega arith
-
-  pub lay_there : j < 64 → at + j < length place
-  lay_there h = let r = k.slot_room.room in let s = k.size in omega arith
-
-  pub lay_fits : j < 64 → at + j < 2 ^ 64
-  lay_fits h = let f = k.slot_room.fits in omega arith
-
-  pub lay_turn : j < 64 → Laying name place₀ at slot (set place (at + j) (get_or slot j 0)) (j + 1)
-  lay_turn h =
-      let r = k.slot_room.room in let l = slot_long in
-      record {
-        slot_room = k.slot_room;
-        slot_is = k.slot_is;
-        below = omega arith;
-        size = length-set place (at + j) (get_or slot j 0) ∙ k.size;
-        is =
-            ap (λ (p : List ℕ). set p (at + j) (get_or slot j 0)) k.is ∙ paste-suc place₀ at slot j 0 (omega arith) (omega arith) ∙ ap (paste place₀ at slot) (sym (add-one j));
-      }
-
-  pub lay_end : 64 ≤ j → place ≡ slot_laid place₀ at name
-  lay_end h =
-      let b = k.below in
-      let e : j ≡ 64 = omega arith in
-      let l = slot_long in
-      k.is ∙ ap (paste place₀ at slot) e ∙ ap (λ (s : List ℕ). take at place₀ ++ s ++ drop (at + 64) place₀) (take_all 64 slot (omega arith) ∙ k.slot_is)
 
 -- ---- all slots
 

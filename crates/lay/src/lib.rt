@@ -7,26 +7,10 @@ ghost use Rattle.lay.specs.Copies.{CopyRoom};
 
 pub mod name_slots;
 
-// The first n numbers over the beginning of the place.
-pub fn copy_numbers(from: &[u64], n: usize, place: &mut [u64])
+// The first n elements over the beginning of the place.
+pub fn copy_first<T: Copy>(from: &[T], n: usize, place: &mut [T])
     requires { CopyRoom from.now n place.old }
     ensures { place.new ≡ take n from.now ++ drop n place.old }
 {
-    let mut i = 0;
-    while i < n {
-        place[i] = from[i];
-        i += 1;
-    }
-}
-
-// The first n bytes over the beginning of the place.
-pub fn copy_bytes(from: &[u8], n: usize, place: &mut [u8])
-    requires { CopyRoom from.now n place.old }
-    ensures { place.new ≡ take n from.now ++ drop n place.old }
-{
-    let mut i = 0;
-    while i < n {
-        place[i] = from[i];
-        i += 1;
-    }
+    place[..n].copy_from_slice(&from[..n]);
 }

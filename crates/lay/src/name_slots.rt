@@ -12,12 +12,7 @@ fn lay_slot(place: &mut [u8], at: usize, name: &[u8])
     requires { SlotRoom place.old at }
     ensures { place.new ≡ slot_laid place.old at name.now }
 {
-    let slot = pad(name);
-    let mut j = 0;
-    while j < 64 {
-        place[at + j] = slot[j];
-        j += 1;
-    }
+    place[at..at + 64].copy_from_slice(&pad(name));
 }
 
 // The n names of the text, one slot behind the other, over the beginning of the place.
@@ -25,12 +20,10 @@ pub fn lay_names(text: &[u8], slots: &[u16], n: usize, place: &mut [u8])
     requires { NamesRoom text.now slots.now n place.old }
     ensures { place.new ≡ names_of (ids_from text.now slots.now n 0) ++ drop (n * 64) place.old }
 {
-    let mut k = 0;
-    while k < n {
+    for k in 0..n {
         let at = number_at(slots, k * 2);
         let long = number_at(slots, k * 2 + 1);
         let to = at + long;
         lay_slot(place, k * 64, &text[at..to]);
-        k += 1;
     }
 }

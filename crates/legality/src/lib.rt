@@ -11,7 +11,7 @@ ghost use Rattle.chart.specs.Ready.{Ready, RowReady};
 ghost use Rattle.legality.specs.Rows.{RowsReady, HistoryReady, is_held};
 
 use numbers::Row;
-use rowset::{Found, RowSet};
+use rowset::RowSet;
 
 // Of a parallel every child is in the set, of a compound and the root one.
 fn children_fit(chart: &[u64], set: RowSet, r: Row) -> bool
@@ -77,16 +77,12 @@ pub fn is_legal(chart: &[u64], conf: RowSet) -> bool
     if !is_inside(chart, conf) {
         return false;
     }
-    let mut k = 0;
-    loop {
-        let Found::At(r) = conf.next_from(k) else {
-            return children_fit(chart, conf, Row(0));
-        };
+    for r in conf.iter() {
         if !row_fits(chart, conf, r) {
             return false;
         }
-        k = r.0 as u16 + 1;
     }
+    children_fit(chart, conf, Row(0))
 }
 
 fn is_final_under_root(chart: &[u64], r: Row) -> bool
@@ -105,16 +101,12 @@ pub fn has_final(chart: &[u64], conf: RowSet) -> bool
     ensures { result ≡ any (is_final_under_root (chart_of chart.now)) (rows_of conf) }
 {
     let top = conf.intersection(chart::children_of(chart, Row(0)));
-    let mut k = 0;
-    loop {
-        let Found::At(r) = top.next_from(k) else {
-            return false;
-        };
+    for r in top.iter() {
         if is_final_under_root(chart, r) {
             return true;
         }
-        k = r.0 as u16 + 1;
     }
+    false
 }
 
 // ---- what a history may have stored
@@ -148,16 +140,12 @@ fn are_atomic_below(chart: &[u64], p: Row, set: RowSet) -> bool
     requires { RowReady chart.now p.0 × RowsReady chart.now (rows_of set) }
     ensures { result ≡ all (is_atomic_below (chart_of chart.now) p.0) (rows_of set) }
 {
-    let mut k = 0;
-    loop {
-        let Found::At(r) = set.next_from(k) else {
-            return true;
-        };
+    for r in set.iter() {
         if !is_atomic_below(chart, p, r) {
             return false;
         }
-        k = r.0 as u16 + 1;
     }
+    true
 }
 
 // The children of every row of the set fit.
@@ -165,16 +153,12 @@ fn all_children_fit(chart: &[u64], set: RowSet) -> bool
     requires { RowsReady chart.now (rows_of set) }
     ensures { result ≡ all (children_fit (chart_of chart.now) (rows_of set)) (rows_of set) }
 {
-    let mut k = 0;
-    loop {
-        let Found::At(r) = set.next_from(k) else {
-            return true;
-        };
+    for r in set.iter() {
         if !children_fit(chart, set, r) {
             return false;
         }
-        k = r.0 as u16 + 1;
     }
+    true
 }
 
 // The atomic descendants of p that a deep history stores: with the rows on the way to them they fit below p.

@@ -6,7 +6,7 @@ ghost use Rattle.session.specs.Sessions.{start_of, start_effects, run_of, run_ef
 ghost use Rattle.state.specs.State.{trace_with};
 
 use definition::{Answer, Status};
-use session::{Clock, Clocked, Ran, Session, Started};
+use session::{Clock, Session};
 
 // What a start hands back beside the record.
 #[derive(Drop)]
@@ -32,18 +32,6 @@ pub struct Ticked {
     pub answer: Answer,
 }
 
-fn start_with(
-    session: Session,
-    clock: Clock,
-    chart: &[u64],
-    names: &[u8],
-    trace: &mut [u32],
-) -> Started
-    ensures { (result ≡ start_of chart.now names.now (length trace.old)) × (trace.new ≡ trace_with trace.old (start_effects chart.now names.now (length trace.old))) }
-{
-    session.start(clock, chart, names, trace)
-}
-
 pub fn start(
     session: Session,
     clock: &mut Clock,
@@ -53,26 +41,13 @@ pub fn start(
 ) -> Begun
     ensures { (result.session ≡ (start_of chart.now names.now (length trace.old)).session) × (result.answer ≡ (start_of chart.now names.now (length trace.old)).answer) × (result.count ≡ (start_of chart.now names.now (length trace.old)).count) × (clock.new ≡ (start_of chart.now names.now (length trace.old)).clock) × (trace.new ≡ trace_with trace.old (start_effects chart.now names.now (length trace.old))) }
 {
-    let r = start_with(session, *clock, chart, names, trace);
+    let r = session.start(*clock, chart, names, trace);
     *clock = r.clock;
     Begun {
         session: r.session,
         answer: r.answer,
         count: r.count,
     }
-}
-
-fn run_with(
-    session: Session,
-    clock: Clock,
-    chart: &[u64],
-    names: &[u8],
-    rounds: u32,
-    trace: &mut [u32],
-) -> Ran
-    ensures { (result ≡ run_of session clock chart.now names.now rounds (length trace.old)) × (trace.new ≡ trace_with trace.old (run_effects session clock chart.now names.now rounds (length trace.old))) }
-{
-    session.run(clock, chart, names, rounds, trace)
 }
 
 pub fn run(
@@ -85,7 +60,7 @@ pub fn run(
 ) -> Went
     ensures { (result.session ≡ (run_of session clock.old chart.now names.now rounds (length trace.old)).session) × (result.status ≡ (run_of session clock.old chart.now names.now rounds (length trace.old)).status) × (result.rounds ≡ (run_of session clock.old chart.now names.now rounds (length trace.old)).rounds) × (result.count ≡ (run_of session clock.old chart.now names.now rounds (length trace.old)).count) × (clock.new ≡ (run_of session clock.old chart.now names.now rounds (length trace.old)).clock) × (trace.new ≡ trace_with trace.old (run_effects session clock.old chart.now names.now rounds (length trace.old))) }
 {
-    let r = run_with(session, *clock, chart, names, rounds, trace);
+    let r = session.run(*clock, chart, names, rounds, trace);
     *clock = r.clock;
     Went {
         session: r.session,
@@ -95,16 +70,10 @@ pub fn run(
     }
 }
 
-fn clock_with(session: Session, clock: Clock, chart: &[u64], names: &[u8], ticks: u64) -> Clocked
-    ensures { result ≡ clock_of session clock chart.now names.now ticks }
-{
-    session.clock(clock, chart, names, ticks)
-}
-
 pub fn clock(session: Session, clock: &mut Clock, chart: &[u64], names: &[u8], ticks: u64) -> Ticked
     ensures { (result.session ≡ (clock_of session clock.old chart.now names.now ticks).session) × (result.answer ≡ (clock_of session clock.old chart.now names.now ticks).answer) × (clock.new ≡ (clock_of session clock.old chart.now names.now ticks).clock) }
 {
-    let r = clock_with(session, *clock, chart, names, ticks);
+    let r = session.clock(*clock, chart, names, ticks);
     *clock = r.clock;
     Ticked {
         session: r.session,

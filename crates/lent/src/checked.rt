@@ -7,9 +7,8 @@ ghost use Rattle.lent.specs.Places.{session_in, record_in, places_fit, started_i
 ghost use Rattle.lent.specs.Lent.{refused_in};
 
 use crate::{Checks, RanIn, StartedIn};
-use definition::{Answer, Status};
+use definition::{Answer, Mode, Status};
 use session::MOST_TICKS;
-use state::ENDED;
 
 pub fn start_checked(
     good: bool,
@@ -24,7 +23,7 @@ pub fn start_checked(
     requires { (good ≡ is_compiled chart.now names.now) × (places_fit (length numbers.old) (length internal.old) (length external.old) (length clock.old) ≡ true) }
     ensures { (started_in (session_in numbers.new internal.new external.new) (record_in clock.new) result ≡ start_of chart.now names.now (length trace.old)) × (trace.new ≡ trace_with trace.old (start_effects chart.now names.now (length trace.old))) }
 {
-    places::clear_u64(numbers);
+    numbers.fill(0);
     queue::clear(internal);
     queue::clear(external);
     queue::clear(clock);
@@ -64,7 +63,8 @@ pub fn post_checked(
     if !names::is_name(name) {
         return Answer::NotAName;
     }
-    if numbers[state::MODE] == ENDED {
+    let mode = Mode::from(numbers[state::MODE]);
+    if let Mode::Ended = mode {
         return Answer::SessionEnded;
     }
     let outer = numbers[state::EXTERNAL];
@@ -96,7 +96,8 @@ pub fn clock_checked(
     if !checks.clock {
         return Answer::BadSession;
     }
-    if numbers[state::MODE] == ENDED {
+    let mode = Mode::from(numbers[state::MODE]);
+    if let Mode::Ended = mode {
         return Answer::SessionEnded;
     }
     if (ticks < clock::ticks_of(clock)) | (MOST_TICKS < ticks) {

@@ -6,6 +6,7 @@ ghost use Rattle.session.specs.Sessions.{is_session};
 ghost use Rattle.lent.specs.Places.{session_in, record_in, lengths_fit, places_fit, checks_of, Checked};
 
 use crate::Checks;
+use definition::Mode;
 
 const QUEUE: usize = 2048;
 
@@ -89,7 +90,7 @@ pub fn check(
             clock: false,
         };
     }
-    let mode = state::mode_from(numbers[state::MODE]);
+    let mode = Mode::from(numbers[state::MODE]);
     Checks {
         chart: true,
         session: true,

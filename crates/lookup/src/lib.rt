@@ -8,7 +8,7 @@ ghost use Rattle.chart.specs.Ready.{Ready};
 ghost use Rattle.lookup.specs.Words.{word_in, rows_in};
 ghost use Rattle.lookup.specs.Lookup.{quiet_in, IndexOf};
 
-use places::copy_u16;
+use places::copy;
 use rowset::RowSet;
 
 // The index of a chart: 257 starts, then 512 fixed domains, then three sets of rows, of 16 numbers each: the atomic rows, those at or
@@ -31,10 +31,10 @@ fn word_at(index: &[u16], at: usize) -> u64
     requires { at + 4 ≤ length index.now }
     ensures { result ≡ word_in index.now at }
 {
-    index[at] as u64
-        + (index[at + 1] as u64) * 65536
-        + (index[at + 2] as u64) * 4294967296
-        + (index[at + 3] as u64) * 281474976710656
+    u64::from(index[at])
+        + u64::from(index[at + 1]) * 65536
+        + u64::from(index[at + 2]) * 4294967296
+        + u64::from(index[at + 3]) * 281474976710656
 }
 
 pub fn rows_at(index: &[u16], at: usize) -> RowSet
@@ -81,8 +81,8 @@ pub fn put_index(chart: &[u64], index: &mut [u16])
     let atomic = matching::atomic_rows(chart);
     let eventless = matching::eventless_rows(chart);
     let histories = matching::history_rows(chart);
-    copy_u16(&by_source.starts, &mut index[..STARTS]);
-    copy_u16(&fixed.domains, &mut index[STARTS..ATOMIC]);
+    copy(&by_source.starts, &mut index[..STARTS]);
+    copy(&fixed.domains, &mut index[STARTS..ATOMIC]);
     put_rows(&mut index[ATOMIC..EVENTLESS], atomic);
     put_rows(&mut index[EVENTLESS..HISTORIES], eventless);
     put_rows(&mut index[HISTORIES..QUIET], histories);

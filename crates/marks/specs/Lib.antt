@@ -1,7 +1,6 @@
 pub mod Marks
 pub mod Told
 pub mod Walks
-pub mod Arms
 pub mod Grouped
 pub mod Joined
 pub mod Strides

@@ -8,7 +8,10 @@ use Rattle.grammar.specs.declared.Step.TheVariants as steps
 use Rattle.grammar.specs.Grammar.{is_char, step_of, live, next}
 use Rattle.markup.specs.declared.leaps.Leap.{Leap}
 use Rattle.markup.specs.Growth.{word_at}
-use Rattle.markup.specs.Stack.{levels, state_at, state_of}
+use Rattle.markup.specs.declared.Cursor.{Cursor}
+use Rattle.std.specs.declared.option.Option.{Option}
+use Rattle.std.specs.declared.option.Option.TheVariants.{Some, None}
+use Rattle.markup.specs.Stack.{levels, is_live, place_in, depth_in, state_of}
 use Rattle.markup.specs.Leads.{Led, Leads, stay, on, leads_order, leads_word, leads_reached}
 use Rattle.markup.specs.Passes.{Reached}
 use Rattle.markup.specs.Runs.{Ends, Leapt}
@@ -17,6 +20,7 @@ use Rattle.reading.specs.declared.Zone.TheVariants as zones
 use Rattle.reading.specs.Zones.{zone, is_value, element_in}
 use Rattle.marks.specs.declared.Mark.TheVariants.{Nothing}
 use Rattle.marks.specs.declared.Walk.{Walk}
+use Rattle.marks.specs.declared.Strided.{Strided}
 use Rattle.marks.specs.Marks.{is_mark, marks_from}
 use Rattle.marks.specs.Told.{told_alive}
 use Rattle.marks.specs.Walks.{Noted, Next, Walking, walk_found, walk_more, walk_dead, walk_end, walk_ready}
@@ -96,124 +100,117 @@ module _ {text : List ℕ} {z : Zone} where
 -- ---- the walk
 
 -- where a walk may leap from
-pub record Ready (text : List ℕ) (w : Walk) (i : ℕ) : Type 0 where
+pub record Ready (text : List ℕ) (c : Cursor) (i : ℕ) : Type 0 where
   pub within : i ≤ length text
   pub short : length text ≤ 32768
-  pub word : word_at w.cursor.place ≤ i
+  pub word : word_at c.place ≤ i
 
--- the walk stands at i; behind the leap nothing of the marks is lost
-pub record Strode (text : List ℕ) (w : Walk) (i : ℕ) (r : Walk) : Type 0 where
-  pub alive : r.cursor.live ≡ true
-  pub depth_is : r.cursor.depth ≡ w.cursor.depth
+-- behind the leap from the cursor at i nothing of the marks is lost
+pub record Strode (text : List ℕ) (c : Cursor) (e from i : ℕ) (r : Strided) : Type 0 where
+  pub depth_is : r.cursor.depth ≡ c.depth
   pub order : i ≤ r.index
   pub within : r.index ≤ length text
-  pub word : word_at r.cursor.place + i ≤ word_at w.cursor.place + r.index
-  pub begun : w.from ≤ i → r.from ≤ r.index
-  pub no_mark : r.mark ≡ Nothing
-  pub marks : (st : List ℕ) → marks_from (live w.cursor.place w.cursor.top st) w.at w.element w.from i (drop i text) ≡
-      marks_from (live r.cursor.place r.cursor.top st) r.at r.element r.from r.index (drop r.index text)
-  pub reaches : (st : List ℕ) → Reached text i (live w.cursor.place w.cursor.top st) → Reached text r.index (live r.cursor.place r.cursor.top st)
+  pub word : word_at r.cursor.place + i ≤ word_at c.place + r.index
+  pub begun : from ≤ i → r.from ≤ r.index
+  pub marks : (st : List ℕ) (at : ℕ) → marks_from (live c.place c.top st) at e from i (drop i text) ≡
+      marks_from (live r.cursor.place r.cursor.top st) at r.element r.from r.index (drop r.index text)
+  pub reaches : (st : List ℕ) → Reached text i (live c.place c.top st) → Reached text r.index (live r.cursor.place r.cursor.top st)
 
--- the walk in another place, alive and without a mark
-abbrev pub moved_to : Walk → Place → ℕ → ℕ → ℕ → ℕ → Walk
-moved_to w p t e from i = record { cursor = record { place = p; top = t; depth = w.cursor.depth; live = true }; at = w.at; element = e; from = from; index = i; mark = Nothing }
-
-module _ (text : List ℕ) (w : Walk) (i : ℕ) (ready : Ready text w i) where
-  pub stride_none : (r : Walk) → r ≡ moved_to w w.cursor.place w.cursor.top w.element w.from i → Strode text w i r
-  stride_none r q = rw q (record { alive = refl; depth_is = refl; order = omega arith; within = ready.within; word = omega arith; begun = λ h. h; no_mark = refl; marks = λ st. refl; reaches = λ st k. k })
+module _ (text : List ℕ) (c : Cursor) (e from i : ℕ) (ready : Ready text c i) where
+  pub stride_none : (r : Strided) → r ≡ record { cursor = c; element = e; from = from; index = i } → Strode text c e from i r
+  stride_none r q = rw q (record { depth_is = refl; order = omega arith; within = ready.within; word = omega arith; begun = λ h. h; marks = λ st at. refl; reaches = λ st k. k })
 
   pub stride_ends : Ends text (length text) i
   stride_ends = record { before = ready.within; within = omega arith; short = ready.short }
 
-  pub stride_leap : (z : Zone) → z ≡ zone w.cursor.place → (calm : Bool) → calm ≡ is_calm z → not calm ≡ false →
-      (l : Leap) → Leapt text (length text) (zone w.cursor.place) w.cursor.place w.cursor.top i l → i < l.index →
-      (el : ℕ) → el ≡ element_in z w.element → (inside : Bool) → inside ≡ is_value z → (first : ℕ) → first ≡ cond inside w.from l.index →
-      (r : Walk) → r ≡ moved_to w l.place l.top el first l.index → Strode text w i r
+  pub stride_leap : (z : Zone) → z ≡ zone c.place → (calm : Bool) → calm ≡ is_calm z → not calm ≡ false →
+      (l : Leap) → Leapt text (length text) (zone c.place) c.place c.top i l → i < l.index →
+      (el : ℕ) → el ≡ element_in z e → (inside : Bool) → inside ≡ is_value z → (first : ℕ) → first ≡ cond inside from l.index →
+      (r : Strided) → r ≡ record { cursor = record { place = l.place; top = l.top; depth = c.depth }; element = el; from = first; index = l.index } → Strode text c e from i r
   stride_leap z ez calm ec nc l lp h el ee inside ei first ef r er =
       rw er
       (record {
-        alive = refl;
         depth_is = refl;
         order = leads_order lp.leads;
         within = lp.ends.before;
         word = leads_word lp.leads;
         begun = λ b. rw ef (behind inside b);
-        no_mark = refl;
         reaches = λ st k. leads_reached st lp.leads (let a = lp.ends.before in let b = lp.ends.short in omega arith) k;
-        marks = λ st.
-            leads_marks lp.leads st w.at w.element w.from (ap is_calm (sym ez) ∙ sym ec ∙ not-false calm nc) ∙
-            ap (λ (n : ℕ). marks_from (live l.place l.top st) w.at n (from_behind lp.leads w.from) l.index (drop l.index text)) (element_moved lp.leads w.element h ∙ ap (λ (y : Zone). element_in y w.element) (sym ez) ∙ sym ee) ∙
-            ap (λ (n : ℕ). marks_from (live l.place l.top st) w.at el n l.index (drop l.index text)) (from_moved lp.leads w.from h ∙ ap (λ (y : Zone). cond (is_value y) w.from l.index) (sym ez) ∙ ap (λ (c : Bool). cond c w.from l.index) (sym ei) ∙ sym ef);
+        marks = λ st at.
+            leads_marks lp.leads st at e from (ap is_calm (sym ez) ∙ sym ec ∙ not-false calm nc) ∙
+            ap (λ (n : ℕ). marks_from (live l.place l.top st) at n (from_behind lp.leads from) l.index (drop l.index text)) (element_moved lp.leads e h ∙ ap (λ (y : Zone). element_in y e) (sym ez) ∙ sym ee) ∙
+            ap (λ (n : ℕ). marks_from (live l.place l.top st) at el n l.index (drop l.index text)) (from_moved lp.leads from h ∙ ap (λ (y : Zone). cond (is_value y) from l.index) (sym ez) ∙ ap (λ (b : Bool). cond b from l.index) (sym ei) ∙ sym ef);
       })
     where
-      behind : (c : Bool) → w.from ≤ i → cond c w.from l.index ≤ l.index
-      behind true b = omega arith
-      behind false b = omega arith
+      behind : (b : Bool) → from ≤ i → cond b from l.index ≤ l.index
+      behind true g = omega arith
+      behind false g = omega arith
 
 -- ---- the loop
+
+-- the walk behind a stride
+abbrev pub strode_to : Walk → Strided → Walk
+strode_to w s = record { cursor = Some s.cursor; at = w.at; element = s.element; from = s.from; index = s.index; mark = Nothing }
 
 -- the walk as it is handed back where there is no mark
 abbrev pub stopped_at : Walk → ℕ → Walk
 stopped_at w i = record { cursor = w.cursor; at = w.at; element = w.element; from = w.from; index = i; mark = Nothing }
 
 module _ (text xs₀ : List ℕ) (w₀ : Walk) (xs : List ℕ) (w : Walk) (i : ℕ) (k : Walking text xs₀ w₀ xs w i) where
-  pub walk_leaps : Ready text w i
-  walk_leaps = let q = k.index_is in let a = k.standing.within in let b = k.standing.word in record { within = omega arith; short = k.standing.short; word = omega arith }
-
-  pub stop_dead : not w.cursor.live ≡ true → (z : Walk) → z ≡ stopped_at w i → Next text xs₀ xs w₀ z
-  stop_dead h z e = rw e (walk_dead text xs₀ w₀ xs w i k h)
+  pub stop_dead : w.cursor ≡ None → (z : Walk) → z ≡ stopped_at w i → Next text xs₀ xs w₀ z
+  stop_dead h z e = rw e (walk_dead text xs₀ w₀ xs w i k (ap is_live h))
 
   pub stop_end : length text ≤ i → (z : Walk) → z ≡ stopped_at w i → Next text xs₀ xs w₀ z
   stop_end h z e = rw e (walk_end text xs₀ w₀ xs w i k h)
 
-  module _ (r : Walk) (s : Strode text w i r) (alive : not w.cursor.live ≡ false) where
-    pub walk_strode : Walking text xs₀ w₀ xs r r.index
-    walk_strode =
-        let q = k.index_is in
-        let o = s.order in
-        let d = k.standing.deep in
-        let e = s.depth_is in
-        let v = k.standing.word in
-        let y = s.word in
-        let b = k.standing.begun in
-        let f = k.begun in
-        record {
-          standing = record { within = s.within; short = k.standing.short; deep = omega arith; word = omega arith; begun = s.begun (omega arith); room = k.standing.room };
-          index_is = refl;
-          begun = omega arith;
-          rest =
-              k.rest ∙ ap (λ (n : ℕ). marks_from (state_of xs w.cursor) w.at w.element w.from n (drop n text)) q ∙
-              ap (λ (a : Bool). marks_from (state_at a w.cursor.place w.cursor.top (levels xs w.cursor.depth)) w.at w.element w.from i (drop i text)) (not-false w.cursor.live alive) ∙
-              s.marks (levels xs w.cursor.depth) ∙
-              ap (λ (n : ℕ). marks_from (live r.cursor.place r.cursor.top (levels xs n)) r.at r.element r.from r.index (drop r.index text)) (sym s.depth_is) ∙
-              ap (λ (a : Bool). marks_from (state_at a r.cursor.place r.cursor.top (levels xs r.cursor.depth)) r.at r.element r.from r.index (drop r.index text)) (sym s.alive);
-          told = λ t.
-              told_alive text xs r.cursor r.index s.alive
-              (subst (λ (a : Bool). Reached text r.index (state_at a r.cursor.place r.cursor.top (levels xs r.cursor.depth))) (sym s.alive)
-              (subst (λ (n : ℕ). Reached text r.index (live r.cursor.place r.cursor.top (levels xs n))) (sym s.depth_is)
-              (s.reaches (levels xs w.cursor.depth)
-              (subst (λ (a : Bool). Reached text i (state_at a w.cursor.place w.cursor.top (levels xs w.cursor.depth))) lives ((k.told t).reached lives)))));
-        }
-      where
-        lives : w.cursor.live ≡ true
-        lives = not-false w.cursor.live alive
+  module _ (c : Cursor) (here : w.cursor ≡ Some c) where
+    pub walk_leaps : Ready text c i
+    walk_leaps =
+        let q = k.index_is in let a = k.standing.within in let b = k.standing.word in
+        let p : word_at (place_in w.cursor) ≡ word_at c.place = ap (λ (o : Option Cursor). word_at (place_in o)) here in
+        record { within = omega arith; short = k.standing.short; word = omega arith }
 
-    pub leap_end : length text ≤ r.index → (z : Walk) → z ≡ stopped_at r r.index → Next text xs₀ xs w₀ z
-    leap_end h z e = rw e (walk_end text xs₀ w₀ xs r r.index walk_strode h)
+    module _ (r : Strided) (s : Strode text c w.element w.from i r) where
+      pub walk_strode : Walking text xs₀ w₀ xs (strode_to w r) r.index
+      walk_strode =
+          let q = k.index_is in
+          let o = s.order in
+          let d = k.standing.deep in
+          let dd : depth_in w.cursor ≡ c.depth = ap depth_in here in
+          let e = s.depth_is in
+          let v = k.standing.word in
+          let p : word_at (place_in w.cursor) ≡ word_at c.place = ap (λ (x : Option Cursor). word_at (place_in x)) here in
+          let y = s.word in
+          let b = k.standing.begun in
+          let f = k.begun in
+          record {
+            standing = record { within = s.within; short = k.standing.short; deep = omega arith; word = omega arith; begun = s.begun (omega arith); room = k.standing.room };
+            index_is = refl;
+            begun = omega arith;
+            rest =
+                k.rest ∙ ap (λ (n : ℕ). marks_from (state_of xs w.cursor) w.at w.element w.from n (drop n text)) q ∙
+                ap (λ (x : Option Cursor). marks_from (state_of xs x) w.at w.element w.from i (drop i text)) here ∙
+                s.marks (levels xs c.depth) w.at ∙
+                ap (λ (n : ℕ). marks_from (live r.cursor.place r.cursor.top (levels xs n)) w.at r.element r.from r.index (drop r.index text)) (sym s.depth_is);
+            told = λ t.
+                told_alive text xs (Some r.cursor) r.index refl
+                (subst (λ (n : ℕ). Reached text r.index (live r.cursor.place r.cursor.top (levels xs n))) (sym s.depth_is)
+                (s.reaches (levels xs c.depth) (subst (λ (x : Option Cursor). Reached text i (state_of xs x)) here ((k.told t).reached (ap is_live here)))));
+          }
 
-    pub leap_ready : r.index < length text → (r.cursor.depth < length xs) × (word_at r.cursor.place < 65535) × (r.index < 32768)
-    leap_ready h = walk_ready text xs₀ w₀ xs r r.index walk_strode h
+      pub leap_end : length text ≤ r.index → (z : Walk) → z ≡ strode_to w r → Next text xs₀ xs w₀ z
+      leap_end h z e = rw e (walk_end text xs₀ w₀ xs (strode_to w r) r.index walk_strode h)
 
-    live_so : not r.cursor.live ≡ false
-    live_so = ap not s.alive
+      pub leap_ready : r.index < length text → (r.cursor.depth < length xs) × (word_at r.cursor.place < 65535) × (r.index < 32768)
+      leap_ready h = walk_ready text xs₀ w₀ xs (strode_to w r) r.index walk_strode h
 
-    module _ (ys : List ℕ) (n : Walk) (in_text_lem : r.index < length text)
-        (noted : Noted xs ys r.cursor.place r.cursor.top r.cursor.depth r.at r.element r.from r.index (get_or text r.index 0) n) where
-      pub leap_found : (found : Bool) → found ≡ is_mark n.mark → found ≡ true → Next text xs₀ ys w₀ n
-      leap_found found q t = walk_found text xs₀ w₀ xs r r.index walk_strode ys n in_text_lem live_so noted found q t
+      module _ (ys : List ℕ) (n : Walk) (in_text_lem : r.index < length text)
+          (noted : Noted xs ys r.cursor.place r.cursor.top r.cursor.depth w.at r.element r.from r.index (get_or text r.index 0) n) where
+        pub leap_found : (found : Bool) → found ≡ is_mark n.mark → found ≡ true → Next text xs₀ ys w₀ n
+        leap_found found q t = walk_found text xs₀ w₀ xs (strode_to w r) r.index walk_strode ys n in_text_lem refl noted found q t
 
-      pub leap_more : (found : Bool) → found ≡ is_mark n.mark → found ≡ false → Walking text xs₀ w₀ ys n (r.index + 1)
-      leap_more found q t = walk_more text xs₀ w₀ xs r r.index walk_strode ys n in_text_lem live_so noted found q t
+        pub leap_more : (found : Bool) → found ≡ is_mark n.mark → found ≡ false → Walking text xs₀ w₀ ys n (r.index + 1)
+        leap_more found q t = walk_more text xs₀ w₀ xs (strode_to w r) r.index walk_strode ys n in_text_lem refl noted found q t
 
-      pub leap_less : length text - (r.index + 1) < length text - i
-      leap_less = let o = s.order in omega arith
+        pub leap_less : length text - (r.index + 1) < length text - i
+        leap_less = let o = s.order in omega arith

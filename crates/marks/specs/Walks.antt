@@ -11,7 +11,9 @@ use Rattle.grammar.specs.declared.Step.TheVariants as steps
 use Rattle.markup.specs.declared.Cursor.{Cursor}
 use Rattle.grammar.specs.Grammar.{attribute, is_char, step_of, dead, live}
 use Rattle.markup.specs.Growth.{word_at}
-use Rattle.markup.specs.Stack.{levels, state_at, state_of, Landed, by_advance, no_char}
+use Rattle.std.specs.declared.option.Option.{Option}
+use Rattle.std.specs.declared.option.Option.TheVariants.{Some, None}
+use Rattle.markup.specs.Stack.{levels, is_live, place_in, top_in, depth_in, state_at, state_of, Landed, by_advance, no_char}
 use Rattle.reading.specs.declared.Zone.{Zone}
 use Rattle.reading.specs.declared.Zone.TheVariants as zones
 use Rattle.marks.specs.declared.Mark.{Mark}
@@ -33,8 +35,8 @@ pub record Ordered (from i : ℕ) (m : Mark) : Type 0 where
 
 pub record Noted (xs ys : List ℕ) (p : Place) (t d at e from i b : ℕ) (r : Walk) : Type 0 where
   pub long : length ys ≡ length xs
-  pub deep : r.cursor.depth ≤ d + 1
-  pub word : word_at r.cursor.place ≤ word_at p + 1
+  pub deep : (depth_in r.cursor) ≤ d + 1
+  pub word : word_at (place_in r.cursor) ≤ word_at p + 1
   pub index_is : r.index ≡ i + 1
   pub begun : from ≤ i → r.from ≤ i + 1
   pub ordered : Ordered from i r.mark
@@ -44,8 +46,8 @@ pub record Noted (xs ys : List ℕ) (p : Place) (t d at e from i b : ℕ) (r : W
 pub record Standing (text xs : List ℕ) (w : Walk) : Type 0 where
   pub within : w.index ≤ length text
   pub short : length text ≤ 32768
-  pub deep : w.cursor.depth ≤ w.index
-  pub word : word_at w.cursor.place ≤ w.index
+  pub deep : (depth_in w.cursor) ≤ w.index
+  pub word : word_at (place_in w.cursor) ≤ w.index
   pub begun : w.from ≤ w.index
   pub room : length xs ≡ 32768
 
@@ -59,7 +61,7 @@ pub record Next (text xs ys : List ℕ) (w r : Walk) : Type 0 where
   pub first : value_from r.mark ≤ value_to r.mark
   pub quote : value_to r.mark ≤ length text
   pub told : Told text xs w.cursor w.index → Told text ys r.cursor r.index
-  pub over : is_mark r.mark ≡ false → r.cursor.live ≡ true → r.index ≡ length text
+  pub over : is_mark r.mark ≡ false → (is_live r.cursor) ≡ true → r.index ≡ length text
 
 dead_none : (bs : List ℕ) (at e from i : ℕ) → marks_from dead at e from i bs ≡ []
 unfolding marks_from
@@ -101,18 +103,18 @@ either_below false from i h = omega arith
 
 -- behind a byte that no text has
 abbrev pub fallen_at : ℕ → ℕ → ℕ → ℕ → Walk
-fallen_at at e from i = record { cursor = record { place = places.Content; top = 0; depth = 0; live = false }; at = at; element = e; from = from; index = i; mark = Nothing }
+fallen_at at e from i = record { cursor = None; at = at; element = e; from = from; index = i; mark = Nothing }
 
 pub note_none : (xs : List ℕ) (p : Place) (t d at e from i b : ℕ) (plain : Bool) → plain ≡ is_char b → not plain ≡ true → (r : Walk) → r ≡ fallen_at at e from (i + 1) → Noted xs xs p t d at e from i b r
 unfolding marks_from
 note_none xs p t d at e from i b plain f g r q =
     rw q
-    (record { long = refl; deep = omega arith; word = omega arith; index_is = refl; begun = λ h. omega arith; ordered = no_value from i Nothing refl refl; marks = λ bs. rw (sym f ∙ not-true plain g) (sym (dead_none bs at e from (i + 1))); told = λ text h l m k. told_step text i (live p t (levels xs d)) k l m xs (record { place = places.Content; top = 0; depth = 0; live = false }) b h (no_char xs p t d b (sym f ∙ not-true plain g)).steps })
+    (record { long = refl; deep = omega arith; word = omega arith; index_is = refl; begun = λ h. omega arith; ordered = no_value from i Nothing refl refl; marks = λ bs. rw (sym f ∙ not-true plain g) (sym (dead_none bs at e from (i + 1))); told = λ text h l m k. told_step text i (live p t (levels xs d)) k l m xs None b h (no_char xs p t d b (sym f ∙ not-true plain g)).steps })
 
 pub note_plain : (xs ys : List ℕ) (p : Place) (t d at e from i b : ℕ) (plain : Bool) → plain ≡ is_char b → not plain ≡ false →
     (s : Step) → s ≡ step_of p t b → (z : Zone) → z ≡ zone p → (y : Zone) → y ≡ landing s → (el : ℕ) → el ≡ element_in z e → (begun : Bool) → begun ≡ is_begun y →
     (at' : ℕ) → at' ≡ cond begun i at → (m : Mark) → m ≡ mark_of s z t at' el from i → (inside : Bool) → inside ≡ is_value z → (first : ℕ) → first ≡ cond inside from (i + 1) →
-    (c : Cursor) → Landed xs ys d s c → Noted xs ys p t d at e from i b (record { cursor = c; at = at'; element = el; from = first; index = i + 1; mark = m })
+    (c : Option Cursor) → Landed xs ys d s c → Noted xs ys p t d at e from i b (record { cursor = c; at = at'; element = el; from = first; index = i + 1; mark = m })
 unfolding marks_from
 note_plain xs ys p t d at e from i b plain f g s es z ez y ey el ee begun eb at' ea m em inside en first ef c l =
     let st = by_advance xs p t d b ys s c plain f g es l in
@@ -151,22 +153,19 @@ module _ (text xs₀ : List ℕ) (w₀ : Walk) (xs : List ℕ) (w : Walk) (i : �
   at_i : i < length text → drop i text ≡ get_or text i 0 ∷ drop (i + 1) text
   at_i h = drop-cons text i 0 h ∙ ap (λ (n : ℕ). get_or text i 0 ∷ drop n text) (sym (add-one i))
 
-  module _ (ys : List ℕ) (r : Walk) (in_text_lem : i < length text) (alive : not w.cursor.live ≡ false)
-      (n : Noted xs ys w.cursor.place w.cursor.top w.cursor.depth w.at w.element w.from i (get_or text i 0) r) where
+  module _ (ys : List ℕ) (r : Walk) (in_text_lem : i < length text) (alive : is_live w.cursor ≡ true)
+      (n : Noted xs ys (place_in w.cursor) (top_in w.cursor) (depth_in w.cursor) w.at w.element w.from i (get_or text i 0) r) where
     one : rest_of text xs₀ w₀ ≡ marked r.mark (rest_of text ys r)
     one =
         here ∙ ap (λ (l : List ℕ). marks_from (state_of xs w.cursor) w.at w.element w.from i l) (at_i in_text_lem) ∙
-        ap (λ (a : Bool). marks_from (state_at a w.cursor.place w.cursor.top (levels xs w.cursor.depth)) w.at w.element w.from i (get_or text i 0 ∷ drop (i + 1) text)) (not-false w.cursor.live alive) ∙
+        ap (λ (a : Bool). marks_from (state_at a (place_in w.cursor) (top_in w.cursor) (levels xs (depth_in w.cursor))) w.at w.element w.from i (get_or text i 0 ∷ drop (i + 1) text)) alive ∙
         n.marks (drop (i + 1) text) ∙
         ap (λ (j : ℕ). marked r.mark (marks_from (state_of ys r.cursor) r.at r.element r.from j (drop j text))) (sym n.index_is)
 
     told_so : Told text xs₀ w₀.cursor w₀.index → Told text ys r.cursor (i + 1)
     told_so t =
         n.told text refl in_text_lem (let q = k.index_is in let s = k.standing.short in omega arith)
-        (subst (λ (a : Bool). Reached text i (state_at a w.cursor.place w.cursor.top (levels xs w.cursor.depth))) lives ((k.told t).reached lives))
-      where
-        lives : w.cursor.live ≡ true
-        lives = not-false w.cursor.live alive
+        (subst (λ (a : Bool). Reached text i (state_at a (place_in w.cursor) (top_in w.cursor) (levels xs (depth_in w.cursor)))) alive ((k.told t).reached alive))
 
     behind : w.from ≤ i
     behind = let q = k.index_is in let b = k.standing.begun in omega arith
@@ -186,22 +185,22 @@ module _ (text xs₀ : List ℕ) (w₀ : Walk) (xs : List ℕ) (w : Walk) (i : �
   abbrev pub stay : Walk
   stay = record { cursor = w.cursor; at = w.at; element = w.element; from = w.from; index = i; mark = Nothing }
 
-  stays : rest_of text xs₀ w₀ ≡ [] → (w.cursor.live ≡ true → length text ≤ i) → Next text xs₀ xs w₀ stay
+  stays : rest_of text xs₀ w₀ ≡ [] → ((is_live w.cursor) ≡ true → length text ≤ i) → Next text xs₀ xs w₀ stay
   stays e l =
       let q = k.index_is in let dd = k.standing.deep in let ww = k.standing.word in let wi = k.standing.within in let bb = k.standing.begun in
       record { standing = record { within = omega arith; short = k.standing.short; deep = omega arith; word = omega arith; begun = omega arith; room = k.standing.room }; rest = here; none = λ f. e; first = omega arith; quote = omega arith; further = λ f. absurd (let z2 : ◌≡◌ {A = ℕ} 0 1 = cc in omega arith); told = k.told; over = λ f a. let b = l a in omega arith }
 
-  pub walk_dead : not w.cursor.live ≡ true → Next text xs₀ xs w₀ stay
+  pub walk_dead : is_live w.cursor ≡ false → Next text xs₀ xs w₀ stay
   walk_dead e =
-      stays (here ∙ ap (λ (a : Bool). marks_from (state_at a w.cursor.place w.cursor.top (levels xs w.cursor.depth)) w.at w.element w.from i (drop i text)) (not-true w.cursor.live e) ∙
+      stays (here ∙ ap (λ (a : Bool). marks_from (state_at a (place_in w.cursor) (top_in w.cursor) (levels xs (depth_in w.cursor))) w.at w.element w.from i (drop i text)) e ∙
       dead_none (drop i text) w.at w.element w.from i)
-      (λ a. absurd (let z : true ≡ false = sym a ∙ not-true w.cursor.live e in let z2 : ◌≡◌ {A = ℕ} 0 1 = cc in omega arith))
+      (λ a. absurd (let z : true ≡ false = sym a ∙ e in let z2 : ◌≡◌ {A = ℕ} 0 1 = cc in omega arith))
 
   pub walk_end : length text ≤ i → Next text xs₀ xs w₀ stay
   unfolding marks_from
   walk_end h = stays (here ∙ ap (λ (l : List ℕ). marks_from (state_of xs w.cursor) w.at w.element w.from i l) (drop_of_length-le text h)) (λ a. h)
 
-pub walk_ready : (text xs₀ : List ℕ) (w₀ : Walk) (xs : List ℕ) (w : Walk) (i : ℕ) → Walking text xs₀ w₀ xs w i → i < length text → (w.cursor.depth < length xs) × (word_at w.cursor.place < 65535) × (i < 32768)
+pub walk_ready : (text xs₀ : List ℕ) (w₀ : Walk) (xs : List ℕ) (w : Walk) (i : ℕ) → Walking text xs₀ w₀ xs w i → i < length text → ((depth_in w.cursor) < length xs) × (word_at (place_in w.cursor) < 65535) × (i < 32768)
 walk_ready text xs₀ w₀ xs w i k h =
     let q = k.index_is in let dd = k.standing.deep in let ww = k.standing.word in let ss = k.standing.short in let rr = k.standing.room in
     (omega arith, omega arith, omega arith)
@@ -209,7 +208,7 @@ walk_ready text xs₀ w₀ xs w i k h =
 -- ---- the whole walk
 
 abbrev pub beginning : Walk
-beginning = record { cursor = record { place = places.Content; top = 0; depth = 0; live = true }; at = 0; element = 48; from = 0; index = 0; mark = Nothing }
+beginning = record { cursor = Some (record { place = places.Content; top = 0; depth = 0 }); at = 0; element = 48; from = 0; index = 0; mark = Nothing }
 
 pub begin_stands : (text xs : List ℕ) → length text ≤ 32768 → length xs ≡ 32768 → Standing text xs beginning
 begin_stands text xs s l = record { within = omega arith; short = s; deep = omega arith; word = omega arith; begun = omega arith; room = l }

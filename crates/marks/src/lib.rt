@@ -5,7 +5,7 @@
 ghost use Rattle.std.specs.Prelude.{◌≡◌, cond, ◌<◌, length};
 ghost use Rattle.markup.specs.Growth.{word_at};
 ghost use Rattle.marks.specs.Marks.{slash_mark, end_mark, value_mark, mark_of, is_mark};
-ghost use Rattle.marks.specs.Strides.{Ready, moved_to, Strode, stopped_at};
+ghost use Rattle.marks.specs.Strides.{Ready, Strode, strode_to, stopped_at};
 ghost use Rattle.marks.specs.Walks.{beginning, fallen_at, Noted, Standing, Next};
 
 use crate::zones::{element_in, is_begun, is_calm, is_value, landing_of, zone_of};
@@ -19,6 +19,7 @@ pub mod zones;
 
 // Nothing; a value: its element, the word of its attribute, the offsets of its first byte and of its quote; a tag's end: the offset of its "<",
 // 0 for <x>, 1 for <x/>, 2 for </x>, and its element.
+// Kept: a match takes its three cases in one step, where an Option of a mark would nest them.
 #[derive(Clone, Copy)]
 pub enum Mark {
     Nothing,
@@ -26,10 +27,11 @@ pub enum Mark {
     Tagged(usize, u8, u8),
 }
 
-// Where the walk stands, beside the stack of levels: the last "<", the element, where a value begins, the next byte, and the mark that the last byte gave.
+// Where the walk stands, beside the stack of levels: its place, if a text of the grammar goes on so, the last "<", the element, where a value begins, the
+// next byte, and the mark that the last byte gave.
 #[derive(Clone, Copy)]
 pub struct Walk {
-    pub cursor: Cursor,
+    pub cursor: Option<Cursor>,
     pub at: usize,
     pub element: u8,
     pub from: usize,
@@ -42,12 +44,11 @@ pub fn begin() -> Walk
     ensures { result ≡ beginning }
 {
     Walk {
-        cursor: Cursor {
+        cursor: Some(Cursor {
             place: Place::Content,
             top: 0,
             depth: 0,
-            live: true,
-        },
+        }),
         at: 0,
         element: 48,
         from: 0,
@@ -62,8 +63,8 @@ fn end_mark(s: Step, z: Zone, t: u8, at: usize, e: u8) -> Mark
 {
     match s {
         Step::Fault => Mark::Nothing,
-        Step::Go(p, u) => slash_mark(z, at, e),
-        Step::Open(u, v) => Mark::Tagged(at, 0, e),
+        Step::Go(_, _) => slash_mark(z, at, e),
+        Step::Open(_, _) => Mark::Tagged(at, 0, e),
         Step::Shut => Mark::Tagged(at, 2, owner_of(t)),
     }
 }
@@ -73,11 +74,8 @@ fn slash_mark(z: Zone, at: usize, e: u8) -> Mark
     ensures { result ≡ slash_mark z at e }
 {
     match z {
-        Zone::Outside => Mark::Nothing,
-        Zone::Begun => Mark::Nothing,
-        Zone::InTag(d) => Mark::Nothing,
-        Zone::InValue(d, j) => Mark::Nothing,
         Zone::Slash => Mark::Tagged(at, 1, e),
+        _ => Mark::Nothing,
     }
 }
 
@@ -86,11 +84,8 @@ fn mark_of(s: Step, z: Zone, t: u8, at: usize, e: u8, from: usize, i: usize) -> 
     ensures { result ≡ mark_of s z t at e from i }
 {
     match z {
-        Zone::Outside => end_mark(s, z, t, at, e),
-        Zone::Begun => end_mark(s, z, t, at, e),
-        Zone::InTag(d) => end_mark(s, Zone::InTag(d), t, at, e),
         Zone::InValue(d, j) => value_mark(landing_of(s), d, j, from, i),
-        Zone::Slash => end_mark(s, z, t, at, e),
+        _ => end_mark(s, z, t, at, e),
     }
 }
 
@@ -98,8 +93,7 @@ fn mark_of(s: Step, z: Zone, t: u8, at: usize, e: u8, from: usize, i: usize) -> 
 fn value_mark(y: Zone, d: u8, j: u8, from: usize, i: usize) -> Mark
     ensures { result ≡ value_mark y d j from i }
 {
-    let inside = is_value(y);
-    if inside {
+    if is_value(y) {
         return Mark::Nothing;
     }
     Mark::Valued(d, attribute_of(d, j), from, i)
@@ -120,12 +114,7 @@ fn fallen(at: usize, element: u8, from: usize, index: usize) -> Walk
     ensures { result ≡ fallen_at at element from index }
 {
     Walk {
-        cursor: Cursor {
-            place: Place::Content,
-            top: 0,
-            depth: 0,
-            live: false,
-        },
+        cursor: None,
         at,
         element,
         from,
@@ -150,8 +139,7 @@ fn note_byte(
     ensures { Noted stack.old stack.new place top depth at element from i b result }
 {
     let next = i + 1;
-    let plain = is_char(b);
-    if !plain {
+    if !is_char(b) {
         return fallen(at, element, from, next);
     }
     let s = advance(place, top, b);
@@ -177,66 +165,72 @@ fn note_byte(
 pub fn is_mark(m: Mark) -> bool
     ensures { result ≡ is_mark m }
 {
-    match m {
-        Mark::Nothing => false,
-        Mark::Valued(e, w, a, b) => true,
-        Mark::Tagged(a, s, e) => true,
-    }
+    !matches!(m, Mark::Nothing)
 }
 
-// The walk in another place of its zone.
-fn moved(w: Walk, place: Place, top: u8, element: u8, from: usize, index: usize) -> Walk
-    ensures { result ≡ moved_to w place top element from index }
+// Where a walk comes to by the bytes that lead on inside a zone.
+#[derive(Clone, Copy)]
+struct Strided {
+    cursor: Cursor,
+    element: u8,
+    from: usize,
+    index: usize,
+}
+
+// From the cursor at i, in an element and with a value that begins at `from`.
+fn stride(text: &[u8], cursor: Cursor, element: u8, from: usize, i: usize) -> Strided
+    requires { Ready text.now cursor i }
+    ensures { Strode text.now cursor element from i result }
 {
-    let c = w.cursor;
-    let cursor = Cursor {
-        place,
-        top,
-        depth: c.depth,
-        live: true,
-    };
-    Walk {
+    let z = zone_of(cursor.place);
+    let still = Strided {
         cursor,
-        at: w.at,
         element,
         from,
-        index,
-        mark: Mark::Nothing,
+        index: i,
+    };
+    if !is_calm(z) {
+        return still;
+    }
+    let l = leap_from(text, text.len(), cursor.place, cursor.top, i);
+    if l.index <= i {
+        return still;
+    }
+    let e = element_in(z, element);
+    let first = either(is_value(z), from, l.index);
+    let behind = Cursor {
+        place: l.place,
+        top: l.top,
+        depth: cursor.depth,
+    };
+    Strided {
+        cursor: behind,
+        element: e,
+        from: first,
+        index: l.index,
     }
 }
 
-// The walk that stands at i, behind the bytes that lead on inside the zone.
-fn stride(text: &[u8], w: Walk, i: usize) -> Walk
-    requires { Ready text.now w i }
-    ensures { Strode text.now w i result }
+// The walk that has found no mark behind a stride.
+fn strode(w: Walk, s: Strided) -> Walk
+    ensures { result ≡ strode_to w s }
 {
-    let c = w.cursor;
-    let place = c.place;
-    let top = c.top;
-    let z = zone_of(place);
-    let calm = is_calm(z);
-    if !calm {
-        return moved(w, place, top, w.element, w.from, i);
+    Walk {
+        cursor: Some(s.cursor),
+        at: w.at,
+        element: s.element,
+        from: s.from,
+        index: s.index,
+        mark: Mark::Nothing,
     }
-    let l = leap_from(text, text.len(), place, top, i);
-    let j = l.index;
-    if j <= i {
-        return moved(w, place, top, w.element, w.from, i);
-    }
-    let e = element_in(z, w.element);
-    let inside = is_value(z);
-    let first = either(inside, w.from, j);
-    let p = l.place;
-    moved(w, p, l.top, e, first, j)
 }
 
 // The walk that stands at i and has found no mark.
 fn stopped(w: Walk, i: usize) -> Walk
     ensures { result ≡ stopped_at w i }
 {
-    let c = w.cursor;
     Walk {
-        cursor: c,
+        cursor: w.cursor,
         at: w.at,
         element: w.element,
         from: w.from,
@@ -252,29 +246,21 @@ pub fn next_mark(text: &[u8], stack: &mut [u8], walk: Walk) -> Walk
 {
     let mut w = walk;
     let mut i = walk.index;
+    // Kept: the index goes on by a stride and a byte at a time, which no `for` over a range does.
     while i < text.len() {
-        let c = w.cursor;
-        let live = c.live;
-        if !live {
+        let Some(cursor) = w.cursor else {
             return stopped(w, i);
-        }
-        let s = stride(text, w, i);
+        };
+        let s = stride(text, cursor, w.element, w.from, i);
         let j = s.index;
         if text.len() <= j {
-            return stopped(s, j);
+            return strode(w, s);
         }
-        let behind = s.cursor;
-        let at = s.at;
-        let element = s.element;
-        let from = s.from;
-        let place = behind.place;
-        let top = behind.top;
-        let depth = behind.depth;
-        let b = text[j];
-        let next = note_byte(stack, place, top, depth, at, element, from, j, b);
-        let m = next.mark;
-        let found = is_mark(m);
-        if found {
+        let c = s.cursor;
+        let next = note_byte(
+            stack, c.place, c.top, c.depth, w.at, s.element, s.from, j, text[j],
+        );
+        if is_mark(next.mark) {
             return next;
         }
         w = next;

@@ -10,25 +10,18 @@ pub fn zone_of(p: Place) -> Zone
     ensures { result ≡ zone p }
 {
     match p {
-        Place::Content => Zone::Outside,
         Place::Less => Zone::Begun,
-        Place::Bang => Zone::Outside,
-        Place::Dash => Zone::Outside,
-        Place::Comment => Zone::Outside,
-        Place::CommentDash => Zone::Outside,
-        Place::CommentEnd => Zone::Outside,
-        Place::Name(w, k) => Zone::InTag(w),
-        Place::Tag(e, x) => Zone::InTag(e),
-        Place::Space(e, x) => Zone::InTag(e),
-        Place::Attribute(e, x, j, k) => Zone::InTag(e),
-        Place::Equals(e, x, j) => Zone::InTag(e),
-        Place::Quote(e, x, j) => Zone::InTag(e),
-        Place::Value(e, x, j, q, v) => Zone::InValue(e, j),
-        Place::Ampersand(e, x, j, q) => Zone::InValue(e, j),
-        Place::Entity(e, x, j, q, w, k) => Zone::InValue(e, j),
         Place::Slash => Zone::Slash,
-        Place::End(k) => Zone::Outside,
-        Place::Close => Zone::Outside,
+        Place::Name(e, _)
+        | Place::Tag(e, _)
+        | Place::Space(e, _)
+        | Place::Attribute(e, _, _, _)
+        | Place::Equals(e, _, _)
+        | Place::Quote(e, _, _) => Zone::InTag(e),
+        Place::Value(e, _, j, _, _)
+        | Place::Ampersand(e, _, j, _)
+        | Place::Entity(e, _, j, _, _, _) => Zone::InValue(e, j),
+        _ => Zone::Outside,
     }
 }
 
@@ -37,35 +30,21 @@ pub fn landing_of(s: Step) -> Zone
     ensures { result ≡ landing s }
 {
     match s {
-        Step::Fault => Zone::Outside,
-        Step::Go(p, u) => zone_of(p),
-        Step::Open(u, v) => Zone::Outside,
-        Step::Shut => Zone::Outside,
+        Step::Go(p, _) => zone_of(p),
+        _ => Zone::Outside,
     }
 }
 
 pub fn is_begun(z: Zone) -> bool
     ensures { result ≡ is_begun z }
 {
-    match z {
-        Zone::Outside => false,
-        Zone::Begun => true,
-        Zone::InTag(e) => false,
-        Zone::InValue(e, j) => false,
-        Zone::Slash => false,
-    }
+    matches!(z, Zone::Begun)
 }
 
 pub fn is_value(z: Zone) -> bool
     ensures { result ≡ is_value z }
 {
-    match z {
-        Zone::Outside => false,
-        Zone::Begun => false,
-        Zone::InTag(e) => false,
-        Zone::InValue(e, j) => true,
-        Zone::Slash => false,
-    }
+    matches!(z, Zone::InValue(_, _))
 }
 
 // The element that the place is in, or the one known before.
@@ -73,11 +52,8 @@ pub fn element_in(z: Zone, d: u8) -> u8
     ensures { result ≡ element_in z d }
 {
     match z {
-        Zone::Outside => d,
-        Zone::Begun => d,
-        Zone::InTag(e) => e,
-        Zone::InValue(e, j) => e,
-        Zone::Slash => d,
+        Zone::InTag(e) | Zone::InValue(e, _) => e,
+        _ => d,
     }
 }
 
@@ -85,11 +61,5 @@ pub fn element_in(z: Zone, d: u8) -> u8
 pub fn is_calm(z: Zone) -> bool
     ensures { result ≡ is_calm z }
 {
-    match z {
-        Zone::Outside => true,
-        Zone::Begun => false,
-        Zone::InTag(e) => true,
-        Zone::InValue(e, j) => true,
-        Zone::Slash => false,
-    }
+    !matches!(z, Zone::Begun | Zone::Slash)
 }

@@ -1,14 +1,16 @@
 -- A pass over the text: what is left of the definition equals the whole.
 use Rattle.std.proofs.Math.Path.{◌≡◌, refl, sym, ap}
 use Rattle.std.proofs.Common.{◌∙◌, add-one, drop_of_length-le, drop-cons, get_or-take, le-leb}
-use Rattle.std.specs.Prelude.{Bool, ◌&&◌, eqb, leb, length, get_or, take, drop}
+use Rattle.std.specs.Prelude.{Bool, ◌&&◌, cond, eqb, leb, length, get_or, take, drop}
 use Rattle.std.proofs.Math.Bool.{true, false}
 use mathlib.Core.List.{List, [], ◌∷◌}
 use Prim.Native.Nat.{ℕ, suc, ◌+◌, ◌≤◌, ◌<◌}
 use native.Mathlib.Omega.{arith}
 use Rattle.std.proofs.Math.ListN.{length-take}
 use Rattle.grammar.specs.declared.Place.{Place}
-use Rattle.markup.specs.declared.Scanned.{Scanned}
+use Rattle.markup.specs.declared.Fault.{Fault}
+use Rattle.std.specs.declared.result.Result.{Result}
+use Rattle.std.specs.declared.result.Result.TheVariants.{Ok, Err}
 use Rattle.grammar.specs.Grammar.{State, dead, live, next, run, start, is_content, accepts, is_text, is_dead, live_bytes, grammar_fault, in_grammar}
 
 pub record Reached (text : List ℕ) (i : ℕ) (s : State) : Type 0 where
@@ -75,10 +77,11 @@ module _ (text : List ℕ) (i : ℕ) (s : State) (r : Reached text i s) where
   unfolding in_grammar run
   end_whole w h u e = e ∙ sym (rw (le-leb (length text) 32768 (omega arith), r.judged) (ap (λ (l : List ℕ). accepts (run s l)) (drop_of_length-le text h)))
 
-pub record Found (text : List ℕ) (at : ℕ) (whole : Bool) : Type 0 where
-  pub first : at ≡ grammar_fault text
-  pub is_whole : whole ≡ in_grammar text
+-- a text is of the grammar, and then no byte of it is a fault; or the first fault stands at an offset
+abbrev pub Found : List ℕ → Result (Unit {0}) Fault → Type 0
+Found text (Ok u) = (length text ≡ grammar_fault text) × (true ≡ in_grammar text)
+Found text (Err f) = (f.at ≡ grammar_fault text) × (false ≡ in_grammar text)
 
 -- what is known once the bytes before i are read, of n
-unfoldable pub finished : ℕ → Place → ℕ → ℕ → Scanned
-finished n p t i = record { at = i; whole = leb n i && (is_content p && eqb t 1) }
+unfoldable pub finished : ℕ → Place → ℕ → ℕ → Result (Unit {0}) Fault
+finished n p t i = cond (leb n i && is_content p && eqb t 1) (Ok (tt {0})) (Err (record { at = i }))

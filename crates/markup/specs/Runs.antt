@@ -75,6 +75,9 @@ module _ (f : ℕ → Bool) (text : List ℕ) (end i : ℕ) where
   pub ran_more : (j : ℕ) → Ran f text end i j → j < end → (is : Bool) → is ≡ f (get_or text j 0) → not is ≡ false → Ran f text end i (j + 1)
   ran_more j r h is e q = record { run = run_more f text i j r.run (sym e ∙ not-false is q); ends = ends_more text end j r.ends h }
 
+  pub ran_end : (j : ℕ) → Ran f text end i j → end ≤ j → Ran f text end i end
+  ran_end j r h = subst (λ (k : ℕ). Ran f text end i k) (let b = r.ends.before in omega arith) r
+
   pub ran_then : (j k : ℕ) → Ran f text end i j → Ran f text end j k → Ran f text end i k
   ran_then j k a b = record { run = run_then f text i j k a.run b.run; ends = b.ends }
 
@@ -222,7 +225,13 @@ module _ (text : List ℕ) (end w k i n j : ℕ) (s : Worded text end w k i n j)
         closes = λ t q. on {q' = End (n + 1)} {u' = t} (s.closes t q) (record { in_text_lem = in_text_lem; plain = is_char_lem; from_zone = refl; steps = rw (q, same) refl; to_zone = refl });
       }
 
+pub word_done : (text : List ℕ) (end w k i n j : ℕ) → Worded text end w k i n j → end ≤ j → Worded text end w k i n end
+word_done text end w k i n j s h = subst (λ (m : ℕ). Worded text end w k i n m) (let b = s.ends.before in omega arith) s
+
 -- ---- values
+
+pub value_done : (text : List ℕ) (end e a q v i u j : ℕ) → Went text end e a q v i u j → end ≤ j → Went text end e a q v i u end
+value_done text end e a q v i u j s h = subst (λ (m : ℕ). Went text end e a q v i u m) (let b = s.ends.before in omega arith) s
 
 pub value_start : (text : List ℕ) (end e a q v i : ℕ) → Ends text end i → Went text end e a q v i v i
 value_start text end e a q v i h = record { ends = h; order = omega arith; value = λ x t. stay }

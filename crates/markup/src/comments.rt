@@ -10,8 +10,7 @@ use grammar::{Place, Step};
 pub fn inner_step(p: Place, t: u8, b: u8) -> Step
     ensures { result ≡ cond (eqb b 45) (Go p t) (Go Comment t) }
 {
-    let dash = b == 45;
-    if dash {
+    if b == b'-' {
         return Step::Go(p, t);
     }
     Step::Go(Place::Comment, t)
@@ -21,8 +20,7 @@ pub fn inner_step(p: Place, t: u8, b: u8) -> Step
 pub fn dashes_step(t: u8, b: u8) -> Step
     ensures { result ≡ only 62 Content t b }
 {
-    let closes = b == 62;
-    if closes {
+    if b == b'>' {
         return Step::Go(Place::Content, t);
     }
     Step::Fault

@@ -178,30 +178,18 @@ pub fn leap_from(text: &[u8], end: usize, place: Place, top: u8, i: usize) -> Le
     requires { Ends text.now end i × (word_at place ≤ i) }
     ensures { Leapt text.now end (zone place) place top i result }
 {
-    let still = Leap {
-        place,
-        top,
-        index: i,
-    };
     match place {
         Place::Content => content_leap(text, end, top, i),
-        Place::Less => still,
-        Place::Bang => still,
-        Place::Dash => still,
         Place::Comment => comment_leap(text, end, top, i),
-        Place::CommentDash => still,
-        Place::CommentEnd => still,
         Place::Name(w, k) => name_leap(text, end, w, k, top, i),
         Place::Tag(e, x) => tag_leap(text, end, e, x, top, i),
         Place::Space(e, x) => space_leap(text, end, e, x, top, i),
-        Place::Attribute(e, x, j, k) => still,
-        Place::Equals(e, x, j) => still,
-        Place::Quote(e, x, j) => still,
         Place::Value(e, x, j, q, v) => value_leap(text, end, e, x, j, q, v, top, i),
-        Place::Ampersand(e, x, j, q) => still,
-        Place::Entity(e, x, j, q, w, k) => still,
-        Place::Slash => still,
         Place::End(k) => end_leap(text, end, k, top, i),
-        Place::Close => still,
+        _ => Leap {
+            place,
+            top,
+            index: i,
+        },
     }
 }

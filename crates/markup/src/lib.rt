@@ -16,13 +16,12 @@ mod runs;
 mod tags;
 mod values;
 
-// Where a text has come to, beside the stack of levels.
+// Where a text of the grammar has come to, beside the stack of levels.
 #[derive(Clone, Copy)]
 pub struct Cursor {
     pub place: Place,
     pub top: u8,
     pub depth: usize,
-    pub live: bool,
 }
 
 // One byte at any place.
@@ -61,46 +60,37 @@ pub fn advance(p: Place, t: u8, b: u8) -> Step
     }
 }
 
-// Where a step leads, with the stack of levels as it then is.
-pub fn moved_to(stack: &mut [u8], depth: usize, s: Step) -> Cursor
+// Where a step leads, if to any place, with the stack of levels as it then is.
+pub fn moved_to(stack: &mut [u8], depth: usize, s: Step) -> Option<Cursor>
     requires { depth < length stack.old }
     ensures { Landed stack.old stack.new depth s result }
 {
-    let none = Cursor {
-        place: Place::Content,
-        top: 0,
-        depth: 0,
-        live: false,
-    };
     match s {
-        Step::Fault => none,
-        Step::Go(p, t) => Cursor {
+        Step::Fault => None,
+        Step::Go(p, t) => Some(Cursor {
             place: p,
             top: t,
             depth,
-            live: true,
-        },
+        }),
         Step::Open(u, v) => {
             stack[depth] = u;
-            Cursor {
+            Some(Cursor {
                 place: Place::Content,
                 top: v,
                 depth: depth + 1,
-                live: true,
-            }
+            })
         }
         Step::Shut => {
             if depth == 0 {
-                return none;
+                return None;
             }
             let at = depth - 1;
             let t = stack[at];
-            Cursor {
+            Some(Cursor {
                 place: Place::Content,
                 top: t,
                 depth: at,
-                live: true,
-            }
+            })
         }
     }
 }
@@ -109,42 +99,21 @@ pub fn moved_to(stack: &mut [u8], depth: usize, s: Step) -> Cursor
 fn is_content(p: Place) -> bool
     ensures { result ≡ is_content p }
 {
-    match p {
-        Place::Content => true,
-        Place::Less => false,
-        Place::Bang => false,
-        Place::Dash => false,
-        Place::Comment => false,
-        Place::CommentDash => false,
-        Place::CommentEnd => false,
-        Place::Name(w, k) => false,
-        Place::Tag(e, x) => false,
-        Place::Space(e, x) => false,
-        Place::Attribute(e, x, j, k) => false,
-        Place::Equals(e, x, j) => false,
-        Place::Quote(e, x, j) => false,
-        Place::Value(e, x, j, q, v) => false,
-        Place::Ampersand(e, x, j, q) => false,
-        Place::Entity(e, x, j, q, w, k) => false,
-        Place::Slash => false,
-        Place::End(k) => false,
-        Place::Close => false,
-    }
+    matches!(p, Place::Content)
 }
 
-// The first fault of a text that is not of the grammar, and whether it is of the grammar.
-#[derive(Clone, Copy)]
-pub struct Scanned {
+// The offset of the first fault of a text.
+#[derive(Clone, Copy, PartialEq, Eq)]
+pub struct Fault {
     pub at: usize,
-    pub whole: bool,
 }
 
-// The bytes before i are read, of n.
-pub fn finish(n: usize, place: Place, top: u8, i: usize) -> Scanned
+// The bytes before i are read, of n: is the text of the grammar.
+pub fn finish(n: usize, place: Place, top: u8, i: usize) -> Result<(), Fault>
     ensures { result ≡ finished n place top i }
 {
-    let all = n <= i;
-    let between = is_content(place);
-    let whole = all & (between & (top == 1));
-    Scanned { at: i, whole }
+    if (n <= i) & is_content(place) & (top == 1) {
+        return Ok(());
+    }
+    Err(Fault { at: i })
 }

@@ -20,41 +20,36 @@ pub struct ValueEnd {
     pub index: usize,
 }
 
+// Kept: two loops that differ in the test, this and comment_rest: with the test as a parameter the contract would need a law for what it computes.
 pub fn spaces_end(text: &[u8], end: usize, i: usize) -> usize
     requires { Ends text.now end i }
     ensures { Ran is_space text.now end i result }
 {
-    let mut j = i;
-    while j < end {
-        let space = is_space(text[j]);
-        if !space {
+    for j in i..end {
+        if !is_space(text[j]) {
             return j;
         }
-        j += 1;
     }
-    j
+    end
 }
 
 // A byte of a comment but the dash.
 fn in_comment(b: u8) -> bool
     ensures { result ≡ in_comment b }
 {
-    is_char(b) & !(b == 45)
+    is_char(b) & (b != b'-')
 }
 
 fn comment_rest(text: &[u8], end: usize, i: usize) -> usize
     requires { Ends text.now end i }
     ensures { Ran in_comment text.now end i result }
 {
-    let mut j = i;
-    while j < end {
-        let inside = in_comment(text[j]);
-        if !inside {
+    for j in i..end {
+        if !in_comment(text[j]) {
             return j;
         }
-        j += 1;
     }
-    j
+    end
 }
 
 // Are there 32 bytes from i on, all inside a comment: no way out in between, so that the compiler reads them by vectors.
@@ -67,11 +62,9 @@ fn all_in_comment(text: &[u8], end: usize, i: usize) -> bool
         return false;
     }
     let mut all = true;
-    let mut k = 0;
-    while k < 32 {
+    for k in 0..32 {
         let inside = in_comment(text[i + k]);
         all = all & inside;
-        k += 1;
     }
     all
 }
@@ -80,6 +73,7 @@ pub fn comment_end(text: &[u8], end: usize, i: usize) -> usize
     requires { Ends text.now end i }
     ensures { Ran in_comment text.now end i result }
 {
+    // Kept: steps of 32 whose rest another loop reads; after a `for` with step_by the index would be lost.
     let mut j = i;
     while j < end {
         let all = all_in_comment(text, end, j);
@@ -104,17 +98,17 @@ pub fn word_end(text: &[u8], end: usize, w: u8, k: u16, i: usize) -> WordEnd
     requires { Ends text.now end i × (k ≤ i) }
     ensures { Worded text.now end w k i result.read result.index }
 {
-    let mut j = i;
     let mut n = k;
-    while j < end {
-        let same = is_letter(w, n, text[j]);
-        if !same {
+    for j in i..end {
+        if !is_letter(w, n, text[j]) {
             return WordEnd { read: n, index: j };
         }
-        j += 1;
         n += 1;
     }
-    WordEnd { read: n, index: j }
+    WordEnd {
+        read: n,
+        index: end,
+    }
 }
 
 // The state of a value behind one more byte, 5 where the byte ends it, begins an entity or may not stand there.
@@ -137,16 +131,16 @@ pub fn value_end(text: &[u8], end: usize, e: u8, a: u8, q: u8, v: u8, i: usize) 
     ensures { Went text.now end e a q v i result.state result.index }
 {
     let kind = kind_of(e, a);
-    let mut j = i;
     let mut u = v;
-    while j < end {
-        let b = text[j];
-        let next = value_next(kind, q, u, b);
+    for j in i..end {
+        let next = value_next(kind, q, u, text[j]);
         if next == 5 {
             return ValueEnd { state: u, index: j };
         }
         u = next;
-        j += 1;
     }
-    ValueEnd { state: u, index: j }
+    ValueEnd {
+        state: u,
+        index: end,
+    }
 }

@@ -21,6 +21,7 @@ pub fn quote_step(e: u8, x: u8, j: u8, t: u8, b: u8) -> Step
 }
 
 // The state of a value of names behind one more byte, or 5.
+// Kept: states, kinds and words are the numbers of the definition (Rattle.grammar.specs.Grammar.name_step).
 pub fn of_names(kind: u8, v: u8, b: u8) -> u8
     ensures { result ≡ name_step kind v b }
 {

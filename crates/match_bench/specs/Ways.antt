@@ -4,6 +4,7 @@ use Rattle.std.proofs.Math.Path.{refl, sym}
 use Rattle.std.proofs.Common.{◌∙◌, eq-eqb, ne_eqb}
 use Rattle.std.proofs.Math.Bool.{true, false}
 use native.Mathlib.Omega.{arith}
+use Rattle.std.specs.Int.{from_bool}
 use Rattle.definition.specs.Rows.{from, any}
 use Rattle.definition.specs.Names.{matches, before_zero}
 use Rattle.onepass.specs.Pass.{slot_in}
@@ -16,6 +17,11 @@ slot_matches slots event k = matches_in slots event (k * 64)
 -- 1 if any of four matches, 0 if none does, 2 if these are not four slots
 unfoldable pub answer : List ℕ → List ℕ → ℕ
 answer slots event = cond (eqb (length slots) 256) (cond (any (slot_matches slots event) (from 4 0)) 1 0) 2
+
+-- a test as a number
+pub one_or_none : (b : Bool) (n : ℕ) → n ≡ from_bool b → n ≡ cond b 1 0
+one_or_none true n e = e
+one_or_none false n e = e
 
 module _ (slots event : List ℕ) where
   pub answer_other : (length slots ≡ 256 → ⊥) → 2 ≡ answer slots event

@@ -2,7 +2,7 @@
 // the test that counts how often a name is read; no part of the library.
 #![tactic(auto)]
 
-ghost use Rattle.std.specs.Prelude.{◌≡◌, cond, ◌<◌, length};
+ghost use Rattle.std.specs.Prelude.{◌≡◌, ◌<◌, length};
 ghost use Rattle.definition.specs.Rows.{from, any};
 ghost use Rattle.match_bench.specs.Ways.{slot_matches, answer};
 
@@ -11,15 +11,6 @@ use onepass::Places;
 const SLOTS: usize = 4;
 
 const SLOT: usize = 64;
-
-fn number(yes: bool) -> u32
-    ensures { result ≡ cond yes 1 0 }
-{
-    if yes {
-        return 1;
-    }
-    0
-}
 
 // ---- one pass
 
@@ -37,7 +28,7 @@ pub extern "C" fn match_bench_one_pass(slots: &[u8], event: &[u8]) -> u32
         third: 2 * SLOT,
         fourth: 3 * SLOT,
     };
-    number(onepass::any_matches(slots, at, event))
+    u32::from(onepass::any_matches(slots, at, event))
 }
 
 // ---- one after the other
@@ -55,12 +46,10 @@ fn any_one_by_one(slots: &[u8], event: &[u8]) -> bool
     requires { length slots.now ≡ 256 }
     ensures { result ≡ any (slot_matches slots.now event.now) (from 4 0) }
 {
-    let mut k = 0;
-    while k < SLOTS {
+    for k in 0..SLOTS {
         if matches_in(slots, k, event) {
             return true;
         }
-        k += 1;
     }
     false
 }
@@ -73,5 +62,5 @@ pub extern "C" fn match_bench_one_by_one(slots: &[u8], event: &[u8]) -> u32
     if slots.len() != SLOTS * SLOT {
         return 2;
     }
-    number(any_one_by_one(slots, event))
+    u32::from(any_one_by_one(slots, event))
 }

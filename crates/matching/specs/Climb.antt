@@ -12,12 +12,13 @@ use Rattle.definition.specs.Chart.{Chart, Names, parent}
 use Rattle.definition.specs.Tree.{ancestors}
 use Rattle.follower.specs.Selection.{is_match, transitions_of, choice}
 use Rattle.accepted.specs.Tree.{ancestors_on, ancestors_top}
-use Rattle.matching.specs.declared.Choice.{Choice}
-use Rattle.matching.specs.declared.Choice.TheVariants.{Nothing, Of}
+use Rattle.numbers.specs.declared.Transition.{Transition}
+use Rattle.std.specs.declared.option.Option as program
+use Rattle.std.specs.declared.option.Option.TheVariants.{None, Some}
 
-abbrev pub choice_of : Choice → Option ℕ
-choice_of Nothing = none
-choice_of (Of t) = some t.0
+abbrev pub choice_of : program.Option Transition → Option ℕ
+choice_of None = none
+choice_of (Some t) = some t.0
 
 module _ (c : Chart) (names : Names) (conf : List ℕ) (event : Option Name) where
   -- the choice of the transitions from t to before e, and of those of the ancestors of row a

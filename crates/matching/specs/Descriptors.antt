@@ -7,7 +7,7 @@ use Rattle.follower.specs.Selection.{matches_at}
 use Rattle.laws.specs.Bools.{or_false}
 use Rattle.tables.specs.Ranges.{NamesIn}
 use Rattle.chart.specs.Ready.{CompiledWith}
-use Rattle.onepass.specs.declared.Places.{Places}
+use Rattle.onepass.specs.declared.Four.{Four}
 use Rattle.onepass.specs.Pass.{slot_in}
 use Rattle.onepass.specs.Four.{Inside, matches_in}
 
@@ -39,7 +39,7 @@ module _ (chart ds : List ℕ) (k n : ℕ) where
   unfolding or_first
   place_first h e l = place chart ds k n (rw (le-ltb k (length ds) h) e) l
 
-pub places_inside : (chart names ds : List ℕ) (at : Places) → CompiledWith chart names →
+pub places_inside : (chart names ds : List ℕ) (at : Four ℕ) → CompiledWith chart names →
     PlaceOf chart ds 0 at.first → PlaceOf chart ds 1 at.second → PlaceOf chart ds 2 at.third → PlaceOf chart ds 3 at.fourth → Inside names at
 places_inside chart names ds at h a b c d = record { first = fits _ a; second = fits _ b; third = fits _ c; fourth = fits _ d }
   where
@@ -83,7 +83,7 @@ any_or_first p (a ∷ b ∷ c ∷ d ∷ []) h l = go (p a) (p b) (p c) (p d)
     go false false false false = refl
 any_or_first p (a ∷ b ∷ c ∷ d ∷ e ∷ ds) h l = absurd (omega arith)
 
-pub any_by_places : (chart names event ds : List ℕ) (at : Places) (b : Bool) → SomeDescriptors chart names ds →
+pub any_by_places : (chart names event ds : List ℕ) (at : Four ℕ) (b : Bool) → SomeDescriptors chart names ds →
     PlaceOf chart ds 0 at.first → PlaceOf chart ds 1 at.second → PlaceOf chart ds 2 at.third → PlaceOf chart ds 3 at.fourth →
     b ≡ (matches_in names event at.first || matches_in names event at.second || matches_in names event at.third || matches_in names event at.fourth) →
     b ≡ any (matches_at (name_at names) event) ds

@@ -3,8 +3,7 @@ ghost use Rattle.std.specs.Prelude.{◌≡◌};
 ghost use Rattle.matching.specs.Climb.{choice_of};
 ghost use Rattle.matching.specs.Choosers.{NoteReady, Noted};
 
-use crate::Choice;
-use numbers::Row;
+use numbers::{Row, Transition};
 
 // The lent items have a place for each of at most 256 transitions in order; behind those, at 256 + t, one for the row that chose transition t.
 pub const CHOOSERS: usize = 256;
@@ -12,11 +11,11 @@ pub const CHOOSERS: usize = 256;
 pub const ITEMS: usize = 768;
 
 // A choice that no row before i has made joins the first len items, and its place says that row i made it: how many they are then.
-pub fn note_choice(items: &mut [u16], len: usize, choice: Choice, i: Row) -> usize
+pub fn note_choice(items: &mut [u16], len: usize, choice: Option<Transition>, i: Row) -> usize
     requires { NoteReady items.old len (choice_of choice) }
     ensures { Noted items.old len (choice_of choice) i.0 items.new result }
 {
-    let Choice::Of(t) = choice else {
+    let Some(t) = choice else {
         return len;
     };
     let at = CHOOSERS + t.0 as usize;

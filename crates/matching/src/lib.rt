@@ -23,8 +23,8 @@ pub use choosers::{CHOOSERS, ITEMS};
 use numbers::{NameNumber, Row, Transition};
 use onepass::Places;
 pub use rows::{atomic_rows, eventless_rows, history_rows};
-use rowset::{Found, RowSet};
-use tables::{Condition, limits};
+use rowset::RowSet;
+use tables::limits;
 
 pub mod choosers;
 pub mod rows;
@@ -46,9 +46,9 @@ fn place_of(chart: &[u64], descriptors: &[u64], k: usize) -> usize
     ensures { PlaceOf chart.now descriptors.now k result }
 {
     if k < descriptors.len() {
-        return numbers::name_index(tables::name_at(chart, descriptors, k)) * limits::SLOT_SIZE;
+        return usize::from(tables::name_at(chart, descriptors, k)) * limits::SLOT_SIZE;
     }
-    numbers::name_index(tables::name_at(chart, descriptors, 0)) * limits::SLOT_SIZE
+    usize::from(tables::name_at(chart, descriptors, 0)) * limits::SLOT_SIZE
 }
 
 // Whether any of a transition's descriptors matches, by one pass over the event. Fewer than four lend the first once more, which changes nothing.
@@ -83,12 +83,12 @@ pub fn is_triggered(chart: &[u64], names: &[u8], t: Transition, event: &[u8]) ->
     any_matches(chart, names, descriptors, event)
 }
 
-pub fn is_true(conf: RowSet, condition: Condition) -> bool
+pub fn is_true(conf: RowSet, condition: Option<Row>) -> bool
     ensures { result ≡ is_true (rows_of conf) (condition_of condition) }
 {
     match condition {
-        Condition::Always => true,
-        Condition::In(r) => conf.has(r),
+        None => true,
+        Some(r) => conf.has(r),
     }
 }
 
@@ -116,12 +116,13 @@ fn starts_before(chart: &[u64], t: u16, i: usize) -> bool
     ensures { result ≡ starts_before (chart_of chart.now) i t }
 {
     if (t as u64) < tables::transition_count(chart) {
-        return numbers::row_index(tables::source_of(chart, Transition(t))) < i;
+        return usize::from(tables::source_of(chart, Transition(t))) < i;
     }
     false
 }
 
 // One pass over the transitions and the rows, since no source number is below the one before it.
+// Kept: the pass counts two numbers, of which each turn moves one; a range has one.
 pub fn index_of(chart: &[u64]) -> Index
     requires { Ready chart.now }
     ensures { Indexed (chart_of chart.now) result.starts }
@@ -143,17 +144,10 @@ pub fn index_of(chart: &[u64]) -> Index
 
 // ---- the choice of an atomic state
 
-// What an atomic state chooses.
-#[derive(Clone, Copy)]
-pub enum Choice {
-    Nothing,
-    Of(Transition),
-}
-
-// What a climb chooses, and the rows at which it and the climbs before it have been.
+// What a climb from an atomic state chooses, and the rows at which it and the climbs before it have been.
 #[derive(Clone, Copy)]
 pub struct Climbed {
-    pub choice: Choice,
+    pub choice: Option<Transition>,
     pub rows: RowSet,
 }
 
@@ -171,7 +165,7 @@ fn climb(
     requires { ClimbReady chart.now names.now starts.now i.0 }
     ensures { Climbs (chart_of chart.now) (name_at names.now) (rows_of conf) (event_of event.now) (rows_of climbed) i.0 (choice_of result.choice) (rows_of result.rows) }
 {
-    let mut chosen = Choice::Nothing;
+    let mut chosen = None;
     let mut rows = climbed;
     let mut a = i.0;
     'climb: loop {
@@ -180,14 +174,12 @@ fn climb(
         }
         rows = rows.with(Row(a));
         let at = a as usize;
-        let mut t = starts[at];
         let end = starts[at + 1];
-        while t < end {
+        for t in starts[at]..end {
             if is_match(chart, names, conf, event, Transition(t)) {
-                chosen = Choice::Of(Transition(t));
+                chosen = Some(Transition(t));
                 break 'climb;
             }
-            t += 1;
         }
         let p = tables::parent_of(chart, Row(a));
         if a as u64 <= p {
@@ -220,15 +212,11 @@ pub fn candidates(
     let active = conf.intersection(atoms);
     let mut climbed = RowSet::empty();
     let mut len: usize = 0;
-    let mut k: u16 = 0;
-    loop {
-        let Found::At(i) = active.next_from(k) else {
-            return len;
-        };
+    for i in active.iter() {
         let found = climb(chart, names, starts, conf, event, climbed, i);
         let choice = found.choice;
         len = note_choice(items, len, choice, i);
         climbed = found.rows;
-        k = i.0 as u16 + 1;
     }
+    len
 }

@@ -18,8 +18,8 @@ use Rattle.accepted.specs.Tree.{low, under_below, below_under, child_facts, mem_
 use Rattle.accepted.specs.Sound.{Sound}
 use Rattle.theory.specs.Entry.{down_facts, down_intro, ascends_paths, asks_for, mem_complete, asked_inside, aimed_at}
 use Rattle.numbers.specs.declared.Row.{Row}
-use Rattle.rowset.specs.declared.Found.{Found}
-use Rattle.rowset.specs.declared.Found.TheVariants.{At, Nothing}
+use Rattle.std.specs.declared.option.Option.{Option}
+use Rattle.std.specs.declared.option.Option.TheVariants.{Some, None}
 use Rattle.rowset.specs.Member.{rows_of, next_in}
 use Rattle.rowset.specs.Visits.{found_next, skip_turn, skip_end}
 use Rattle.chart.specs.Within.{Within}
@@ -154,10 +154,10 @@ module _ (c : Chart) (targets : ℕ → List ℕ) (aim : List ℕ) where
     done = count_begin (complete c targets) (aimed_at aim) (entered_as e) c.rows (rw (q, n));
   }
 
-  pub completing_row : (e : Entered) (k : ℕ) (o : Found) (r : Row) → Completing c targets aim e k → o ≡ next_in (rows_of e.set) k → o ≡ At r → r.0 < c.rows
+  pub completing_row : (e : Entered) (k : ℕ) (o : Option Row) (r : Row) → Completing c targets aim e k → o ≡ next_in (rows_of e.set) k → o ≡ Some r → r.0 < c.rows
   completing_row e k o r g q h = g.within.at r.0 (found_next e.set k o q r h).here
 
-  pub completing_turn : (e f : Entered) (k : ℕ) (o : Found) (r : Row) → Completing c targets aim e k → o ≡ next_in (rows_of e.set) k → o ≡ At r →
+  pub completing_turn : (e f : Entered) (k : ℕ) (o : Option Row) (r : Row) → Completing c targets aim e k → o ≡ next_in (rows_of e.set) k → o ≡ Some r →
       entered_as f ≡ complete c targets (entered_as e) r.0 → Completing c targets aim f (r.0 + 1)
   completing_turn e f k o r g q h n = record {
     within = record {
@@ -168,7 +168,7 @@ module _ (c : Chart) (targets : ℕ → List ℕ) (aim : List ℕ) where
         (entered_as f) k o r g.done q h (completing_row e k o r g q h) n;
   }
 
-  pub completing_end : (e : Entered) (k : ℕ) (o : Found) → Completing c targets aim e k → o ≡ next_in (rows_of e.set) k → o ≡ Nothing → entered_as e ≡ entry_set c targets aim
+  pub completing_end : (e : Entered) (k : ℕ) (o : Option Row) → Completing c targets aim e k → o ≡ next_in (rows_of e.set) k → o ≡ None → entered_as e ≡ entry_set c targets aim
   unfolding entry_set
   completing_end e k o g q h =
       skip_end (complete c targets) (aimed_at aim) (entered_as e) c.rows e.set (complete_out c targets (rows_of e.set) (rows_of e.by_default)) k o g.done q h

@@ -15,8 +15,8 @@ use Rattle.laws.specs.Orders.{union_none}
 use Rattle.laws.specs.Sets.{mem_those}
 use Rattle.numbers.specs.declared.Row.{Row}
 use Rattle.rowset.specs.declared.RowSet.{RowSet}
-use Rattle.rowset.specs.declared.Found.{Found}
-use Rattle.rowset.specs.declared.Found.TheVariants.{At, Nothing}
+use Rattle.std.specs.declared.option.Option.{Option}
+use Rattle.std.specs.declared.option.Option.TheVariants.{Some, None}
 use Rattle.rowset.specs.Member.{rows_of, next_in}
 use Rattle.rowset.specs.Rows.{ascends_rows, rows_low}
 use Rattle.rowset.specs.Search.{NextAt}
@@ -168,7 +168,7 @@ pub record Storing (chart conf out old new : List ℕ) (k : ℕ) : Type 0 where
 pub storing_begin : (chart conf out old : List ℕ) → Storing chart conf out old old 0
 storing_begin chart conf out old = record { room = refl; done = λ h l m. absurd (omega arith); later = λ v l. refl; rest = λ v e. refl }
 
-module _ (chart conf out old new : List ℕ) (histories : RowSet) (all : rows_of histories ≡ history_rows (chart_of chart)) (k : ℕ) (o : Found) (e : o ≡ next_in (rows_of histories) k) (g : Storing chart conf out old new k) where
+module _ (chart conf out old new : List ℕ) (histories : RowSet) (all : rows_of histories ≡ history_rows (chart_of chart)) (k : ℕ) (o : Option Row) (e : o ≡ next_in (rows_of histories) k) (g : Storing chart conf out old new k) where
   -- a row that is no history keeps its words
   plain : (h : ℕ) → k ≤ h → h < row_count chart → mem h (rows_of histories) ≡ false → stored_at new h ≡ stored (chart_of chart) conf (stored_at old) out h
   unfolding history_rows is_history_row
@@ -177,13 +177,13 @@ module _ (chart conf out old new : List ℕ) (histories : RowSet) (all : rows_of
       stored_plain (chart_of chart) conf (stored_at old) out h (not_so _ (λ q. clash (mem h (rows_of histories))
       (ap (mem h) all ∙ mem_those (row_count chart) (is_history_row (chart_of chart)) h ∙ and_true (ltb h (row_count chart)) _ (lt-ltb h (row_count chart) u) q) n))
 
-  pub storing_row : Ready chart → (r : Row) → o ≡ At r → HistoryRow chart r.0
+  pub storing_row : Ready chart → (r : Row) → o ≡ Some r → HistoryRow chart r.0
   unfolding history_rows is_history_row
   storing_row w r h =
       let q = sym (ap (mem r.0) all ∙ mem_those (row_count chart) (is_history_row (chart_of chart)) r.0) ∙ (found_next histories k o e r h).here in
       record { row = record { ready = w; inside = ltb-true r.0 (row_count chart) (and_left (ltb r.0 (row_count chart)) _ q) }; history = and_right (ltb r.0 (row_count chart)) _ q }
 
-  pub storing_turn : (newer : List ℕ) (r : Row) → o ≡ At r → RowStored chart conf out new newer r.0 → Storing chart conf out old newer (r.0 + 1)
+  pub storing_turn : (newer : List ℕ) (r : Row) → o ≡ Some r → RowStored chart conf out new newer r.0 → Storing chart conf out old newer (r.0 + 1)
   storing_turn newer r h t = record {
     room = t.room ∙ g.room;
     done = λ i l u. bool_case (ltb i r.0)
@@ -203,7 +203,7 @@ module _ (chart conf out old new : List ℕ) (histories : RowSet) (all : rows_of
       here : stored_at newer r.0 ≡ stored (chart_of chart) conf (stored_at old) out r.0
       here = t.at ∙ had_same (chart_of chart) conf (stored_at new) (stored_at old) out r.0 (stored_same old new r.0 (λ v x y. g.later v (omega (arith, found.low))))
 
-  pub storing_end : o ≡ Nothing → HistoryStored chart conf out old new
+  pub storing_end : o ≡ None → HistoryStored chart conf out old new
   storing_end h = record {
     room = g.room;
     stored = λ i u. bool_case (ltb i k) (λ q. g.done i (ltb-true i k q) u) (λ q. plain i (ltb-false i k q) u (no_next histories k o e h i (ltb-false i k q)));

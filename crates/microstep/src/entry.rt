@@ -12,67 +12,48 @@ ghost use Rattle.paths.specs.History.{stored_at};
 ghost use Rattle.microstep.specs.Stored.{RoundReady};
 ghost use Rattle.microstep.specs.Entry.{entered_as};
 
-use crate::Entered;
 use crate::initial::{initial_targets, resolve};
+use crate::{Entered, Round};
 use chart::{children_of, default_targets_of, is_compound};
 use kinds::is_parallel;
 use matching::atomic_rows;
 use numbers::{Row, row_after};
 use paths::paths_below;
-use rowset::{Found, RowSet};
+use rowset::RowSet;
 use tables::kind_of;
 
 // The initial targets of r and their ancestors below it.
-fn initial_paths(
-    chart: &[u64],
-    atoms: RowSet,
-    conf: RowSet,
-    history: &[u64],
-    out: RowSet,
-    r: Row,
-) -> RowSet
-    requires { RoundReady chart.now history.now atoms conf × (r.0 < row_count chart.now) }
-    ensures { rows_of result ≡ paths_below (chart_of chart.now) r.0 (initial_targets (chart_of chart.now) (stored (chart_of chart.now) (rows_of conf) (stored_at history.now) (rows_of out)) r.0) }
+fn initial_paths(round: &Round, r: Row) -> RowSet
+    requires { RoundReady round.now.chart.now round.now.history.now round.now.atoms round.now.conf × (r.0 < row_count round.now.chart.now) }
+    ensures { rows_of result ≡ paths_below (chart_of round.now.chart.now) r.0 (initial_targets (chart_of round.now.chart.now) (stored (chart_of round.now.chart.now) (rows_of round.now.conf) (stored_at round.now.history.now) (rows_of round.now.out)) r.0) }
 {
-    paths_below(
-        chart,
-        r,
-        initial_targets(chart, atoms, conf, history, out, r),
-    )
+    paths_below(round.chart, r, initial_targets(round, r))
 }
 
 // What row r of the set asks for is added. Default entry targets that are all children of it are their own paths, with no history among them.
-fn complete_row(
-    chart: &[u64],
-    atoms: RowSet,
-    conf: RowSet,
-    history: &[u64],
-    out: RowSet,
-    e: Entered,
-    r: Row,
-) -> Entered
-    requires { RoundReady chart.now history.now atoms conf × (r.0 < row_count chart.now) × (mem r.0 (rows_of e.set) ≡ true) }
-    ensures { entered_as result ≡ complete (chart_of chart.now) (initial_targets (chart_of chart.now) (stored (chart_of chart.now) (rows_of conf) (stored_at history.now) (rows_of out))) (entered_as e) r.0 }
+fn complete_row(round: &Round, e: Entered, r: Row) -> Entered
+    requires { RoundReady round.now.chart.now round.now.history.now round.now.atoms round.now.conf × (r.0 < row_count round.now.chart.now) × (mem r.0 (rows_of e.set) ≡ true) }
+    ensures { entered_as result ≡ complete (chart_of round.now.chart.now) (initial_targets (chart_of round.now.chart.now) (stored (chart_of round.now.chart.now) (rows_of round.now.conf) (stored_at round.now.history.now) (rows_of round.now.out))) (entered_as e) r.0 }
 {
-    if atoms.has(r) {
+    if round.atoms.has(r) {
         return e;
     }
     let set = e.set;
     let by_default = e.by_default;
-    let kids = children_of(chart, r);
-    if is_parallel(kind_of(chart, r)) {
+    let kids = children_of(round.chart, r);
+    if is_parallel(kind_of(round.chart, r)) {
         return Entered {
             set: set.union(kids),
             by_default: by_default,
         };
     }
-    if !is_compound(chart, r) {
+    if !is_compound(round.chart, r) {
         return e;
     }
     if kids.meets(set) {
         return e;
     }
-    let targets = default_targets_of(chart, r);
+    let targets = default_targets_of(round.chart, r);
     if targets.subset(kids) {
         return Entered {
             set: set.union(targets),
@@ -80,26 +61,19 @@ fn complete_row(
         };
     }
     Entered {
-        set: set.union(initial_paths(chart, atoms, conf, history, out, r)),
+        set: set.union(initial_paths(round, r)),
         by_default: by_default.with(r),
     }
 }
 
 // The entry set for what is aimed at: from member to member in document order, since what a row adds stands after it. Atomic rows
 // ask for nothing, and most rounds aim at such rows alone. Initial lists go by the history as the exits left it.
-pub fn entry_set(
-    chart: &[u64],
-    atoms: RowSet,
-    conf: RowSet,
-    history: &[u64],
-    out: RowSet,
-    aim: RowSet,
-) -> Entered
-    requires { RoundReady chart.now history.now atoms conf × Within (row_count chart.now) (rows_of aim) }
-    ensures { entered_as result ≡ entry_set (chart_of chart.now) (initial_targets (chart_of chart.now) (stored (chart_of chart.now) (rows_of conf) (stored_at history.now) (rows_of out))) (rows_of aim) }
+pub fn entry_set(round: &Round, aim: RowSet) -> Entered
+    requires { RoundReady round.now.chart.now round.now.history.now round.now.atoms round.now.conf × Within (row_count round.now.chart.now) (rows_of aim) }
+    ensures { entered_as result ≡ entry_set (chart_of round.now.chart.now) (initial_targets (chart_of round.now.chart.now) (stored (chart_of round.now.chart.now) (rows_of round.now.conf) (stored_at round.now.history.now) (rows_of round.now.out))) (rows_of aim) }
 {
     let none = RowSet::empty();
-    if aim.subset(atoms) {
+    if aim.subset(round.atoms) {
         return Entered {
             set: aim,
             by_default: none,
@@ -110,18 +84,12 @@ pub fn entry_set(
         by_default: none,
     };
     let mut k: u16 = 0;
-    loop {
-        let set = e.set;
-        match set.next_from(k) {
-            Found::At(r) => {
-                e = complete_row(chart, atoms, conf, history, out, e, r);
-                k = row_after(r);
-            }
-            Found::Nothing => {
-                return e;
-            }
-        }
+    // Kept: the set grows while it is gone through, so that an iterator over it as it was would miss what its rows add.
+    while let Some(r) = e.set.next_from(k) {
+        e = complete_row(round, e, r);
+        k = row_after(r);
     }
+    e
 }
 
 // "Start enters the root's initial targets"; nothing is stored yet: the history that is lent says so.
@@ -132,7 +100,14 @@ pub fn first_entry(chart: &[u64], nothing: &[u64]) -> Entered
     let atoms = atomic_rows(chart);
     let none = RowSet::empty();
     let targets = default_targets_of(chart, Row(0));
-    let to = resolve(chart, atoms, none, nothing, none, targets);
+    let round = Round {
+        chart: chart,
+        atoms: atoms,
+        conf: none,
+        history: nothing,
+        out: none,
+    };
+    let to = resolve(&round, targets);
     let aim = paths_below(chart, Row(0), to);
-    entry_set(chart, atoms, none, nothing, none, aim)
+    entry_set(&round, aim)
 }

@@ -13,6 +13,16 @@ pub mod planning;
 pub mod storing;
 mod targets;
 
+// What the plan of a round goes by: the chart with its atomic rows, the configuration and the stored history before the round, and the rows that it leaves.
+#[derive(Clone, Copy)]
+pub struct Round<'a> {
+    pub chart: &'a [u64],
+    pub atoms: RowSet,
+    pub conf: RowSet,
+    pub history: &'a [u64],
+    pub out: RowSet,
+}
+
 // The entry set, and the rows of it whose child came by default.
 #[derive(Clone, Copy)]
 pub struct Entered {

@@ -14,34 +14,30 @@ ghost use Rattle.matching.specs.Histories.{history_rows};
 ghost use Rattle.microstep.specs.Stored.{RoundReady};
 ghost use Rattle.microstep.specs.Plan.{Planned, PlanReady, StartPlanned, Small, plan_effects, start_effects};
 
-use crate::Plan;
 use crate::entry::{entry_set, first_entry};
 use crate::initial::{first_fallen, with_initial};
 use crate::targets::{fallen_of, targeted};
+use crate::{Plan, Round};
 use effects::{Tally, entry_effects, exit_effects, transition_effects};
 use rowset::RowSet;
 
 // The histories that fall to their default lists: among the targets, and in the initial lists of the rows whose child came by default. A chart
 // without histories has none.
 fn fallen_in(
-    chart: &[u64],
+    round: &Round,
     domains: &[u16],
-    atoms: RowSet,
     histories: RowSet,
-    conf: RowSet,
-    history: &[u64],
     chosen: &[u16],
-    out: RowSet,
     by_default: RowSet,
 ) -> RowSet
-    requires { DomainsFixed (chart_of chart.now) domains.now × RoundReady chart.now history.now atoms conf × (rows_of histories ≡ history_rows (chart_of chart.now)) × Taken (transition_count chart.now) chosen.now × Within (row_count chart.now) (rows_of by_default) }
-    ensures { rows_of result ≡ with_initial (chart_of chart.now) (stored (chart_of chart.now) (rows_of conf) (stored_at history.now) (rows_of out)) (fallen (chart_of chart.now) (stored (chart_of chart.now) (rows_of conf) (stored_at history.now) (rows_of out)) chosen.now) (rows_of by_default) }
+    requires { DomainsFixed (chart_of round.now.chart.now) domains.now × RoundReady round.now.chart.now round.now.history.now round.now.atoms round.now.conf × (rows_of histories ≡ history_rows (chart_of round.now.chart.now)) × Taken (transition_count round.now.chart.now) chosen.now × Within (row_count round.now.chart.now) (rows_of by_default) }
+    ensures { rows_of result ≡ with_initial (chart_of round.now.chart.now) (stored (chart_of round.now.chart.now) (rows_of round.now.conf) (stored_at round.now.history.now) (rows_of round.now.out)) (fallen (chart_of round.now.chart.now) (stored (chart_of round.now.chart.now) (rows_of round.now.conf) (stored_at round.now.history.now) (rows_of round.now.out)) chosen.now) (rows_of by_default) }
 {
     if histories.is_empty() {
         return RowSet::empty();
     }
-    let fallen = fallen_of(chart, domains, atoms, conf, history, out, chosen);
-    with_initial(chart, atoms, conf, history, out, fallen, by_default)
+    let fallen = fallen_of(round, domains, chosen);
+    with_initial(round, fallen, by_default)
 }
 
 // The chosen transitions, taken together from the configuration: out are the rows that they exit.
@@ -58,14 +54,19 @@ pub fn plan_round(
     requires { DomainsFixed (chart_of chart.now) domains.now × RoundReady chart.now history.now atoms conf × (rows_of histories ≡ history_rows (chart_of chart.now)) × Taken (transition_count chart.now) chosen.now × (rows_of out ≡ exits (chart_of chart.now) (rows_of conf) (stored_at history.now) chosen.now) }
     ensures { Planned (chart_of chart.now) (rows_of conf) (stored_at history.now) chosen.now result × PlanReady chart.now result }
 {
+    let round = Round {
+        chart: chart,
+        atoms: atoms,
+        conf: conf,
+        history: history,
+        out: out,
+    };
     let stay = conf.minus(out);
-    let aim = targeted(chart, domains, atoms, conf, history, out, chosen);
-    let e = entry_set(chart, atoms, conf, history, out, aim);
+    let aim = targeted(&round, domains, chosen);
+    let e = entry_set(&round, aim);
     let set = e.set;
     let by_default = e.by_default;
-    let fallen = fallen_in(
-        chart, domains, atoms, histories, conf, history, chosen, out, by_default,
-    );
+    let fallen = fallen_in(&round, domains, histories, chosen, by_default);
     Plan {
         conf: conf,
         stay: stay,

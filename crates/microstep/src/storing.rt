@@ -9,11 +9,12 @@ ghost use Rattle.microstep.specs.Stored.{StoreReady, RoundReady, StoredIs};
 ghost use Rattle.matching.specs.Histories.{history_rows};
 ghost use Rattle.microstep.specs.Words.{RowStored, HistoryStored};
 
+use crate::Round;
 use chart::{children_of, descendants_of, parent_row};
 use kinds::{is_history, is_shallow};
-use numbers::{Row, row_after, row_index};
-use rowset::{Found, RowSet};
-use selection::{Stored, as_stored, stored_at};
+use numbers::Row;
+use rowset::RowSet;
+use selection::{as_stored, stored_at};
 use tables::{kind_of, put_set};
 
 // What history h would store of the configuration: "shallow, its active children; deep, its active atomic descendants".
@@ -30,24 +31,17 @@ fn would_store(chart: &[u64], atoms: RowSet, conf: RowSet, h: Row) -> RowSet
 }
 
 // What row h has stored once the rows out are left: it stores "before any is removed", from the configuration before the round.
-pub fn stored_after(
-    chart: &[u64],
-    atoms: RowSet,
-    conf: RowSet,
-    history: &[u64],
-    out: RowSet,
-    h: Row,
-) -> Stored
-    requires { RoundReady chart.now history.now atoms conf × (h.0 < row_count chart.now) }
-    ensures { StoredIs (stored (chart_of chart.now) (rows_of conf) (stored_at history.now) (rows_of out) h.0) result }
+pub fn stored_after(round: &Round, h: Row) -> Option<RowSet>
+    requires { RoundReady round.now.chart.now round.now.history.now round.now.atoms round.now.conf × (h.0 < row_count round.now.chart.now) }
+    ensures { StoredIs (stored (chart_of round.now.chart.now) (rows_of round.now.conf) (stored_at round.now.history.now) (rows_of round.now.out) h.0) result }
 {
-    if !is_history(kind_of(chart, h)) {
-        return stored_at(history, h);
+    if !is_history(kind_of(round.chart, h)) {
+        return stored_at(round.history, h);
     }
-    if out.has(parent_row(chart, h)) {
-        return as_stored(would_store(chart, atoms, conf, h));
+    if round.out.has(parent_row(round.chart, h)) {
+        return as_stored(would_store(round.chart, round.atoms, round.conf, h));
     }
-    stored_at(history, h)
+    stored_at(round.history, h)
 }
 
 // History h stores, if its parent is left.
@@ -59,7 +53,7 @@ fn store_row(chart: &[u64], atoms: RowSet, conf: RowSet, out: RowSet, history: &
         return;
     }
     let set = would_store(chart, atoms, conf, h);
-    put_set(history, row_index(h) * 4, set);
+    put_set(history, usize::from(h) * 4, set);
 }
 
 // Every history whose parent is left stores, from the configuration before the round.
@@ -74,16 +68,7 @@ pub fn store(
     requires { StoreReady chart.now atoms conf × (rows_of histories ≡ history_rows (chart_of chart.now)) × (length history.old ≡ 1024) }
     ensures { HistoryStored chart.now (rows_of conf) (rows_of out) history.old history.new }
 {
-    let mut k: u16 = 0;
-    loop {
-        match histories.next_from(k) {
-            Found::At(h) => {
-                store_row(chart, atoms, conf, out, history, h);
-                k = row_after(h);
-            }
-            Found::Nothing => {
-                return;
-            }
-        }
+    for h in histories.iter() {
+        store_row(chart, atoms, conf, out, history, h);
     }
 }

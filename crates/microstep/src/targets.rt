@@ -12,152 +12,90 @@ ghost use Rattle.selection.specs.FixedDomains.{has_fixed_targets, DomainsFixed};
 ghost use Rattle.microstep.specs.Stored.{RoundReady, TakenReady};
 ghost use Rattle.microstep.specs.Targets.{add_fell};
 
+use crate::Round;
 use crate::storing::stored_after;
 use chart::anchors_of;
 use kinds::is_history;
 use numbers::{Row, Transition};
 use paths::paths_below;
 use rowset::RowSet;
-use selection::{NO_DOMAIN, Stored, add_stand_ins};
+use selection::{NO_DOMAIN, add_stand_ins};
 use tables::{kind_of, parent_of, row_at, targets_of};
 
 // The effective targets of a transition, by the history as the exits left it.
-fn effective_after(
-    chart: &[u64],
-    atoms: RowSet,
-    conf: RowSet,
-    history: &[u64],
-    out: RowSet,
-    t: Transition,
-) -> RowSet
-    requires { TakenReady chart.now history.now atoms conf t.0 }
-    ensures { rows_of result ≡ effective_targets (chart_of chart.now) (stored (chart_of chart.now) (rows_of conf) (stored_at history.now) (rows_of out)) (transition_at chart.now t.0) }
+fn effective_after(round: &Round, t: Transition) -> RowSet
+    requires { TakenReady round.now.chart.now round.now.history.now round.now.atoms round.now.conf t.0 }
+    ensures { rows_of result ≡ effective_targets (chart_of round.now.chart.now) (stored (chart_of round.now.chart.now) (rows_of round.now.conf) (stored_at round.now.history.now) (rows_of round.now.out)) (transition_at round.now.chart.now t.0) }
 {
-    let targets = targets_of(chart, t);
+    let targets = targets_of(round.chart, t);
     let mut set = RowSet::empty();
-    let mut i = 0;
-    while i < targets.len() {
-        let x = row_at(chart, targets, i);
-        let kept = stored_after(chart, atoms, conf, history, out, x);
-        set = add_stand_ins(chart, set, x, kept);
-        i += 1;
+    for i in 0..targets.len() {
+        let x = row_at(round.chart, targets, i);
+        let kept = stored_after(round, x);
+        set = add_stand_ins(round.chart, set, x, kept);
     }
     set
 }
 
 // The set with target x, if x is a history that falls to its default list.
-pub fn add_fell(
-    chart: &[u64],
-    atoms: RowSet,
-    conf: RowSet,
-    history: &[u64],
-    out: RowSet,
-    set: RowSet,
-    x: Row,
-) -> RowSet
-    requires { RoundReady chart.now history.now atoms conf × (x.0 < row_count chart.now) }
-    ensures { rows_of result ≡ add_fell (chart_of chart.now) (stored (chart_of chart.now) (rows_of conf) (stored_at history.now) (rows_of out)) (rows_of set) x.0 }
+pub fn add_fell(round: &Round, set: RowSet, x: Row) -> RowSet
+    requires { RoundReady round.now.chart.now round.now.history.now round.now.atoms round.now.conf × (x.0 < row_count round.now.chart.now) }
+    ensures { rows_of result ≡ add_fell (chart_of round.now.chart.now) (stored (chart_of round.now.chart.now) (rows_of round.now.conf) (stored_at round.now.history.now) (rows_of round.now.out)) (rows_of set) x.0 }
 {
-    if !is_history(kind_of(chart, x)) {
+    if !is_history(kind_of(round.chart, x)) {
         return set;
     }
-    match stored_after(chart, atoms, conf, history, out, x) {
-        Stored::Nothing => set.with(x),
-        Stored::Stored(_) => set,
+    match stored_after(round, x) {
+        None => set.with(x),
+        Some(_) => set,
     }
 }
 
-fn add_fallen(
-    chart: &[u64],
-    atoms: RowSet,
-    conf: RowSet,
-    history: &[u64],
-    out: RowSet,
-    before: RowSet,
-    t: Transition,
-) -> RowSet
-    requires { TakenReady chart.now history.now atoms conf t.0 }
-    ensures { rows_of result ≡ add_fallen (chart_of chart.now) (stored (chart_of chart.now) (rows_of conf) (stored_at history.now) (rows_of out)) (rows_of before) t.0 }
+fn add_fallen(round: &Round, before: RowSet, t: Transition) -> RowSet
+    requires { TakenReady round.now.chart.now round.now.history.now round.now.atoms round.now.conf t.0 }
+    ensures { rows_of result ≡ add_fallen (chart_of round.now.chart.now) (stored (chart_of round.now.chart.now) (rows_of round.now.conf) (stored_at round.now.history.now) (rows_of round.now.out)) (rows_of before) t.0 }
 {
-    let targets = targets_of(chart, t);
+    let targets = targets_of(round.chart, t);
     let mut set = before;
-    let mut i = 0;
-    while i < targets.len() {
-        let x = row_at(chart, targets, i);
-        set = add_fell(chart, atoms, conf, history, out, set, x);
-        i += 1;
+    for i in 0..targets.len() {
+        let x = row_at(round.chart, targets, i);
+        set = add_fell(round, set, x);
     }
     set
 }
 
 // The same; a transition whose domain is fixed has no history among its targets.
-fn add_fallen_by(
-    chart: &[u64],
-    domains: &[u16],
-    atoms: RowSet,
-    conf: RowSet,
-    history: &[u64],
-    out: RowSet,
-    set: RowSet,
-    t: Transition,
-) -> RowSet
-    requires { DomainsFixed (chart_of chart.now) domains.now × TakenReady chart.now history.now atoms conf t.0 }
-    ensures { rows_of result ≡ add_fallen (chart_of chart.now) (stored (chart_of chart.now) (rows_of conf) (stored_at history.now) (rows_of out)) (rows_of set) t.0 }
+fn add_fallen_by(round: &Round, domains: &[u16], set: RowSet, t: Transition) -> RowSet
+    requires { DomainsFixed (chart_of round.now.chart.now) domains.now × TakenReady round.now.chart.now round.now.history.now round.now.atoms round.now.conf t.0 }
+    ensures { rows_of result ≡ add_fallen (chart_of round.now.chart.now) (stored (chart_of round.now.chart.now) (rows_of round.now.conf) (stored_at round.now.history.now) (rows_of round.now.out)) (rows_of set) t.0 }
 {
     let at = t.0 as usize;
     if domains[at] < NO_DOMAIN {
         return set;
     }
-    add_fallen(chart, atoms, conf, history, out, set, t)
+    add_fallen(round, set, t)
 }
 
 // The histories among the targets that fall to their default lists.
-pub fn fallen_of(
-    chart: &[u64],
-    domains: &[u16],
-    atoms: RowSet,
-    conf: RowSet,
-    history: &[u64],
-    out: RowSet,
-    chosen: &[u16],
-) -> RowSet
-    requires { DomainsFixed (chart_of chart.now) domains.now × RoundReady chart.now history.now atoms conf × Taken (transition_count chart.now) chosen.now }
-    ensures { rows_of result ≡ fallen (chart_of chart.now) (stored (chart_of chart.now) (rows_of conf) (stored_at history.now) (rows_of out)) chosen.now }
+pub fn fallen_of(round: &Round, domains: &[u16], chosen: &[u16]) -> RowSet
+    requires { DomainsFixed (chart_of round.now.chart.now) domains.now × RoundReady round.now.chart.now round.now.history.now round.now.atoms round.now.conf × Taken (transition_count round.now.chart.now) chosen.now }
+    ensures { rows_of result ≡ fallen (chart_of round.now.chart.now) (stored (chart_of round.now.chart.now) (rows_of round.now.conf) (stored_at round.now.history.now) (rows_of round.now.out)) chosen.now }
 {
     let mut set = RowSet::empty();
-    let mut i = 0;
-    while i < chosen.len() {
-        set = add_fallen_by(
-            chart,
-            domains,
-            atoms,
-            conf,
-            history,
-            out,
-            set,
-            Transition(chosen[i]),
-        );
-        i += 1;
+    for i in 0..chosen.len() {
+        set = add_fallen_by(round, domains, set, Transition(chosen[i]));
     }
     set
 }
 
 // What transition t aims at, by the history before the round and the one after its exits.
-fn add_targets(
-    chart: &[u64],
-    atoms: RowSet,
-    conf: RowSet,
-    history: &[u64],
-    out: RowSet,
-    set: RowSet,
-    t: Transition,
-) -> RowSet
-    requires { TakenReady chart.now history.now atoms conf t.0 }
-    ensures { rows_of result ≡ add_targets (chart_of chart.now) (stored_at history.now) (stored (chart_of chart.now) (rows_of conf) (stored_at history.now) (rows_of out)) (rows_of set) t.0 }
+fn add_targets(round: &Round, set: RowSet, t: Transition) -> RowSet
+    requires { TakenReady round.now.chart.now round.now.history.now round.now.atoms round.now.conf t.0 }
+    ensures { rows_of result ≡ add_targets (chart_of round.now.chart.now) (stored_at round.now.history.now) (stored (chart_of round.now.chart.now) (rows_of round.now.conf) (stored_at round.now.history.now) (rows_of round.now.out)) (rows_of set) t.0 }
 {
-    let d = selection::domain(chart, history, t);
-    let to = effective_after(chart, atoms, conf, history, out, t);
-    set.union(paths_below(chart, d, to))
+    let d = selection::domain(round.chart, round.history, t);
+    let to = effective_after(round, t);
+    set.union(paths_below(round.chart, d, to))
 }
 
 // What a transition whose domain is fixed aims at: its anchors and their ancestors below the domain. Where its only target is a child of the domain, that is all.
@@ -176,54 +114,26 @@ fn fixed_aim(chart: &[u64], d: Row, t: Transition) -> RowSet
 }
 
 // The same; a transition whose domain is fixed aims at its anchors whatever is stored.
-fn add_targets_by(
-    chart: &[u64],
-    domains: &[u16],
-    atoms: RowSet,
-    conf: RowSet,
-    history: &[u64],
-    out: RowSet,
-    set: RowSet,
-    t: Transition,
-) -> RowSet
-    requires { DomainsFixed (chart_of chart.now) domains.now × TakenReady chart.now history.now atoms conf t.0 }
-    ensures { rows_of result ≡ add_targets (chart_of chart.now) (stored_at history.now) (stored (chart_of chart.now) (rows_of conf) (stored_at history.now) (rows_of out)) (rows_of set) t.0 }
+fn add_targets_by(round: &Round, domains: &[u16], set: RowSet, t: Transition) -> RowSet
+    requires { DomainsFixed (chart_of round.now.chart.now) domains.now × TakenReady round.now.chart.now round.now.history.now round.now.atoms round.now.conf t.0 }
+    ensures { rows_of result ≡ add_targets (chart_of round.now.chart.now) (stored_at round.now.history.now) (stored (chart_of round.now.chart.now) (rows_of round.now.conf) (stored_at round.now.history.now) (rows_of round.now.out)) (rows_of set) t.0 }
 {
     let at = t.0 as usize;
     let fixed = domains[at];
     if fixed < NO_DOMAIN {
-        return set.union(fixed_aim(chart, Row(fixed as u8), t));
+        return set.union(fixed_aim(round.chart, Row(fixed as u8), t));
     }
-    add_targets(chart, atoms, conf, history, out, set, t)
+    add_targets(round, set, t)
 }
 
 // What the transitions aim at: the domain by the history before the round, the targets by the one after its exits.
-pub fn targeted(
-    chart: &[u64],
-    domains: &[u16],
-    atoms: RowSet,
-    conf: RowSet,
-    history: &[u64],
-    out: RowSet,
-    chosen: &[u16],
-) -> RowSet
-    requires { DomainsFixed (chart_of chart.now) domains.now × RoundReady chart.now history.now atoms conf × Taken (transition_count chart.now) chosen.now }
-    ensures { rows_of result ≡ targeted (chart_of chart.now) (stored_at history.now) (stored (chart_of chart.now) (rows_of conf) (stored_at history.now) (rows_of out)) chosen.now }
+pub fn targeted(round: &Round, domains: &[u16], chosen: &[u16]) -> RowSet
+    requires { DomainsFixed (chart_of round.now.chart.now) domains.now × RoundReady round.now.chart.now round.now.history.now round.now.atoms round.now.conf × Taken (transition_count round.now.chart.now) chosen.now }
+    ensures { rows_of result ≡ targeted (chart_of round.now.chart.now) (stored_at round.now.history.now) (stored (chart_of round.now.chart.now) (rows_of round.now.conf) (stored_at round.now.history.now) (rows_of round.now.out)) chosen.now }
 {
     let mut set = RowSet::empty();
-    let mut i = 0;
-    while i < chosen.len() {
-        set = add_targets_by(
-            chart,
-            domains,
-            atoms,
-            conf,
-            history,
-            out,
-            set,
-            Transition(chosen[i]),
-        );
-        i += 1;
+    for i in 0..chosen.len() {
+        set = add_targets_by(round, domains, set, Transition(chosen[i]));
     }
     set
 }

@@ -1,12 +1,13 @@
 -- Matching, byte by byte: the first tokens of a name are those of a descriptor exactly if the name is the descriptor, or begins with the
 -- descriptor and a dot. No assumption that either is a name: tokens may be empty.
-use Rattle.std.specs.Prelude.{◌≡◌, refl, Bool, true, false, not, ◌&&◌, ◌||◌, cond, List, [], ◌∷◌, ◌++◌, ◌⊎◌, ℕ, zero, suc, ◌+◌, ◌-◌, ◌<◌, eqb, length, get_or, take, drop}
-use Rattle.std.proofs.Common.{ap, sym, ◌∙◌, append-nil, inl, inr, ⊎_elim, arith, eqb-true, eq-eqb, ne_eqb}
+use Rattle.std.specs.Prelude.{◌≡◌, refl, Bool, true, false, not, ◌&&◌, ◌||◌, cond, List, [], ◌∷◌, ◌++◌, ◌⊎◌, ℕ, zero, suc, ◌+◌, ◌-◌, ◌≤◌, ◌<◌, eqb, ltb, length, get_or, take, drop}
+use Rattle.std.specs.Cmp.Lexicographic.{pointwise}
+use Rattle.std.proofs.Common.{ap, sym, ◌∙◌, append-nil, inl, inr, ⊎_elim, arith, eqb-true, eq-eqb, ne_eqb, ltb-true, ltb-false}
 use Rattle.std.proofs.Math.Bool.{and_assoc}
 use Rattle.std.proofs.lemmas.Bool.{not-true, eqb-false}
 use Rattle.definition.specs.Rows.{same}
 use Rattle.definition.specs.Names.{Name, grow, tokens, begins, bare, matches, star, dot_star, before_zero}
-use Rattle.laws.specs.Bools.{no, and_false, and_left, and_right, and3}
+use Rattle.laws.specs.Bools.{no, bool_case, and_false, and_left, and_right, and3}
 use Rattle.laws.specs.Parts.{part_end}
 
 -- the name's bytes begin with the descriptor's, and there the name ends or has a dot
@@ -103,6 +104,15 @@ pub matches_stops : (d n : Name) → matches d n ≡ (same d star || stops (bare
 unfolding matches
 matches_stops d n = ap (λ (b : Bool). same d star || b) (tokens_stops (bare d) n)
 
+-- ---- `==` on slices
+
+pub same_pointwise : (xs ys : List ℕ) → pointwise eqb xs ys ≡ same xs ys
+unfolding same
+same_pointwise [] [] = refl
+same_pointwise [] (y ∷ ys) = refl
+same_pointwise (x ∷ xs) [] = refl
+same_pointwise (x ∷ xs) (y ∷ ys) = ap (λ (b : Bool). eqb x y && b) (same_pointwise xs ys)
+
 -- ---- the descriptor in a slot, and the first byte
 
 -- the first byte is one of a token
@@ -171,3 +181,14 @@ bare_at (suc k) (x ∷ y ∷ z ∷ r) h =
     push : (b : Bool) → x ∷ cond b (take k (y ∷ z ∷ r)) (y ∷ z ∷ r) ≡ cond b (x ∷ take k (y ∷ z ∷ r)) (x ∷ y ∷ z ∷ r)
     push true = refl
     push false = refl
+
+-- what is left with the ".*" taken off, and where there is none to take off
+pub bare_cut : (d n : Name) → pointwise eqb (drop (length d - 2) d) dot_star ≡ true → n ≡ take (length d - 2) d → length n + 2 ≡ length d → n ≡ bare d
+bare_cut d n h q l = q ∙ sym (bare_at (length d - 2) d (omega arith) ∙ rw (sym (same_pointwise (drop (length d - 2) d) dot_star) ∙ h))
+
+pub bare_whole : (d : Name) → pointwise eqb (drop (length d - 2) d) dot_star ≡ false → d ≡ bare d
+bare_whole d h =
+    bool_case (ltb (length d) 2)
+    (λ l. sym (bare_short d (ltb-true (length d) 2 l)))
+    (λ l. let k : 2 ≤ length d = ltb-false (length d) 2 l in
+    sym (bare_at (length d - 2) d (omega arith) ∙ rw (sym (same_pointwise (drop (length d - 2) d) dot_star) ∙ h)))

@@ -1,5 +1,5 @@
 -- A name in a slot: its bytes, then zeros.
-use Rattle.std.specs.Prelude.{◌≡◌, refl, Bool, true, false, ◌||◌, cond, List, [], ◌∷◌, ◌++◌, ℕ, zero, suc, ◌-◌, ◌≤◌, eqb, length, take, replicate}
+use Rattle.std.specs.Prelude.{◌≡◌, refl, Bool, true, false, ◌||◌, cond, List, [], ◌∷◌, ◌++◌, ℕ, zero, suc, ◌-◌, ◌≤◌, eqb, min, length, take, replicate}
 use Rattle.std.proofs.Math.Path.{ap, sym}
 use Rattle.std.proofs.Common.{◌∙◌, le_refl, arith, length-append, length-take-le, ne_eqb}
 use Rattle.std.proofs.Math.Nat.{sub-zero, suc-sub-suc}
@@ -62,6 +62,17 @@ laid_padded zero a b = refl
 laid_padded (suc k) [] [] = refl
 laid_padded (suc k) [] (y ∷ b) = ap {B = List ℕ} (λ r. y ∷ r) (laid_padded k [] b)
 laid_padded (suc k) (x ∷ a) b = ap {B = List ℕ} (λ r. x ∷ r) (laid_padded k a b)
+
+-- n bytes of s over those of d from `at` on: as many as s has and d has room for
+pub laid_part : (d : List ℕ) (at : ℕ) (s : List ℕ) (n : ℕ) → at ≤ length d → n ≡ min (length s) (length d - at) →
+    take at d ++ (take n s ++ drop n (drop at d)) ≡ laid d at s
+unfolding laid
+laid_part [] zero s n h e = let z : n ≡ 0 = omega arith in rw z
+laid_part [] (suc at) s n h e = absurd (omega arith)
+laid_part (x ∷ d) zero [] n h e = let z : n ≡ 0 = omega arith in rw z
+laid_part (x ∷ d) zero (y ∷ s) zero h e = absurd (omega arith)
+laid_part (x ∷ d) zero (y ∷ s) (suc n) h e = ap {B = List ℕ} (λ r. y ∷ r) (laid_part d zero s n (omega arith) (omega arith))
+laid_part (x ∷ d) (suc at) s n h e = ap {B = List ℕ} (λ r. x ∷ r) (laid_part d at s n (omega arith) (omega arith))
 
 -- a name laid over zeros: z is the place cleared, p the place with the name
 pub name_laid : (k : ℕ) (n z p : List ℕ) → z ≡ replicate k 0 → p ≡ laid z 0 n → p ≡ padded k n

@@ -1,12 +1,14 @@
 // Names, descriptors, matching and slots, for every slice of bytes, whatever its length and its bytes. The tests, matching and what a slot holds
-// answer as definition's Names; a name's slot is definition's slotOf, in Marked, and this crate's `padded` for a slot of another size.
+// answer as definition's Names; a name's slot is definition's slot_of, in Marked, and this crate's `padded` for a slot of another size.
 #![tactic(auto)]
 
 ghost use Rattle.std.specs.Prelude.{◌≡◌};
 ghost use Rattle.definition.specs.Rows.{same};
 ghost use Rattle.definition.specs.Names.{between, is_letter, is_name_byte, is_name, bare, is_descriptor, begins, tokens, matches, is_id};
 
-pub use slots::{is_blank, name_len, name_of, slot_fits, slot_matches, slot_names, zeros_after};
+pub use slots::{
+    filled, is_blank, name_len, name_of, slot_fits, slot_matches, slot_names, zeros_after,
+};
 pub use writing::{done_name, pad, put_done_name, put_name};
 
 pub mod slots;
@@ -29,7 +31,7 @@ fn is_between(low: u8, high: u8, b: u8) -> bool
     (low <= b) & (b <= high)
 }
 
-fn is_letter(b: u8) -> bool
+pub fn is_letter(b: u8) -> bool
     ensures { result ≡ is_letter b }
 {
     is_between(b'A', b'Z', b) | is_between(b'a', b'z', b)
@@ -55,9 +57,7 @@ pub fn is_name(s: &[u8]) -> bool
         return false;
     }
     let mut last = b'.';
-    let mut i = 0;
-    while i < s.len() {
-        let b = s[i];
+    for &b in s {
         if !is_name_byte(b) {
             return false;
         }
@@ -65,39 +65,25 @@ pub fn is_name(s: &[u8]) -> bool
             return false;
         }
         last = b;
-        i += 1;
     }
     last != b'.'
 }
 
+// Kept: `==` on slices, said in definition's word `same`, which the clauses of its callers speak of.
 pub fn equal(a: &[u8], b: &[u8]) -> bool
     ensures { result ≡ same a.now b.now }
 {
-    if a.len() != b.len() {
-        return false;
-    }
-    let mut i = 0;
-    while i < a.len() {
-        if a[i] != b[i] {
-            return false;
-        }
-        i += 1;
-    }
-    true
+    a == b
 }
 
 // The descriptor without a ".*" at its end.
 pub fn bare(descriptor: &[u8]) -> &[u8]
     ensures { result.now ≡ bare descriptor.now }
 {
-    if descriptor.len() < 2 {
-        return descriptor;
+    match descriptor.strip_suffix(b".*") {
+        Some(name) => name,
+        None => descriptor,
     }
-    let k = descriptor.len() - 2;
-    if equal(&descriptor[k..], b".*") {
-        return &descriptor[..k];
-    }
-    descriptor
 }
 
 // "*", a name, or a name with ".*" after it.
@@ -128,23 +114,23 @@ pub fn is_id(s: &[u8]) -> bool
 }
 
 // The event's first tokens are the descriptor's: the event is the descriptor, or begins with it and a dot.
+// Kept: tried by `strip_prefix`, which reads bytes twice where it compares many at a time, and takes longer for short names.
 fn begins_with(event: &[u8], descriptor: &[u8]) -> bool
     ensures { result ≡ begins (tokens descriptor.now) (tokens event.now) }
 {
-    let mut i = 0;
-    while i < descriptor.len() {
+    for (i, b) in descriptor.iter().enumerate() {
         if event.len() <= i {
             return false;
         }
-        if descriptor[i] != event[i] {
+        if *b != event[i] {
             return false;
         }
-        i += 1;
     }
-    if event.len() <= i {
+    let n = descriptor.len();
+    if event.len() <= n {
         return true;
     }
-    event[i] == b'.'
+    event[n] == b'.'
 }
 
 // Each byte of the event is read at most once.

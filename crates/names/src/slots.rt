@@ -13,14 +13,7 @@ const SLOT_BYTES: usize = 64;
 pub fn name_len(slot: &[u8]) -> usize
     ensures { result ≡ length (before_zero slot.now) }
 {
-    let mut i = 0;
-    while i < slot.len() {
-        if slot[i] == 0 {
-            return i;
-        }
-        i += 1;
-    }
-    i
+    slot.iter().position(|b| *b == 0).unwrap_or(slot.len())
 }
 
 // The bytes before the first zero.
@@ -35,11 +28,10 @@ pub fn name_of(slot: &[u8]) -> &[u8]
 fn starts_token(slot: &[u8]) -> bool
     ensures { result ≡ starts_token slot.now }
 {
-    if slot.len() == 0 {
-        return false;
+    match slot {
+        [] => false,
+        [b, ..] => (*b != 0) & (*b != b'*') & (*b != b'.'),
     }
-    let b = slot[0];
-    (b != 0) & (b != b'*') & (b != b'.')
 }
 
 // Whether the descriptor in a slot matches the event. Most descriptors differ from the event in the first byte: it is looked at first, and
@@ -61,33 +53,22 @@ pub fn is_blank(s: &[u8]) -> bool
     ensures { result ≡ all (eqb 0) s.now }
 {
     let mut any: u8 = 0;
-    let mut i = 0;
-    while i < s.len() {
-        any = any | s[i];
-        i += 1;
+    for b in s {
+        any |= *b;
     }
     any == 0
 }
 
-// A byte that is not zero counts 1.
-fn counted(b: u8) -> u8
-    ensures { result ≡ cond (eqb b 0) 0 1 }
-{
-    if b == 0 { 0 } else { 1 }
-}
-
-// How many bytes of a slot are not zero. Each of them is counted: so many are read at a time as the machine takes.
-fn filled(slot: &[u8]) -> u8
+// How many bytes of a slot are not zero. Each of them is counted, in a byte: so many are read at a time as the machine takes.
+pub fn filled(slot: &[u8]) -> usize
     requires { length slot.now ≡ 64 }
     ensures { result ≡ filled_in slot.now }
 {
     let mut n: u8 = 0;
-    let mut i = 0;
-    while i < SLOT_BYTES {
-        n += counted(slot[i]);
-        i += 1;
+    for b in slot {
+        n += u8::from(*b != 0);
     }
-    n
+    usize::from(n)
 }
 
 // Whether all behind the n bytes before the first zero is zero. No other byte is filled then.
@@ -96,7 +77,7 @@ fn ends_blank(slot: &[u8], n: usize) -> bool
     ensures { result ≡ zeros_after slot.now }
 {
     if slot.len() == SLOT_BYTES {
-        return filled(slot) as usize == n;
+        return filled(slot) == n;
     }
     is_blank(&slot[n..])
 }
@@ -125,7 +106,7 @@ pub fn slot_fits(slot: &[u8]) -> bool
     ensures { result ≡ (zeros_after slot.now && is_descriptor (before_zero slot.now)) }
 {
     if slot.len() == SLOT_BYTES {
-        let n = filled(slot) as usize;
+        let n = filled(slot);
         if is_name(&slot[..n]) {
             return true;
         }

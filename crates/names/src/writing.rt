@@ -7,12 +7,6 @@ ghost use Rattle.names.specs.Slots.{padded};
 
 use crate::DONE_BYTES;
 
-fn least(a: usize, b: usize) -> usize
-    ensures { result ≡ min a b }
-{
-    if a < b { a } else { b }
-}
-
 // The bytes over the place from `at` on, as far as it goes.
 fn lay(place: &mut [u8], at: usize, bytes: &[u8])
     ensures { place.new ≡ laid place.old at bytes.now }
@@ -20,19 +14,15 @@ fn lay(place: &mut [u8], at: usize, bytes: &[u8])
     if place.len() <= at {
         return;
     }
-    let n = least(bytes.len(), place.len() - at);
-    let mut j = 0;
-    while j < n {
-        place[at + j] = bytes[j];
-        j += 1;
-    }
+    let n = bytes.len().min(place.len() - at);
+    place[at..at + n].copy_from_slice(&bytes[..n]);
 }
 
 // The name into a lent slot of any size, cut where the slot ends, and zeros to its end.
 pub fn put_name(slot: &mut [u8], name: &[u8])
     ensures { slot.new ≡ padded (length slot.old) name.now }
 {
-    places::clear_u8(slot);
+    slot.fill(0);
     lay(slot, 0, name);
 }
 
@@ -40,7 +30,7 @@ pub fn put_name(slot: &mut [u8], name: &[u8])
 pub fn put_done_name(slot: &mut [u8], id: &[u8])
     ensures { slot.new ≡ padded (length slot.old) (done_name id.now) }
 {
-    places::clear_u8(slot);
+    slot.fill(0);
     lay(slot, 0, b"done.state.");
     lay(slot, DONE_BYTES, id);
 }
@@ -50,8 +40,8 @@ pub fn pad(name: &[u8]) -> [u8; 64]
     ensures value { result ≡ slot_of name.now }
     ensures value_2 { 64 ≡ length result }
 {
-    let mut slot = [0u8; 64];
-    lay(&mut slot, 0, name);
+    let mut slot = [0; 64];
+    put_name(&mut slot, name);
     slot
 }
 
@@ -59,8 +49,7 @@ pub fn done_name(id: &[u8]) -> [u8; 64]
     ensures value { result ≡ slot_of (done_name id.now) }
     ensures value_2 { 64 ≡ length result }
 {
-    let mut slot = [0u8; 64];
-    lay(&mut slot, 0, b"done.state.");
-    lay(&mut slot, DONE_BYTES, id);
+    let mut slot = [0; 64];
+    put_done_name(&mut slot, id);
     slot
 }

@@ -16,9 +16,8 @@
 //                    pass: a line a pair, see `mark_two`
 #![tactic(auto)]
 
-use lines::read_whole;
+use lines::{put, read_whole};
 use pairs::{each_changed_pair, each_length_of_pair, each_word, pair};
-use printing::put;
 use reading::{after, find};
 use several::{each_two, four};
 use single::{FUNCTIONS, TESTS, each_length, each_place};
@@ -36,15 +35,13 @@ mod slotted;
 const TEXT: usize = 65536;
 
 fn run_line(rt: &impl Print, line: &[u8]) -> io::Result<()> {
-    if line.len() < 2 {
+    let [case, _, rest @ ..] = line else {
         return Ok(());
-    }
-    let case = line[0];
-    let rest = &line[2..];
+    };
     let k = find(rest, b' ');
     let one = &rest[..k];
     let two = after(rest, k);
-    match case {
+    match *case {
         b'b' => each_place(rt, 0, TESTS, one),
         b'v' => each_place(rt, TESTS, FUNCTIONS, one),
         b't' => show_strays(rt, one),

@@ -1,27 +1,22 @@
 // A descriptor on an event, and two names compared.
 ghost use Rattle.std.specs.Prelude.{◌≡◌, length};
 
-use crate::printing::{mark, put};
+use crate::printing::mark;
 use crate::single::{changed, made};
 use crate::slotted::show;
+use lines::put;
 use std::io;
 
 // Words by number: 0 is the empty one; the first letter of any other, and the number of what is behind it.
 pub fn first(letters: &[u8], number: usize) -> u8 {
-    if number == 0 {
-        return 0;
-    }
-    if letters.len() == 0 {
+    if number == 0 || letters.is_empty() {
         return 0;
     }
     letters[(number - 1) % letters.len()]
 }
 
 fn behind(letters: &[u8], number: usize) -> usize {
-    if number == 0 {
-        return 0;
-    }
-    if letters.len() == 0 {
+    if number == 0 || letters.is_empty() {
         return 0;
     }
     (number - 1) / letters.len()
@@ -82,8 +77,7 @@ fn mark_word(
 }
 
 fn each_event(rt: &impl Print, compare: bool, descriptor: &[u8], letters: &[u8]) -> io::Result<()> {
-    let last = words(letters);
-    for k in 0..last {
+    for k in 0..words(letters) {
         mark_word(rt, compare, descriptor, letters, k)?;
     }
     put(rt, b'\n')
@@ -101,8 +95,7 @@ fn each_event_of(
 }
 
 pub fn each_word(rt: &impl Print, compare: bool, letters: &[u8], more: &[u8]) -> io::Result<()> {
-    let last = words(letters);
-    for k in 0..last {
+    for k in 0..words(letters) {
         each_event_of(rt, compare, letters, k, more)?;
     }
     Ok(())
@@ -138,8 +131,8 @@ fn each_value_of_pair(
     two: &[u8],
     place: usize,
 ) -> io::Result<()> {
-    for v in 0..256usize {
-        mark_changed_pair(rt, compare, turned, one, two, place, v as u8)?;
+    for b in 0..=u8::MAX {
+        mark_changed_pair(rt, compare, turned, one, two, place, b)?;
     }
     put(rt, b'\n')
 }
@@ -182,7 +175,7 @@ fn each_event_length(
     n: usize,
     tail: &[u8],
 ) -> io::Result<()> {
-    for m in 0..71usize {
+    for m in 0..71 {
         mark_lengths(rt, compare, unit, n, tail, m)?;
     }
     put(rt, b'\n')
@@ -194,7 +187,7 @@ fn each_descriptor_length(
     unit: &[u8],
     tail: &[u8],
 ) -> io::Result<()> {
-    for n in 0..71usize {
+    for n in 0..71 {
         each_event_length(rt, compare, unit, n, tail)?;
     }
     Ok(())

@@ -1,10 +1,7 @@
-// Bytes and marks written to the standard output.
+// Marks written to the standard output.
+use lines::put;
 use std::io;
 
-pub fn put(rt: &impl Print, b: u8) -> io::Result<()> {
-    rt.write_all(&[b])
-}
-
 pub fn mark(rt: &impl Print, yes: bool) -> io::Result<()> {
-    if yes { put(rt, b'1') } else { put(rt, b'0') }
+    put(rt, if yes { b'1' } else { b'0' })
 }

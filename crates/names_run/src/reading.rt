@@ -5,18 +5,13 @@ ghost use Rattle.std.specs.Prelude.{◌≤◌, length};
 pub fn find(s: &[u8], b: u8) -> usize
     ensures { result ≤ length s.now }
 {
-    for (i, x) in s.iter().enumerate() {
-        if *x == b {
-            return i;
-        }
-    }
-    s.len()
+    s.iter().position(|x| *x == b).unwrap_or(s.len())
 }
 
+// What stands behind the byte at k.
 pub fn after(s: &[u8], k: usize) -> &[u8] {
-    if s.len() <= k {
-        return &s[..0];
+    match s.get(k..) {
+        Some([_, rest @ ..]) => rest,
+        _ => &[],
     }
-    let next = k + 1;
-    &s[next..]
 }

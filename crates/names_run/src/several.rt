@@ -2,16 +2,14 @@
 ghost use Rattle.std.specs.Prelude.{◌≡◌, length};
 
 use crate::pairs::{first, word, words};
-use crate::printing::{mark, put};
+use crate::printing::mark;
 use crate::reading::{after, find};
+use lines::put;
 use onepass::Places;
 use std::io;
 
 fn byte_of(name: &[u8], i: usize) -> u8 {
-    if i < name.len() {
-        return name[i];
-    }
-    0
+    name.get(i).copied().unwrap_or(0)
 }
 
 // The byte at i of four names, each in a slot of 64 bytes.
@@ -28,8 +26,8 @@ fn slots(a: &[u8], b: &[u8], c: &[u8], d: &[u8]) -> [u8; 256]
     ensures { 256 ≡ length result }
 {
     let mut bytes = [0u8; 256];
-    for i in 0..256usize {
-        bytes[i] = slot_byte(a, b, c, d, i);
+    for (i, byte) in bytes.iter_mut().enumerate() {
+        *byte = slot_byte(a, b, c, d, i);
     }
     bytes
 }
@@ -83,16 +81,12 @@ pub fn four(rt: &impl Print, words: &[u8]) -> io::Result<()> {
 
 // Two marks as one digit.
 fn digit(one: bool, two: bool) -> u8 {
-    if one {
-        if two {
-            return b'3';
-        }
-        return b'1';
+    match (one, two) {
+        (false, false) => b'0',
+        (true, false) => b'1',
+        (false, true) => b'2',
+        (true, true) => b'3',
     }
-    if two {
-        return b'2';
-    }
-    b'0'
 }
 
 // The two descriptors are lent twice, the second time the other way round, and have to be answered alike.
@@ -131,8 +125,7 @@ fn mark_two_on(
 }
 
 fn each_event_of_two(rt: &impl Print, one: &[u8], two: &[u8], more: &[u8]) -> io::Result<()> {
-    let last = short_words(more);
-    for k in 0..last {
+    for k in 0..short_words(more) {
         mark_two_on(rt, one, two, more, k)?;
     }
     put(rt, b'\n')
@@ -150,8 +143,7 @@ fn beside(
 }
 
 fn each_beside(rt: &impl Print, one: &[u8], letters: &[u8], more: &[u8]) -> io::Result<()> {
-    let last = short_words(letters);
-    for k in 0..last {
+    for k in 0..short_words(letters) {
         beside(rt, one, letters, k, more)?;
     }
     Ok(())
@@ -163,8 +155,7 @@ fn each_beside_word(rt: &impl Print, letters: &[u8], number: usize, more: &[u8])
 }
 
 pub fn each_two(rt: &impl Print, letters: &[u8], more: &[u8]) -> io::Result<()> {
-    let last = short_words(letters);
-    for k in 0..last {
+    for k in 0..short_words(letters) {
         each_beside_word(rt, letters, k, more)?;
     }
     Ok(())

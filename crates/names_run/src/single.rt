@@ -2,7 +2,8 @@
 ghost use Rattle.std.specs.Prelude.{◌≡◌, ◌≤◌, length};
 
 use crate::pairs::first;
-use crate::printing::{mark, put};
+use crate::printing::mark;
+use lines::put;
 use std::io;
 
 pub const TESTS: usize = 6;
@@ -42,15 +43,9 @@ pub fn with_done_name(name: &[u8]) -> [u8; 48]
 fn digest(rt: &impl Print, bytes: &[u8]) -> io::Result<()> {
     let mut d: u64 = 0;
     for b in bytes {
-        d = d % 999983 * 257 + wide(*b) + 1;
+        d = d % 999983 * 257 + u64::from(*b) + 1;
     }
     print!(rt; "{d} ")
-}
-
-fn wide(b: u8) -> u64
-    ensures { result ≤ 255 }
-{
-    b as u64
 }
 
 fn digest_made(rt: &impl Print, function: usize, s: &[u8]) -> io::Result<()> {
@@ -99,8 +94,8 @@ fn answer_changed(
 }
 
 fn each_value(rt: &impl Print, function: usize, name: &[u8], place: usize) -> io::Result<()> {
-    for v in 0..256usize {
-        answer_changed(rt, function, name, place, v as u8)?;
+    for b in 0..=u8::MAX {
+        answer_changed(rt, function, name, place, b)?;
     }
     put(rt, b'\n')
 }
@@ -122,13 +117,9 @@ pub fn each_place(rt: &impl Print, first: usize, last: usize, name: &[u8]) -> io
 // The byte at i of the first n bytes of the unit, over and over, then the tail, then zeros.
 fn letter(unit: &[u8], n: usize, tail: &[u8], i: usize) -> u8 {
     if n <= i {
-        let j = i - n;
-        if tail.len() <= j {
-            return 0;
-        }
-        return tail[j];
+        return tail.get(i - n).copied().unwrap_or(0);
     }
-    if unit.len() == 0 {
+    if unit.is_empty() {
         return 0;
     }
     unit[i % unit.len()]
@@ -138,8 +129,8 @@ pub fn made(unit: &[u8], n: usize, tail: &[u8]) -> [u8; 128]
     ensures { 128 ≡ length result }
 {
     let mut bytes = [0u8; 128];
-    for i in 0..128usize {
-        bytes[i] = letter(unit, n, tail, i);
+    for (i, byte) in bytes.iter_mut().enumerate() {
+        *byte = letter(unit, n, tail, i);
     }
     bytes
 }
@@ -150,7 +141,7 @@ fn mark_made(rt: &impl Print, test: usize, unit: &[u8], n: usize, tail: &[u8]) -
 }
 
 fn each_length_for(rt: &impl Print, test: usize, unit: &[u8], tail: &[u8]) -> io::Result<()> {
-    for n in 0..71usize {
+    for n in 0..71 {
         mark_made(rt, test, unit, n, tail)?;
     }
     put(rt, b'\n')

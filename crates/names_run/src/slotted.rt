@@ -1,16 +1,13 @@
 // Names in slots, with stray bytes too.
-use crate::printing::{mark, put};
+use crate::printing::mark;
 use crate::single::{changed, judge, made, with_done_name, with_name};
+use lines::put;
 use std::io;
 
 // A zero byte is shown as "!".
 pub fn show(rt: &impl Print, bytes: &[u8]) -> io::Result<()> {
     for b in bytes {
-        if *b == 0 {
-            put(rt, b'!')?;
-        } else {
-            put(rt, *b)?;
-        }
+        put(rt, if *b == 0 { b'!' } else { *b })?;
     }
     put(rt, b'\n')
 }
@@ -37,7 +34,7 @@ fn show_slots(rt: &impl Print, unit: &[u8], n: usize) -> io::Result<()> {
 }
 
 pub fn each_slot(rt: &impl Print, unit: &[u8]) -> io::Result<()> {
-    for n in 0..71usize {
+    for n in 0..71 {
         show_slots(rt, unit, n)?;
     }
     Ok(())
@@ -48,7 +45,7 @@ fn mark_stray(rt: &impl Print, test: usize, name: &[u8], place: usize, b: u8) ->
 }
 
 fn each_stray(rt: &impl Print, test: usize, name: &[u8], b: u8) -> io::Result<()> {
-    for place in 0..64usize {
+    for place in 0..64 {
         mark_stray(rt, test, name, place, b)?;
     }
     put(rt, b'\n')

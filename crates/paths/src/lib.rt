@@ -9,8 +9,8 @@ ghost use Rattle.chart.specs.Ready.{RowReady};
 ghost use Rattle.chart.specs.Within.{Within};
 
 use chart::{ancestors_of, descendants_of};
-use numbers::{Row, row_after};
-use rowset::{Found, RowSet};
+use numbers::Row;
+use rowset::RowSet;
 
 // The set with row x and its ancestors.
 fn add_path(chart: &[u64], set: RowSet, x: Row) -> RowSet
@@ -26,16 +26,8 @@ pub fn paths_below(chart: &[u64], d: Row, to: RowSet) -> RowSet
     ensures { rows_of result ≡ paths_below (chart_of chart.now) d.0 (rows_of to) }
 {
     let mut set = RowSet::empty();
-    let mut k: u16 = 0;
-    loop {
-        match to.next_from(k) {
-            Found::At(x) => {
-                set = add_path(chart, set, x);
-                k = row_after(x);
-            }
-            Found::Nothing => {
-                return set.intersection(descendants_of(chart, d));
-            }
-        }
+    for x in to.iter() {
+        set = add_path(chart, set, x);
     }
+    set.intersection(descendants_of(chart, d))
 }

@@ -2,7 +2,7 @@
 // the bytes; specs/Queues turns them into the names.
 #![tactic(auto)]
 
-ghost use Rattle.std.specs.Prelude.{◌≡◌, ◌++◌, ◌+◌, ◌-◌, ◌*◌, length, take, drop, replicate};
+ghost use Rattle.std.specs.Prelude.{◌≡◌, ◌++◌, ◌+◌, ◌-◌, ◌*◌, ◌≤◌, length, take, drop, replicate};
 ghost use Rattle.definition.specs.Names.{done_name};
 ghost use Rattle.definition.specs.Tables.{slot_at, name_at, slot_of};
 ghost use Rattle.queue.specs.Queues.{is_queue, SlotInside, QueueSized, Waiting};
@@ -13,7 +13,7 @@ pub const MOST_QUEUED: u64 = 32;
 const SLOT: usize = 64;
 
 // Slot k.
-fn slot(queue: &[u8], k: usize) -> &[u8]
+pub fn slot(queue: &[u8], k: usize) -> &[u8]
     requires { SlotInside queue.now k }
     ensures { result.now ≡ slot_at queue.now k }
 {
@@ -50,27 +50,14 @@ pub fn put_done_last(queue: &mut [u8], count: u64, id: &[u8])
     names::put_done_name(&mut queue[from..to], id);
 }
 
-// Every byte one slot forward; those of the last slot stay.
-fn shift(queue: &mut [u8])
-    requires { SlotInside queue.old 0 }
-    ensures { queue.new ≡ drop 64 queue.old ++ drop (length queue.old - 64) queue.old }
+// The first so many bytes of a place go: the others move up, zeros stand at its end.
+pub fn close_first(place: &mut [u8], width: usize)
+    requires { width ≤ length place.old }
+    ensures { place.new ≡ drop width place.old ++ replicate width 0 }
 {
-    let n = queue.len() - SLOT;
-    let mut i = 0;
-    while i < n {
-        queue[i] = queue[i + SLOT];
-        i += 1;
-    }
-}
-
-// The first name leaves, the others move up.
-fn take_first(queue: &mut [u8])
-    requires { SlotInside queue.old 0 }
-    ensures { queue.new ≡ drop 64 queue.old ++ replicate 64 0 }
-{
-    shift(queue);
-    let last = queue.len() - SLOT;
-    names::put_name(&mut queue[last..], b"");
+    place.copy_within(width.., 0);
+    let last = place.len() - width;
+    place[last..].fill(0);
 }
 
 // The first of count names leaves. Behind them all is blank, so their own slots alone are touched.
@@ -79,14 +66,14 @@ pub fn take_oldest(queue: &mut [u8], count: u64)
     ensures { queue.new ≡ drop 64 queue.old ++ replicate 64 0 }
 {
     let used = count as usize * SLOT;
-    take_first(&mut queue[..used]);
+    close_first(&mut queue[..used], SLOT);
 }
 
 // No name waits.
 pub fn clear(queue: &mut [u8])
     ensures { queue.new ≡ replicate (length queue.old) 0 }
 {
-    places::clear_u8(queue);
+    queue.fill(0);
 }
 
 // Whether the bytes are those of a queue of count names: at most 32, each a name and zeros to its slot's end, and zeros in every unused slot.
@@ -102,12 +89,10 @@ pub fn queue_fits(queue: &[u8], count: u64) -> bool
     if !names::is_blank(&queue[used..]) {
         return false;
     }
-    let mut k = 0;
-    while k < count {
+    for k in 0..count {
         if !names::slot_names(slot(queue, k as usize)) {
             return false;
         }
-        k += 1;
     }
     true
 }

@@ -1,5 +1,7 @@
 -- The cells of a text's lists and blocks, counted and held against rule 1.
-use Rattle.std.specs.Prelude.{◌≡◌, refl, Bool, true, false, not, List, ℕ, zero, suc, ◌+◌, ◌≤◌, ◌<◌, length, get_or}
+use Rattle.std.specs.declared.result.Result.{Result}
+use Rattle.std.specs.declared.result.Result.TheVariants.{Ok, Err}
+use Rattle.std.specs.Prelude.{◌≡◌, refl, Bool, true, not, List, ℕ, zero, suc, ◌+◌, ◌≤◌, ◌<◌, length, get_or}
 use Rattle.std.proofs.Common.{sym, ap, ap₂, subst, ◌∙◌, arith}
 use Rattle.std.proofs.lemmas.Bool.{not-true}
 use Rattle.reading.specs.Tags.{tags_of}
@@ -18,10 +20,12 @@ use Rattle.walks.specs.Plan.{text_facts, text_items, counts_of, lay_base, Named,
 use Rattle.cells.specs.Starts.{Few}
 use Rattle.cells.specs.Cells.{Held}
 use Rattle.cells.specs.Totals.{TotalsRoom, is_within, over_size}
-use Rattle.read_text.specs.declared.fill.Laid.{Laid}
-use Rattle.read_text.specs.declared.fill.Laid.TheVariants.{Many, Size}
+use Rattle.read_text.specs.declared.refused.Refusal.{Refusal}
+use Rattle.read_text.specs.declared.refused.Refusal.TheVariants.{Many}
 use Rattle.read_text.specs.Survey.{Oversize, PlannedBy}
 use Rattle.read_text.specs.Bound.{tables_few}
+use Rattle.walks.specs.declared.plan.Pass.{Pass}
+use Rattle.walks.specs.declared.plan.Pass.TheVariants.{Count}
 
 pub record FillRoom (text levels spots ids names ranks work next : List ℕ) (p : Plan) : Type 0 where
   pub deep : length levels ≡ 32768
@@ -37,11 +41,11 @@ pub record BegunBins (text ranks next : List ℕ) (p : Plan) (s : ℕ) : Type 0 
   pub total : s ≡ lay_base p.rows p.transitions + start_of (counts_of (text_items text ranks p.rows p.transitions)) (bin_count p.rows p.transitions)
   pub fits : s ≤ 27756
 
-abbrev pub CountedCase : List ℕ → List ℕ → List ℕ → Plan → Laid → Type 0
-CountedCase text ranks next p Many = Oversize text
-CountedCase text ranks next p (Size s) = BegunBins text ranks next p s
+abbrev pub CountedCase : List ℕ → List ℕ → List ℕ → Plan → Result ℕ Refusal → Type 0
+CountedCase text ranks next p (Err e) = (e ≡ Many) × Oversize text
+CountedCase text ranks next p (Ok s) = BegunBins text ranks next p s
 
-pub record CountedAs (text ranks next : List ℕ) (p : Plan) (r : Laid) : Type 0 where
+pub record CountedAs (text ranks next : List ℕ) (p : Plan) (r : Result ℕ Refusal) : Type 0 where
   pub is : CountedCase text ranks next p r
 
 -- ---- sums of equal counts
@@ -104,44 +108,46 @@ module _ (text ids names ranks : List ℕ) (n t i m : ℕ) (w : PlannedBy text i
 
 -- ---- counting
 
-abbrev pub plan_with : Plan → Bool → Plan
-plan_with p z = record { rows = p.rows; transitions = p.transitions; ids = p.ids; slots = p.slots; fill = z }
+abbrev pub plan_with : Plan → Pass → Plan
+plan_with p z = record { rows = p.rows; transitions = p.transitions; ids = p.ids; slots = p.slots; pass = z }
 
 module _ (text levels spots ids names ranks work next : List ℕ) (p : Plan) (r : FillRoom text levels spots ids names ranks work next p) where
   pub count_clear : bin_count p.rows p.transitions ≤ length next
   count_clear = let a = r.planned.numbered.rows_few in let b = r.planned.numbered.transitions_few in let l = r.next_room in omega arith
 
-  pub count_room : (next1 : List ℕ) → Cleared next next1 (bin_count p.rows p.transitions) → FileRoom text levels spots ids names ranks work next1 (plan_with p false)
+  pub count_room : (next1 : List ℕ) → Cleared next next1 (bin_count p.rows p.transitions) → FileRoom text levels spots ids names ranks work next1 (plan_with p Count)
   count_room next1 c =
       let s = c.size in let b = count_clear in let l = r.work_room in
       record {
         short = plan_short text ids names ranks p.rows p.transitions p.ids p.slots r.planned;
         deep = r.deep;
         spots_room = r.spots_room;
-        named = plan_named text ids names ranks p.rows p.transitions p.ids p.slots r.planned (plan_with p false) refl refl refl refl;
+        named = plan_named text ids names ranks p.rows p.transitions p.ids p.slots r.planned (plan_with p Count) refl refl refl refl;
         bins = omega arith;
         few = omega arith;
         counting = λ e k h. c.zeros k h;
         filling = λ e. absurd (let z : ◌≡◌ {A = ℕ} 0 1 = cc in omega arith);
       }
 
-  module _ (levels' spots' work' next2 : List ℕ) (f : FiledAll text levels' spots' ranks work' next2 (plan_with p false)) where
+  module _ (levels' spots' work' next2 : List ℕ) (f : FiledAll text levels' spots' ranks work' next2 (plan_with p Count)) where
     tally : Tallied p.rows p.transitions next2 (text_items text ranks p.rows p.transitions)
     tally = f.tallied refl
 
     pub count_totals : TotalsRoom next2 p.rows p.transitions
     count_totals = record { few = few text ids names ranks p.rows p.transitions p.ids p.slots r.planned; there = tally.room }
 
-    pub count_many : (within : Bool) → within ≡ is_within (counts_in next2) p.rows p.transitions → not within ≡ true → CountedAs text ranks next2 p Many
+    pub count_many : (within : Bool) → within ≡ is_within (counts_in next2) p.rows p.transitions → not within ≡ true → CountedAs text ranks next2 p (Err Many)
     count_many within e q =
         record {
-          is =
-              record {
-                well = r.planned.well;
-                is =
-                    over_size (slots_of (tags_of text)) p.rows p.transitions (counts_in next2) (text_items text ranks p.rows p.transitions) (content_of (tags_of text)) (λ k h. sym (tally.count k h))
-                    (held text ids names ranks p.rows p.transitions p.ids p.slots r.planned) (sym e ∙ not-true within q);
-              };
+          is = (
+            refl,
+            record {
+              well = r.planned.well;
+              is =
+                  over_size (slots_of (tags_of text)) p.rows p.transitions (counts_in next2) (text_items text ranks p.rows p.transitions) (content_of (tags_of text)) (λ k h. sym (tally.count k h))
+                  (held text ids names ranks p.rows p.transitions p.ids p.slots r.planned) (sym e ∙ not-true within q);
+            },
+          );
         }
 
     -- the counts fit, whatever rule 1 says of them
@@ -161,7 +167,7 @@ module _ (text levels spots ids names ranks work next : List ℕ) (p : Plan) (r 
     count_starts base b = let s = size_fits in record { there = tally.room; fits = omega arith }
 
     pub count_begun : (base : ℕ) → base ≡ lay_base p.rows p.transitions → (next3 : List ℕ) (end s : ℕ) → Started next2 next3 (bin_count p.rows p.transitions) base end → s ≡ end →
-        CountedAs text ranks next3 p (Size s)
+        CountedAs text ranks next3 p (Ok s)
     count_begun base b next3 end s g i =
         record {
           is =

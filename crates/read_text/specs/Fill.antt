@@ -1,5 +1,7 @@
 -- The tables of a text laid in a work place, once its lists and blocks are counted.
-use Rattle.std.specs.Prelude.{◌≡◌, refl, true, List, ℕ, ◌+◌, ◌*◌, ◌-◌, ◌≤◌, ◌<◌, length, take, drop}
+use Rattle.std.specs.declared.result.Result.{Result}
+use Rattle.std.specs.declared.result.Result.TheVariants.{Ok, Err}
+use Rattle.std.specs.Prelude.{◌≡◌, refl, List, ℕ, ◌+◌, ◌*◌, ◌-◌, ◌≤◌, ◌<◌, length, take, drop}
 use Rattle.std.proofs.Common.{sym, ◌∙◌, arith, add-zero, get_or-drop}
 use Rattle.std.proofs.Math.Path.{ap, subst}
 use Rattle.std.proofs.Math.ListN.{get_or}
@@ -21,11 +23,12 @@ use Rattle.cells.specs.Parts.{CellsRoom}
 use Rattle.cells.specs.Cells.{RowSaid, TransitionSaid}
 use Rattle.cells.specs.Header.{CellsLaid}
 use Rattle.cells.specs.Tables.{behind_cells, Filled, filled_room, tables_are, tables_long}
-use Rattle.read_text.specs.declared.fill.Laid.{Laid}
-use Rattle.read_text.specs.declared.fill.Laid.TheVariants.{Many, Size}
+use Rattle.read_text.specs.declared.refused.Refusal.{Refusal}
+use Rattle.read_text.specs.declared.refused.Refusal.TheVariants.{Many}
 use Rattle.read_text.specs.Hand.{tables_of}
 use Rattle.read_text.specs.Survey.{Oversize}
 use Rattle.read_text.specs.Count.{FillRoom, BegunBins, CountedAs, few, rows_are, held, plan_named, plan_short, names_long, plan_with, count_clear}
+use Rattle.walks.specs.declared.plan.Pass.TheVariants.{Fill}
 
 pub record FillReady (text levels spots ids names ranks work next : List ℕ) (p : Plan) : Type 0 where
   pub room : FillRoom text levels spots ids names ranks work next p
@@ -60,37 +63,37 @@ module _ (text levels spots ids names ranks work next : List ℕ) (p : Plan) (r 
   abbrev content : Content
   content = content_of (tags_of text)
 
-  pub fill_file : FileRoom text levels spots ids names ranks work next (plan_with p true)
+  pub fill_file : FileRoom text levels spots ids names ranks work next (plan_with p Fill)
   fill_file =
       let b = count_clear text levels spots ids names ranks work next p r.room in let l = r.room.work_room in let f = r.begun.fits in let e = r.begun.total in
       record {
         short = plan_short text ids names ranks n t p.ids p.slots r.room.planned;
         deep = r.room.deep;
         spots_room = r.room.spots_room;
-        named = plan_named text ids names ranks n t p.ids p.slots r.room.planned (plan_with p true) refl refl refl refl;
+        named = plan_named text ids names ranks n t p.ids p.slots r.room.planned (plan_with p Fill) refl refl refl refl;
         bins = b;
         few = omega arith;
         counting = λ e. absurd (let z : ◌≡◌ {A = ℕ} 0 1 = cc in omega arith);
         filling = λ z. binned_start (bin_count n t) (lay_base n t) (counts_of items) work next (omega arith) b r.begun.starts_are;
       }
 
-  module _ (levels1 spots1 work1 next1 : List ℕ) (f : FiledAll text levels1 spots1 ranks work1 next1 (plan_with p true)) (l1 : length work1 ≡ length work) where
+  module _ (levels1 spots1 work1 next1 : List ℕ) (f : FiledAll text levels1 spots1 ranks work1 next1 (plan_with p Fill)) (l1 : length work1 ≡ length work) where
     binned : Binned (bin_count n t) (lay_base n t) (counts_of items) work1 next1 items
     binned = f.binned refl
 
-    pub fill_heads : HeadRoom text levels1 spots1 ids names ranks work1 (plan_with p true)
+    pub fill_heads : HeadRoom text levels1 spots1 ids names ranks work1 (plan_with p Fill)
     fill_heads =
         let b = binned.room in
         record {
           short = plan_short text ids names ranks n t p.ids p.slots r.room.planned;
           deep = f.deep;
           spots_room = f.spots_room;
-          named = plan_named text ids names ranks n t p.ids p.slots r.room.planned (plan_with p true) refl refl refl refl;
+          named = plan_named text ids names ranks n t p.ids p.slots r.room.planned (plan_with p Fill) refl refl refl refl;
           ranked = r.room.planned.numbered.ranked;
           room = omega arith;
         }
 
-    module _ (levels2 spots2 work2 : List ℕ) (g : HeadsLaid text levels2 spots2 ranks work1 work2 (plan_with p true)) (l2 : length work2 ≡ length work1) where
+    module _ (levels2 spots2 work2 : List ℕ) (g : HeadsLaid text levels2 spots2 ranks work1 work2 (plan_with p Fill)) (l2 : length work2 ≡ length work1) where
       binned' : Binned (bin_count n t) (lay_base n t) (counts_of items) work2 next1 items
       binned' =
           let b = binned.room in
@@ -168,29 +171,22 @@ module _ (text levels spots ids names ranks work next : List ℕ) (p : Plan) (r 
 
 -- ---- both
 
-abbrev pub LaidCase : List ℕ → List ℕ → Laid → Type 0
-LaidCase text work Many = Oversize text
-LaidCase text work (Size s) = TablesIn text work s
+abbrev pub LaidCase : List ℕ → List ℕ → Result ℕ Refusal → Type 0
+LaidCase text work (Err e) = (e ≡ Many) × Oversize text
+LaidCase text work (Ok s) = TablesIn text work s
 
-pub record LaidAs (text work : List ℕ) (r : Laid) : Type 0 where
+pub record LaidAs (text work : List ℕ) (r : Result ℕ Refusal) : Type 0 where
   pub is : LaidCase text work r
 
-module _ (text ranks next1 : List ℕ) (p : Plan) (counted : Laid) (c : CountedAs text ranks next1 p counted) where
-  pub laid_many : (work : List ℕ) → counted ≡ Many → LaidAs text work Many
-  laid_many work e = let k = subst (CountedAs text ranks next1 p) e c in record { is = k.is }
+module _ (text ranks next1 : List ℕ) (p : Plan) (s : ℕ) (c : CountedAs text ranks next1 p (Ok s)) where
+  pub laid_ready : (levels spots ids names work next levels1 spots1 work1 : List ℕ) → FillRoom text levels spots ids names ranks work next p →
+      length levels1 ≡ length levels → length spots1 ≡ length spots → length work1 ≡ length work → length next1 ≡ length next → FillReady text levels1 spots1 ids names ranks work1 next1 p
+  laid_ready levels spots ids names work next levels1 spots1 work1 r a b d f =
+      record {
+        room = record { deep = a ∙ r.deep; spots_room = b ∙ r.spots_room; work_room = d ∙ r.work_room; next_room = f ∙ r.next_room; planned = r.planned };
+        size = s;
+        begun = c.is;
+      }
 
-  module _ (s : ℕ) (e : counted ≡ Size s) where
-    pub laid_ready : (levels spots ids names work next levels1 spots1 work1 : List ℕ) → FillRoom text levels spots ids names ranks work next p →
-        length levels1 ≡ length levels → length spots1 ≡ length spots → length work1 ≡ length work → length next1 ≡ length next → FillReady text levels1 spots1 ids names ranks work1 next1 p
-    laid_ready levels spots ids names work next levels1 spots1 work1 r a b d f =
-        let k = subst (CountedAs text ranks next1 p) e c in
-        record {
-          room = record { deep = a ∙ r.deep; spots_room = b ∙ r.spots_room; work_room = d ∙ r.work_room; next_room = f ∙ r.next_room; planned = r.planned };
-          size = s;
-          begun = k.is;
-        }
-
-    pub laid_done : (work2 : List ℕ) → FilledAs text ranks work2 p → LaidAs text work2 (Size s)
-    laid_done work2 w =
-        let k = subst (CountedAs text ranks next1 p) e c in
-        record { is = subst (TablesIn text work2) (sym k.is.total) w.is }
+  pub laid_done : (work2 : List ℕ) → FilledAs text ranks work2 p → LaidAs text work2 (Ok s)
+  laid_done work2 w = record { is = subst (TablesIn text work2) (sym c.is.total) w.is }

@@ -1,5 +1,7 @@
 -- Rows and transitions of a text, counted and numbered.
-use Rattle.std.specs.Prelude.{◌≡◌, List, ℕ, ◌≤◌, ◌<◌, length, take}
+use Rattle.std.specs.Prelude.{◌≡◌, refl, List, ℕ, ◌≤◌, ◌<◌, length, take}
+use Rattle.std.specs.declared.result.Result.{Result}
+use Rattle.std.specs.declared.result.Result.TheVariants.{Ok, Err}
 use Rattle.std.proofs.Math.Path.{sym}
 use Rattle.std.proofs.Common.{subst, ◌∙◌, arith}
 use Rattle.definition.specs.declared.Answer.TheVariants.{Size}
@@ -15,8 +17,8 @@ use Rattle.items.specs.Placing.{RankRoom}
 use Rattle.walks.specs.declared.sources.Counts.{Counts}
 use Rattle.walks.specs.Sources.{SourceRoom, Sourced}
 use Rattle.walks.specs.Plan.{text_facts}
-use Rattle.read_text.specs.declared.number.Numbered.{Numbered}
-use Rattle.read_text.specs.declared.number.Numbered.TheVariants.{Many, Count}
+use Rattle.read_text.specs.declared.refused.Refusal.{Refusal}
+use Rattle.read_text.specs.declared.refused.Refusal.TheVariants.{Many}
 
 pub record NumberRoom (text levels spots noted next ranks : List ℕ) : Type 0 where
   pub short : length text ≤ 32768
@@ -36,11 +38,11 @@ pub record NumberedBy (text ranks : List ℕ) (n t : ℕ) : Type 0 where
   pub transitions_few : t ≤ 512
   pub ranked : Ranked n t (sources_of (text_facts text)) ranks
 
-abbrev pub NumberedCase : List ℕ → List ℕ → Numbered → Type 0
-NumberedCase text ranks Many = TooMany text
-NumberedCase text ranks (Count n t) = NumberedBy text ranks n t
+abbrev pub NumberedCase : List ℕ → List ℕ → Result Counts Refusal → Type 0
+NumberedCase text ranks (Err e) = (e ≡ Many) × TooMany text
+NumberedCase text ranks (Ok c) = NumberedBy text ranks c.rows c.transitions
 
-pub record NumberedAs (text ranks : List ℕ) (r : Numbered) : Type 0 where
+pub record NumberedAs (text ranks : List ℕ) (r : Result Counts Refusal) : Type 0 where
   pub is : NumberedCase text ranks r
 
 pub number_sources : (text levels cells spots noted next ranks : List ℕ) → NumberRoom text levels spots noted next ranks → length cells ≡ 22 → SourceRoom text levels cells spots noted
@@ -52,8 +54,8 @@ module _ (text levels cells spots noted : List ℕ) (c : Counts) (s : Sourced te
   unfolding content_of
   rows = s.rows_are (ids_of (tags_of text)) ∙ sym (rows_count (text_facts text))
 
-  pub number_rows : (ranks : List ℕ) → 256 < c.rows → NumberedAs text ranks Many
-  number_rows ranks h = let r = rows in record { is = record { is = λ slots. many_rows slots (content_of (tags_of text)) (omega arith) } }
+  pub number_rows : (ranks : List ℕ) → 256 < c.rows → NumberedAs text ranks (Err Many)
+  number_rows ranks h = let r = rows in record { is = (refl, record { is = λ slots. many_rows slots (content_of (tags_of text)) (omega arith) }) }
 
   pub number_room : (next ranks : List ℕ) → length next ≡ 2816 → length ranks ≡ 2913 → c.rows ≤ 256 → RankRoom noted c.transitions c.rows next ranks
   number_room next ranks a b h =
@@ -68,8 +70,8 @@ module _ (text levels cells spots noted : List ℕ) (c : Counts) (s : Sourced te
     unfolding content_of
     transitions = ranked.many ∙ sym (transitions_count (text_facts text) c.rows rows)
 
-    pub number_transitions : 512 < t → NumberedAs text ranks Many
-    number_transitions h = let e = transitions in record { is = record { is = λ slots. many_transitions slots (content_of (tags_of text)) (omega arith) } }
+    pub number_transitions : 512 < t → NumberedAs text ranks (Err Many)
+    number_transitions h = let e = transitions in record { is = (refl, record { is = λ slots. many_transitions slots (content_of (tags_of text)) (omega arith) }) }
 
-    pub number_done : c.rows ≤ 256 → t ≤ 512 → NumberedAs text ranks (Count c.rows t)
+    pub number_done : c.rows ≤ 256 → t ≤ 512 → NumberedAs text ranks (Ok (record { rows = c.rows; transitions = t }))
     number_done a b = record { is = record { rows_are = rows; rows_few = a; transitions_few = b; ranked = ranked } }

@@ -1,6 +1,6 @@
 -- What is known of a text before its tables are laid.
 use Rattle.std.specs.Prelude.{◌≡◌, List, ℕ, ◌≤◌, length}
-use Rattle.std.proofs.Common.{subst}
+use Rattle.std.proofs.Common.{sym, subst}
 use Rattle.definition.specs.declared.Answer.TheVariants.{Size}
 use Rattle.definition.specs.Rules.{keeps_rules}
 use Rattle.reading.specs.Tags.{tags_of}
@@ -9,16 +9,17 @@ use Rattle.reading.specs.Content.{content_of, slots_of}
 use Rattle.reading.specs.Layout.{read_of, faulty}
 use Rattle.values.specs.Ids.{Noted, ids_from}
 use Rattle.lay.specs.Sizes.{many_names}
-use Rattle.reader.specs.declared.Judged.{Judged}
-use Rattle.reader.specs.declared.Judged.TheVariants.{Faulty as JudgedFaulty, Well as JudgedWell}
-use Rattle.reader.specs.Judged.{WellRead, JudgedAs}
-use Rattle.slots.specs.declared.Slots.{Slots}
-use Rattle.slots.specs.declared.Slots.TheVariants.{Many as ManySlots, Count as CountSlots}
+use Rattle.std.specs.declared.result.Result.{Result}
+use Rattle.std.specs.declared.result.Result.TheVariants.{Ok, Err}
+use Rattle.markup.specs.declared.Fault.{Fault}
+use Rattle.reader.specs.Judged.{JudgedAs}
+use Rattle.slots.specs.declared.TooMany.{TooMany}
 use Rattle.slots.specs.Walk.{Begun, Gathered}
-use Rattle.read_text.specs.declared.number.Numbered.{Numbered}
-use Rattle.read_text.specs.declared.number.Numbered.TheVariants.{Many as ManyNumbered, Count as CountNumbered}
-use Rattle.read_text.specs.declared.survey.Surveyed.{Surveyed}
-use Rattle.read_text.specs.declared.survey.Surveyed.TheVariants.{Faulty, Many, Planned}
+use Rattle.walks.specs.declared.sources.Counts.{Counts}
+use Rattle.walks.specs.declared.plan.Plan.{Plan}
+use Rattle.walks.specs.declared.plan.Pass.{Pass}
+use Rattle.read_text.specs.declared.refused.Refusal.{Refusal}
+use Rattle.read_text.specs.declared.refused.Refusal.TheVariants.{Faulty, Many}
 use Rattle.read_text.specs.Hand.{Well, tables_of, slots_in}
 use Rattle.read_text.specs.Number.{NumberedBy, NumberedAs}
 
@@ -48,54 +49,51 @@ pub record PlannedBy (text ids names ranks : List ℕ) (n t i m : ℕ) : Type 0 
   pub names_are : ids_from text names m 0 ≡ slots_of (tags_of text)
   pub names_few : m ≤ 768
 
-abbrev pub SurveyedCase : List ℕ → List ℕ → List ℕ → List ℕ → Surveyed → Type 0
-SurveyedCase text ids names ranks (Faulty at) = FaultyAt text at
-SurveyedCase text ids names ranks Many = Oversize text
-SurveyedCase text ids names ranks (Planned n t i m) = PlannedBy text ids names ranks n t i m
+abbrev pub RefusedCase : List ℕ → Refusal → Type 0
+RefusedCase text (Faulty at) = FaultyAt text at
+RefusedCase text Many = Oversize text
 
-pub record SurveyedAs (text ids names ranks : List ℕ) (r : Surveyed) : Type 0 where
+abbrev pub SurveyedCase : List ℕ → List ℕ → List ℕ → List ℕ → Result Plan Refusal → Type 0
+SurveyedCase text ids names ranks (Err e) = RefusedCase text e
+SurveyedCase text ids names ranks (Ok p) = PlannedBy text ids names ranks p.rows p.transitions p.ids p.slots
+
+pub record SurveyedAs (text ids names ranks : List ℕ) (r : Result Plan Refusal) : Type 0 where
   pub is : SurveyedCase text ids names ranks r
 
-module _ (text levels ids : List ℕ) (j : Judged) (r : JudgedAs text levels ids j) where
-  pub survey_faulty : (at : ℕ) → j ≡ JudgedFaulty at → (names ranks : List ℕ) → SurveyedAs text ids names ranks (Faulty at)
-  survey_faulty at e names ranks = record { is = record { is = subst (JudgedAs text levels ids) e r } }
+pub survey_faulty : (text ids names ranks : List ℕ) (f : Fault) → read_of text ≡ faulty f.at → SurveyedAs text ids names ranks (Err (Faulty f.at))
+survey_faulty text ids names ranks f r = record { is = record { is = r } }
 
-  module _ (i : ℕ) (e : j ≡ JudgedWell i) where
-    well : WellRead text levels ids i
-    well = subst (JudgedAs text levels ids) e r
+module _ (text levels ids : List ℕ) (i : ℕ) (well : JudgedAs text levels ids (Ok i)) where
+  known : Well text
+  known = record { levels = levels; ids = ids; count = i; is = well }
 
-    known : Well text
-    known = record { levels = levels; ids = ids; count = i; is = well }
+  pub survey_short : length text ≤ 32768
+  survey_short = well.gathered.noted.short
 
-    pub survey_short : length text ≤ 32768
-    survey_short = well.gathered.noted.short
+  pub survey_begun : (names : List ℕ) → length names ≡ 4864 → Begun text levels names
+  survey_begun names n = record { short = survey_short; deep = well.gathered.begun.deep; room = n }
 
-    pub survey_begun : (names : List ℕ) → length names ≡ 4864 → Begun text levels names
-    survey_begun names n = record { short = survey_short; deep = well.gathered.begun.deep; room = n }
+  module _ (levels' names : List ℕ) where
+    pub survey_many : (many : TooMany) → Gathered text levels' names (Err many) → (ranks : List ℕ) → SurveyedAs text ids names ranks (Err Many)
+    survey_many many h ranks = record { is = record { well = known; is = many_names (slots_of (tags_of text)) (content_of (tags_of text)) h.slots_are_lem } }
 
-    module _ (levels' names : List ℕ) (s : Slots) (g : Gathered text levels' names s) where
-      pub survey_many : (ranks : List ℕ) → s ≡ ManySlots → SurveyedAs text ids names ranks Many
-      survey_many ranks q =
-          let h = subst (Gathered text levels' names) q g in
-          record { is = record { well = known; is = many_names (slots_of (tags_of text)) (content_of (tags_of text)) h.slots_are_lem } }
+    module _ (m : ℕ) (h : Gathered text levels' names (Ok m)) (ranks : List ℕ) where
+      pub survey_over : (e : Refusal) → NumberedAs text ranks (Err e) → SurveyedAs text ids names ranks (Err e)
+      survey_over e d =
+          subst (λ (x : Refusal). SurveyedAs text ids names ranks (Err x)) (sym d.is.0) (record { is = record { well = known; is = d.is.1.is (slots_of (tags_of text)) } })
 
-      module _ (m : ℕ) (q : s ≡ CountSlots m) (ranks : List ℕ) (b : Numbered) (k : NumberedAs text ranks b) where
-        pub survey_over : b ≡ ManyNumbered → SurveyedAs text ids names ranks Many
-        survey_over z = let h = subst (NumberedAs text ranks) z k in record { is = record { well = known; is = h.is.is (slots_of (tags_of text)) } }
-
-        pub survey_planned : (n t : ℕ) → b ≡ CountNumbered n t → SurveyedAs text ids names ranks (Planned n t i m)
-        survey_planned n t z =
-            let h = subst (Gathered text levels' names) q g in
-            let d = subst (NumberedAs text ranks) z k in
-            record {
-              is =
-                  record {
-                    well = known;
-                    numbered = d.is;
-                    ids_noted = well.gathered.noted;
-                    ids_are = well.gathered.ids_are;
-                    names_noted = h.slots_are_lem.noted;
-                    names_are = h.slots_are_lem.are;
-                    names_few = h.slots_are_lem.few;
-                  };
-            }
+      pub survey_planned : (c : Counts) → NumberedAs text ranks (Ok c) → (z : Pass) →
+          SurveyedAs text ids names ranks (Ok (record { rows = c.rows; transitions = c.transitions; ids = i; slots = m; pass = z }))
+      survey_planned c d z =
+          record {
+            is =
+                record {
+                  well = known;
+                  numbered = d.is;
+                  ids_noted = well.gathered.noted;
+                  ids_are = well.gathered.ids_are;
+                  names_noted = h.slots_are_lem.noted;
+                  names_are = h.slots_are_lem.are;
+                  names_few = h.slots_are_lem.few;
+                };
+          }

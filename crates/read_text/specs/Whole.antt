@@ -1,5 +1,7 @@
 -- The whole call, with its work places.
 use Rattle.std.specs.Prelude.{◌≡◌, refl, Bool, true, false, not, ◌&&◌, List, ℕ, length}
+use Rattle.std.specs.declared.result.Result.{Result}
+use Rattle.std.specs.declared.result.Result.TheVariants.{Ok, Err}
 use Rattle.std.proofs.Math.Path.{sym}
 use Rattle.std.proofs.Common.{ap, subst, ◌∙◌}
 use Rattle.std.proofs.Math.Dec.{eqb}
@@ -10,7 +12,8 @@ use Rattle.read_text.specs.declared.hand_out.Read.{Read}
 use Rattle.read_text.specs.Outcome.{refused, outcome_of}
 use Rattle.read_text.specs.Hand.{HandRoom}
 use Rattle.read_text.specs.declared.tabled.Tabled.{Tabled}
-use Rattle.read_text.specs.declared.tabled.Tabled.TheVariants.{Faulty, Many, Size}
+use Rattle.read_text.specs.declared.refused.Refusal.{Refusal}
+use Rattle.read_text.specs.declared.refused.Refusal.TheVariants.{Faulty, Many}
 use Rattle.read_text.specs.Survey.{Oversize}
 use Rattle.read_text.specs.Tabled.{TabledAs}
 
@@ -105,17 +108,17 @@ oversize : (text place name_place_is : List ℕ) → Oversize text → (r : Read
 oversize text place name_place_is o r i =
     ap (λ (x : Read). outcome_of x place name_place_is) i ∙ sym (call_size text place name_place_is o.well.levels o.well.ids o.well.count o.well.is o.is)
 
-module _ (text names work : List ℕ) (tabled : Tabled) (s : TabledAs text names work tabled) where
-  pub read_faulty : (at : ℕ) → tabled ≡ Faulty at → (place name_place_is : List ℕ) (r : Read) → r ≡ refused 12 at → outcome_of r place name_place_is ≡ call_of text place name_place_is
-  read_faulty at e place name_place_is r i =
-      let k = subst (TabledAs text names work) e s in
+module _ (text names work : List ℕ) (tabled : Result Tabled Refusal) (s : TabledAs text names work tabled) where
+  pub read_faulty : (e : Refusal) → tabled ≡ Err e → (at : ℕ) → e ≡ Faulty at → (place name_place_is : List ℕ) (r : Read) → r ≡ refused 12 at → outcome_of r place name_place_is ≡ call_of text place name_place_is
+  read_faulty e q at f place name_place_is r i =
+      let k = subst (TabledAs text names work) (q ∙ ap Err f) s in
       ap (λ (x : Read). outcome_of x place name_place_is) i ∙ sym (call_faulty text place name_place_is at k.is.is)
 
-  pub read_many : tabled ≡ Many → (place name_place_is : List ℕ) (r : Read) → r ≡ refused 1 0 → outcome_of r place name_place_is ≡ call_of text place name_place_is
-  read_many e place name_place_is r i = let k = subst (TabledAs text names work) e s in oversize text place name_place_is k.is r i
+  pub read_many : (e : Refusal) → tabled ≡ Err e → e ≡ Many → (place name_place_is : List ℕ) (r : Read) → r ≡ refused 1 0 → outcome_of r place name_place_is ≡ call_of text place name_place_is
+  read_many e q f place name_place_is r i = let k = subst (TabledAs text names work) (q ∙ ap Err f) s in oversize text place name_place_is k.is r i
 
-  pub read_hand : (size m : ℕ) → tabled ≡ Size size m → (names_work : List ℕ) → length names_work ≡ 49152 → HandRoom text names m work size names_work
-  read_hand size m e names_work b =
+  pub read_hand : (t : Tabled) → tabled ≡ Ok t → (names_work : List ℕ) → length names_work ≡ 49152 → HandRoom text names t.slots work t.size names_work
+  read_hand t e names_work b =
       let k = subst (TabledAs text names work) e s in
       record {
         well = k.is.well;

@@ -1,37 +1,17 @@
 // The tables of a text laid in a work place: the cells of all lists and blocks are counted, the counts held against rule 1, and then each cell has its place.
-ghost use Rattle.std.specs.Prelude.{◌≡◌, ◌<◌};
 ghost use Rattle.read_text.specs.Count.{FillRoom, CountedAs};
 ghost use Rattle.read_text.specs.Fill.{FillReady, FilledAs, LaidAs};
 
+use crate::refused::Refusal;
 use bins::starts;
 use cells::lay_cells;
 use cells::totals::is_within;
 use items::clear;
 use walks::heads::lay_heads;
 use walks::item_walk::file_items;
-use walks::plan::Plan;
+use walks::plan::{Pass, Plan};
 
-// More than rule 1 allows, or so many numbers.
-#[derive(Clone, Copy)]
-pub enum Laid {
-    Many,
-    Size(usize),
-}
-
-fn narrow(x: usize) -> u32
-    requires { x < 4294967296 }
-    ensures { result ≡ x }
-{
-    x as u32
-}
-
-fn wide(x: u32) -> usize
-    ensures { result ≡ x }
-{
-    x as usize
-}
-
-// The bins of all lists and blocks begin where the counts say.
+// The bins of all lists and blocks begin where the counts say: how many numbers the tables have, or more than rule 1 allows.
 fn count_tables(
     text: &[u8],
     levels: &mut [u8],
@@ -42,7 +22,7 @@ fn count_tables(
     work: &mut [u64],
     next: &mut [u32],
     p: Plan,
-) -> Laid
+) -> Result<usize, Refusal>
     requires { FillRoom text.now levels.old spots.old ids.now names.now ranks.now work.old next.old p }
     ensures { CountedAs text.now ranks.now next.new p result }
 {
@@ -51,20 +31,17 @@ fn count_tables(
     let bins = n * 2 + t + t + n * 3 + t;
     clear(next, bins);
     let counting = Plan {
-        rows: n,
-        transitions: t,
-        ids: p.ids,
-        slots: p.slots,
-        fill: false,
+        pass: Pass::Count,
+        ..p
     };
     file_items(text, levels, spots, ids, names, ranks, work, next, counting);
     let within = is_within(next, n, t);
     if !within {
-        return Laid::Many;
+        return Err(Refusal::Many);
     }
-    let base = narrow(6 + n * 11 + t * 9);
+    let base = (6 + n * 11 + t * 9) as u32;
     let end = starts(next, bins, base);
-    Laid::Size(wide(end))
+    Ok(end as usize)
 }
 
 // All cells at their places.
@@ -86,18 +63,15 @@ fn fill_tables(
     let t = p.transitions;
     let m = p.slots;
     let filling = Plan {
-        rows: n,
-        transitions: t,
-        ids: p.ids,
-        slots: m,
-        fill: true,
+        pass: Pass::Fill,
+        ..p
     };
     file_items(text, levels, spots, ids, names, ranks, work, next, filling);
     lay_heads(text, levels, spots, ids, names, ranks, work, filling);
     lay_cells(work, next, n, t, m);
 }
 
-// The tables of the text at the beginning of the work place, or more than rule 1 allows.
+// The tables of the text at the beginning of the work place, and how many numbers they have; or more than rule 1 allows.
 pub fn lay_tables(
     text: &[u8],
     levels: &mut [u8],
@@ -108,16 +82,11 @@ pub fn lay_tables(
     work: &mut [u64],
     next: &mut [u32],
     p: Plan,
-) -> Laid
+) -> Result<usize, Refusal>
     requires { FillRoom text.now levels.old spots.old ids.now names.now ranks.now work.old next.old p }
     ensures { LaidAs text.now work.new result }
 {
-    let counted = count_tables(text, levels, spots, ids, names, ranks, work, next, p);
-    match counted {
-        Laid::Many => Laid::Many,
-        Laid::Size(s) => {
-            fill_tables(text, levels, spots, ids, names, ranks, work, next, p);
-            Laid::Size(s)
-        }
-    }
+    let size = count_tables(text, levels, spots, ids, names, ranks, work, next, p)?;
+    fill_tables(text, levels, spots, ids, names, ranks, work, next, p);
+    Ok(size)
 }

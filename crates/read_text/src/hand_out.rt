@@ -4,9 +4,8 @@ ghost use Rattle.reading.specs.Calls.{call_of};
 ghost use Rattle.read_text.specs.Outcome.{refused, outcome_of};
 ghost use Rattle.read_text.specs.Hand.{HandRoom};
 
-use answers::answer_number;
+use lay::copy_first;
 use lay::name_slots::lay_names;
-use lay::{copy_bytes, copy_numbers};
 use rules::keeps_rules;
 
 // The answer, the offset of a fault, and how many numbers and bytes the tables have.
@@ -53,12 +52,12 @@ pub fn hand_out(
     }
     lay_names(text, slots, m, names);
     let from = 0;
-    let answer = answer_number(keeps_rules(&work[from..size], &names[from..bytes]));
+    let answer = u32::from(keeps_rules(&work[from..size], &names[from..bytes]));
     if answer != 0 {
         return refusal(answer, 0);
     }
-    copy_numbers(work, size, place);
-    copy_bytes(names, bytes, name_place);
+    copy_first(work, size, place);
+    copy_first(names, bytes, name_place);
     Read {
         answer: 0,
         offset: 0,

@@ -7,11 +7,13 @@ ghost use Rattle.read_text.specs.Outcome.{outcome_of};
 ghost use Rattle.read_text.specs.Whole.{places_fit, ReadRoom, read_with, WorkKept};
 
 use crate::hand_out::{Read, hand_out, refusal};
-use crate::tabled::{Tabled, lay_text};
+use crate::refused::Refusal;
+use crate::tabled::lay_text;
 
 pub mod fill;
 pub mod hand_out;
 pub mod number;
+pub mod refused;
 pub mod survey;
 pub mod tabled;
 
@@ -65,10 +67,10 @@ fn read_in(
         work,
     );
     match tabled {
-        Tabled::Faulty(at) => refusal(12, at),
-        Tabled::Many => refusal(1, 0),
-        Tabled::Size(size, m) => hand_out(
-            text, &names, m, work, size, name_work, place, name_place,
+        Err(Refusal::Faulty(at)) => refusal(12, at),
+        Err(Refusal::Many) => refusal(1, 0),
+        Ok(t) => hand_out(
+            text, &names, t.slots, work, t.size, name_work, place, name_place,
         ),
     }
 }

@@ -1,18 +1,12 @@
 // Rows and transitions counted and numbered: "by source row, then by place" (1.18).
 ghost use Rattle.read_text.specs.Number.{NumberRoom, NumberedAs};
 
+use crate::refused::Refusal;
 use items::rank;
 use tables::limits::{MOST_ROWS, MOST_TRANSITIONS};
-use walks::sources::sources;
+use walks::sources::{Counts, sources};
 
-// More than rule 1 allows, or so many rows and transitions.
-#[derive(Clone, Copy)]
-pub enum Numbered {
-    Many,
-    Count(usize, usize),
-}
-
-// The number in the tables of each transition of the text is its rank.
+// How many rows and transitions the tables have, or there are more than rule 1 allows. The number in the tables of each transition of the text is its rank.
 pub fn number(
     text: &[u8],
     levels: &mut [u8],
@@ -20,7 +14,7 @@ pub fn number(
     noted: &mut [u16],
     next: &mut [u32],
     ranks: &mut [u16],
-) -> Numbered
+) -> Result<Counts, Refusal>
     requires { NumberRoom text.now levels.old spots.old noted.old next.old ranks.old }
     ensures { NumberedAs text.now ranks.new result }
 {
@@ -29,11 +23,11 @@ pub fn number(
     let rows = counts.rows;
     let many = counts.transitions;
     if MOST_ROWS < rows as u64 {
-        return Numbered::Many;
+        return Err(Refusal::Many);
     }
     let transitions = rank(noted, many, rows, next, ranks);
     if MOST_TRANSITIONS < transitions as u64 {
-        return Numbered::Many;
+        return Err(Refusal::Many);
     }
-    Numbered::Count(rows, transitions)
+    Ok(Counts { rows, transitions })
 }

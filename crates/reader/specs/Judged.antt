@@ -3,19 +3,20 @@ use Rattle.std.proofs.Math.Path.{◌≡◌, sym, ap}
 use Rattle.std.specs.Prelude.{refl, Bool, true, false, not, List, ℕ, ◌-◌, ◌≤◌, ◌<◌, length, take, drop}
 use Rattle.std.proofs.Common.{◌∙◌, arith, length-take, take-take}
 use Rattle.std.proofs.Math.Option.{Option, none, some}
-use borrow.Author.Tests.{not-true, not-false, lt-leb}
+use borrow.Author.Tests.{lt-leb}
 use Rattle.grammar.specs.Grammar.{in_grammar, grammar_fault, start, live_bytes}
 use Rattle.markup.specs.Passes.{Found}
 use Rattle.reading.specs.Tags.{tags_of}
 use Rattle.reading.specs.Faults.{first_fault}
 use Rattle.reading.specs.Layout.{faulty, read_of, searched}
-use Rattle.values.specs.declared.Fault.{Fault}
-use Rattle.values.specs.declared.Fault.TheVariants.{Nothing, At}
+use Rattle.std.specs.declared.option.Option.{Option as program}
+use Rattle.std.specs.declared.option.Option.TheVariants.{Some, None}
+use Rattle.std.specs.declared.result.Result.{Result}
+use Rattle.std.specs.declared.result.Result.TheVariants.{Ok, Err}
+use Rattle.markup.specs.declared.Fault.{Fault}
 use Rattle.values.specs.Items.{found_of}
 use Rattle.gather.specs.Ids.{Begun, Gathered}
 use Rattle.gather.specs.Faults.{Searched}
-use Rattle.reader.specs.declared.Judged.{Judged}
-use Rattle.reader.specs.declared.Judged.TheVariants.{Faulty, Well}
 
 -- the places that the walks work in: a level for each byte, three numbers for each id that a text can have and one for each of 1,024 keys
 pub record Places (levels ids : List ℕ) : Type 0 where
@@ -28,9 +29,9 @@ pub record WellRead (text levels ids : List ℕ) (n : ℕ) : Type 0 where
   pub is_text_lem : in_grammar text ≡ true
   pub no_fault : first_fault (tags_of text) ≡ none
 
-abbrev pub JudgedAs : List ℕ → List ℕ → List ℕ → Judged → Type 0
-JudgedAs text levels ids (Faulty at) = read_of text ≡ faulty at
-JudgedAs text levels ids (Well n) = WellRead text levels ids n
+abbrev pub JudgedAs : List ℕ → List ℕ → List ℕ → Result ℕ Fault → Type 0
+JudgedAs text levels ids (Err f) = read_of text ≡ faulty f.at
+JudgedAs text levels ids (Ok n) = WellRead text levels ids n
 
 pub judge_begun : (text levels ids : List ℕ) → length text ≤ 32768 → length levels ≡ 32768 → length ids ≡ 24434 → Begun text levels ids
 judge_begun text levels ids s d r = record { short = s; deep = d; room = r }
@@ -38,34 +39,43 @@ judge_begun text levels ids s d r = record { short = s; deep = d; room = r }
 module _ (text : List ℕ) where
   -- what is read of a text that is too long
   abbrev pub head : List ℕ
-  head = take (32768 - 0) (drop 0 text)
+  head = take 32768 text
 
   pub judge_head : (levels ids : List ℕ) → length levels ≡ 32768 → length ids ≡ 24434 → Begun head levels ids
   judge_head levels ids d r = record { short = simp length-take (omega arith); deep = d; room = r }
 
-  pub judge_long : 32768 < length text → (at : ℕ) (whole : Bool) → Found head at whole → read_of text ≡ faulty at
+  judge_long : 32768 < length text → (at : ℕ) → at ≡ grammar_fault head → read_of text ≡ faulty at
   unfolding read_of in_grammar grammar_fault
-  judge_long long at whole found =
+  judge_long long at e =
       rw (lt-leb (length text) 32768 long)
-      (ap faulty (sym (found.first ∙ ap (live_bytes start) (take-take 32768 32768 text (omega arith)))))
+      (ap faulty (sym (e ∙ ap (live_bytes start) (take-take 32768 32768 text (omega arith)))))
 
-module _ (text : List ℕ) (at : ℕ) (whole : Bool) (found : Found text at whole) where
-  pub judge_outside : not whole ≡ true → read_of text ≡ faulty at
+  pub head_faulty : 32768 < length text → (f : Fault) → Found head (Err f) → read_of text ≡ faulty f.at
+  head_faulty long f found = judge_long long f.at found.0
+
+  -- the first bytes are a text of their own
+  pub head_whole : 32768 < length text → Found head (Ok (tt {0})) → read_of text ≡ faulty 32768
+  head_whole long found = judge_long long 32768 (all ∙ found.0)
+    where
+      all : 32768 ≡ length head
+      all = simp length-take (omega arith)
+
+  pub judge_outside : (f : Fault) → Found text (Err f) → read_of text ≡ faulty f.at
   unfolding read_of
-  judge_outside q = rw (sym found.is_whole ∙ not-true whole q) (ap faulty (sym found.first))
+  judge_outside f found = rw (sym found.1) (ap faulty (sym found.0))
 
-  module _ (levels ids : List ℕ) (n : ℕ) (fault : Fault) (in_text_lem : not whole ≡ false) (s : Searched text levels ids n fault) where
-    pub judge_fault : (i : ℕ) → fault ≡ At i → read_of text ≡ faulty i
+  module _ (found : Found text (Ok (tt {0}))) (levels ids : List ℕ) (n : ℕ) (fault : program ℕ) (s : Searched text levels ids n fault) where
+    pub judge_fault : (i : ℕ) → fault ≡ Some i → read_of text ≡ faulty i
     unfolding read_of
-    judge_fault i e = rw (sym found.is_whole ∙ not-false whole in_text_lem) (by (first_fault (tags_of text)) refl)
+    judge_fault i e = rw (sym found.1) (by (first_fault (tags_of text)) refl)
       where
         by : (o : Option ℕ) → first_fault (tags_of text) ≡ o → searched (first_fault (tags_of text)) (tags_of text) ≡ faulty i
-        by none o = absurd (let x : At i ≡ Nothing = sym e ∙ s.is ∙ ap found_of o in let z : ◌≡◌ {A = ℕ} 0 1 = cc in omega arith)
-        by (some j) o = let x : At i ≡ At j = sym e ∙ s.is ∙ ap found_of o in let same : j ≡ i = cc in rw o (ap faulty same)
+        by none o = absurd (let x : Some i ≡ None = sym e ∙ s.is ∙ ap found_of o in let z : ◌≡◌ {A = ℕ} 0 1 = cc in omega arith)
+        by (some j) o = let x : Some i ≡ Some j = sym e ∙ s.is ∙ ap found_of o in let same : j ≡ i = cc in rw o (ap faulty same)
 
-    pub judge_well : fault ≡ Nothing → WellRead text levels ids n
-    judge_well e = record { gathered = s.gathered; is_text_lem = sym found.is_whole ∙ not-false whole in_text_lem; no_fault = by (first_fault (tags_of text)) refl }
+    pub judge_well : fault ≡ None → WellRead text levels ids n
+    judge_well e = record { gathered = s.gathered; is_text_lem = sym found.1; no_fault = by (first_fault (tags_of text)) refl }
       where
         by : (o : Option ℕ) → first_fault (tags_of text) ≡ o → first_fault (tags_of text) ≡ none
         by none o = o
-        by (some j) o = absurd (let x : Nothing ≡ At j = sym e ∙ s.is ∙ ap found_of o in let z : ◌≡◌ {A = ℕ} 0 1 = cc in omega arith)
+        by (some j) o = absurd (let x : None ≡ Some j = sym e ∙ s.is ∙ ap found_of o in let z : ◌≡◌ {A = ℕ} 0 1 = cc in omega arith)

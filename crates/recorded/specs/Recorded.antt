@@ -1,5 +1,5 @@
 -- The calls with a journal (R-10), over those without one; whole lists of them, steps back included.
-use Rattle.std.specs.Prelude.{Bool, true, false, not, ◌&&◌, ◌||◌, cond, List, [], ◌∷◌, ◌++◌, map, ℕ, eqb, leb, length, take}
+use Rattle.std.specs.Prelude.{Bool, false, not, ◌&&◌, ◌||◌, cond, List, [], ◌∷◌, ◌++◌, map, ℕ, eqb, leb, length, take}
 use Rattle.definition.specs.declared.Answer.{Answer}
 use Rattle.definition.specs.declared.Answer.TheVariants.{Done, JournalFull}
 use Rattle.definition.specs.Chart.{Chart, Names as NameTable}

@@ -1,21 +1,19 @@
 -- A run's rounds can be done again without a room, and what can be done without a room is a run's in any room that suffices: an entry of a run says enough (R-10).
 use Rattle.std.proofs.Math.Path.{◌≡◌, refl, sym, ap}
 use Rattle.std.proofs.Common.{◌∙◌, arith, length-append}
-use Rattle.std.specs.Prelude.{Bool, ◌||◌, cond, eqb, ltb}
+use Rattle.std.specs.Prelude.{Bool, ◌||◌, eqb, ltb}
 use Rattle.std.proofs.Math.Bool.{true, false}
-use mathlib.Core.List.{List, [], ◌∷◌, ◌++◌}
+use mathlib.Core.List.{List, [], ◌++◌}
 use Rattle.std.proofs.Math.Option.{Option, none, some}
 use Prim.Native.Nat.{ℕ, zero, suc, ◌+◌, ◌-◌, ◌≤◌}
 use Rattle.std.proofs.Math.ListN.{length}
 use borrow.Author.Tests.{le-ltb}
 use Rattle.definition.specs.declared.Answer.{Answer}
 use Rattle.definition.specs.declared.Answer.TheVariants.{Full, NoRoom}
-use Rattle.definition.specs.declared.Status.{Status}
-use Rattle.definition.specs.declared.Status.TheVariants.{More, Idle, Ended as HasEnded, Refused}
 use Rattle.definition.specs.Chart.{Chart, Names}
 use Rattle.definition.specs.Answers.{answer_no, status_no}
 use Rattle.follower.specs.Blocks.{Effect}
-use Rattle.follower.specs.Follower.{Follower, most_queued, Round, idle, over, did, round, refusal_if, refusal, Timed, timed, table_in, Ran, stopped, counted, rest_status, run}
+use Rattle.follower.specs.Follower.{Follower, most_queued, Round, idle, over, did, round, refusal_if, refusal, Timed, table_in, stopped, counted, rest_status, run}
 use Rattle.laws.specs.Bools.{bool_case}
 use Rattle.theory.specs.Runs.{next_of, refused_by, run_zero, run_round, run_cases}
 use Rattle.recorded.specs.Journal.{At, behind, unless_full, onwards, exactly}

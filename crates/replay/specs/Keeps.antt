@@ -1,23 +1,23 @@
 -- Every call with a journal keeps session and clock record well formed, and so does replay, whatever the entries (R-10).
 use Rattle.std.proofs.Math.Path.{◌≡◌, subst}
-use Rattle.std.specs.Prelude.{refl, Bool, ◌&&◌, ◌||◌, cond, ℕ, zero, suc, ◌≤◌, eqb, ltb, length, take}
-use Rattle.std.proofs.Common.{sym, ap, ◌∙◌, arith}
+use Rattle.std.specs.Prelude.{refl, Bool, ◌&&◌, cond, ℕ, ltb, length, take}
+use Rattle.std.proofs.Common.{sym, ap, arith}
 use Rattle.std.proofs.Math.Bool.{true, false}
 use mathlib.Core.List.{List, [], ◌∷◌}
 use Rattle.std.proofs.Math.Option.{Option, none, some}
-use Rattle.definition.specs.declared.Answer.TheVariants.{Done, BadSession, NoRoom}
+use Rattle.definition.specs.declared.Answer.TheVariants.{Done, BadSession}
 use Rattle.definition.specs.Tables.{chart_of, name_at}
 use Rattle.definition.specs.Rules.{keeps_rules}
-use Rattle.follower.specs.Follower.{Timed, is_ended, first_effects, start_or, start, run}
-use Rattle.follower.specs.Calls.{Call, starts, posts, clocks, runs, Outcome, follow}
+use Rattle.follower.specs.Follower.{Timed, is_ended, first_effects, start_or, start}
+use Rattle.follower.specs.Calls.{posts, clocks, follow}
 use Rattle.follower.specs.Legal.{WellTimed}
 use Rattle.laws.specs.Bools.{bool_case}
 use Rattle.laws.specs.Simulation.{Every}
 use Rattle.theory.specs.Theorems.{start_keeps, run_keeps, follow_keeps, rest_well_timed}
-use Rattle.recorded.specs.Journal.{Entered, entered_post, entered_clock, entered_run, At, accepted, exactly, again, started_at, on_to, through, replayed, Replay, refused, reached, unless_no_room, replay}
+use Rattle.recorded.specs.Journal.{Entered, entered_post, entered_clock, entered_run, At, again, started_at, on_to, through, replayed, refused, unless_no_room, replay}
 use Rattle.recorded.specs.Recorded.{Recorded, RecordedCall, calls, steps_back, RecordedOutcome, is_such, is_full, leaving, recorded_by, back_to, back, follow_recorded, follow_all_recorded, recorded_at_rest}
 use Rattle.follower.specs.Calls.{at_rest}
-use Rattle.replay.specs.Again.{Does, exactly_run}
+use Rattle.replay.specs.Again.{exactly_run}
 use Rattle.replay.specs.Making.{started_known, start_goes, accepted_some, run_known}
 
 module _ (numbers names : List ℕ) (fits : keeps_rules numbers names ≡ Done) where

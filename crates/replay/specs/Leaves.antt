@@ -1,9 +1,9 @@
 -- Entries that lead from the accepted start on, with the outcomes that they stand for: they are replayed, and so are the first of them.
-use Rattle.std.specs.Prelude.{◌≡◌, Bool, true, false, ℕ, zero, suc, ◌+◌, ◌≤◌, ◌<◌, leb, take}
+use Rattle.std.specs.Prelude.{◌≡◌, ℕ, zero, suc, ◌≤◌, ◌<◌, leb, take}
 use Rattle.std.proofs.Math.Path.{refl}
-use Rattle.std.proofs.Common.{sym, ap, ◌∙◌, arith, length-take-le, take_all, leb-true, leb-false, le-ltb}
+use Rattle.std.proofs.Common.{sym, ◌∙◌, arith, length-take-le, take_all, leb-true, leb-false, le-ltb}
 use mathlib.Core.List.{List, [], ◌∷◌, ◌++◌, map}
-use Rattle.std.proofs.Math.Option.{Option, none, some}
+use Rattle.std.proofs.Math.Option.{Option, some}
 use Rattle.std.proofs.Math.ListN.{length, length-append}
 use Rattle.std.proofs.lemmas.List.{take-append-le}
 use Rattle.definition.specs.Chart.{Chart, Names}

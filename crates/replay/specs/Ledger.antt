@@ -1,11 +1,11 @@
 -- What replay is promised to give (R-10, sentence 10.4): the calls that the entries of a journal stand for, and that replay of the first k gives what call k gave.
-use Rattle.std.specs.Prelude.{◌≡◌, Bool, true, false, cond, List, [], ◌∷◌, ◌++◌, map, ℕ, zero, suc, ◌≤◌, eqb, length, take}
+use Rattle.std.specs.Prelude.{◌≡◌, true, cond, List, [], ◌∷◌, ◌++◌, map, ℕ, zero, suc, ◌≤◌, eqb, length, take}
 use Rattle.std.proofs.Math.Option.{Option, none, some}
 use Rattle.definition.specs.Chart.{Chart, Names}
 use Rattle.follower.specs.Blocks.{trace_no}
 use Rattle.follower.specs.Follower.{is_ended}
-use Rattle.follower.specs.Calls.{Call, starts, posts, clocks, runs}
-use Rattle.recorded.specs.Journal.{Entered, most_entries, most_rounds, At, replayed, unless_no_room, replay}
+use Rattle.follower.specs.Calls.{starts, posts, clocks, runs}
+use Rattle.recorded.specs.Journal.{Entered, most_entries, most_rounds, At, unless_no_room, replay}
 use Rattle.recorded.specs.Recorded.{Recorded, RecordedCall, calls, steps_back, RecordedOutcome, follow_recorded, recorded_at_rest}
 
 -- ---- the outcomes that the entries stand for, behind that of the accepted start

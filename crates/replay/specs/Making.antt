@@ -1,23 +1,22 @@
 -- Calls that leave given entries (R-10, sentence 10.6): entries that lead somewhere from the accepted start are left by the start and one call for each of them.
 use Rattle.std.proofs.Math.Path.{◌≡◌, refl, sym, ap}
-use Rattle.std.proofs.Common.{subst, ◌∙◌}
-use Rattle.std.specs.Prelude.{Bool, ◌&&◌, ◌||◌, ℕ, zero, suc, ◌+◌, ◌≤◌, ◌<◌, eqb, leb, ltb}
+use Rattle.std.proofs.Common.{◌∙◌}
+use Rattle.std.specs.Prelude.{Bool, ◌||◌, ℕ, ◌+◌, ◌≤◌, ◌<◌, eqb, ltb}
 use Rattle.std.proofs.Math.Bool.{true, false, cond}
 use mathlib.Core.List.{List, [], ◌∷◌, ◌++◌, append_assoc, append-nil}
 use Rattle.std.proofs.Math.Option.{Option, none, some}
 use native.Mathlib.Omega.{arith}
 use Rattle.std.proofs.Math.ListN.{length, length-append}
 use borrow.Author.Tests.{lt-leb, le-ltb, ltb-false}
-use Rattle.definition.specs.declared.Answer.TheVariants.{Done}
 use Rattle.definition.specs.Chart.{Chart, Names}
-use Rattle.definition.specs.Answers.{answer_no, status_no}
-use Rattle.follower.specs.Follower.{Timed, most_queued, timed, first_follower, first_table, first_effects, refusal_if, refusal, start_or, start, is_ended, run}
+use Rattle.definition.specs.Answers.{answer_no}
+use Rattle.follower.specs.Follower.{Timed, most_queued, timed, first_follower, first_table, first_effects, refusal_if, refusal, start_or, start, is_ended}
 use Rattle.follower.specs.Calls.{Call, starts, posts, clocks, runs, Outcome, started_outcome, ran_outcome, follow}
-use Rattle.laws.specs.Bools.{no, clash, bool_case, and_false}
+use Rattle.laws.specs.Bools.{bool_case, and_false}
 use Rattle.recorded.specs.Journal.{Entered, entered_post, entered_clock, entered_run, most_entries, most_rounds, At, accepted, exactly, again, started_at, on_to, through, replayed}
 use Rattle.recorded.specs.Recorded.{Recorded, RecordedCall, calls, RecordedOutcome, entries, journal_after, is_such, is_full, recorded_by, follow_recorded}
-use Rattle.replay.specs.Again.{Does, exactly_run, run_number}
-use Rattle.replay.specs.Ledger.{kept_by, kept_after, Ledger, after_call, after_calls, empty_ledger, Permitted, AllPermitted, LeftBy}
+use Rattle.replay.specs.Again.{exactly_run, run_number}
+use Rattle.replay.specs.Ledger.{kept_by, kept_after, Ledger, after_call, after_calls, empty_ledger, Permitted, AllPermitted}
 
 module _ (c : Chart) (names : Names) where
   -- calls that leave the entries es, and the session at a

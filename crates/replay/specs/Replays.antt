@@ -1,12 +1,12 @@
 -- R-10: after every list of calls a started session is where its journal leads, and replay of the first k entries gives what call k gave.
 use Rattle.std.proofs.Math.Path.{◌≡◌, refl, ap, subst}
 use Rattle.std.proofs.Common.{sym, ◌∙◌, ⊎_elim, length-append, take_all}
-use Rattle.std.specs.Prelude.{Bool, not, ◌&&◌, ◌||◌, cond, ◌⊎◌, leb, ltb, take}
+use Rattle.std.specs.Prelude.{Bool, not, ◌&&◌, ◌||◌, cond, ◌⊎◌, ltb, take}
 use Rattle.std.proofs.Math.Bool.{true, false}
 use mathlib.Core.List.{List, [], ◌∷◌, ◌++◌, map, append-nil}
 use Rattle.std.proofs.Math.Logic.{inl, inr}
 use Rattle.std.proofs.Math.Option.{Option, none, some}
-use Prim.Native.Nat.{ℕ, zero, suc, ◌+◌, ◌≤◌, ◌<◌}
+use Prim.Native.Nat.{ℕ, suc, ◌≤◌, ◌<◌}
 use native.Mathlib.Omega.{arith}
 use Rattle.std.proofs.Math.Dec.{eqb}
 use Rattle.std.proofs.Math.ListN.{length}
@@ -19,17 +19,17 @@ use Rattle.definition.specs.declared.Answer.{Answer}
 use Rattle.definition.specs.declared.Answer.TheVariants.{NotAName, NoRoom, SessionEnded}
 use Rattle.definition.specs.Names.{Name, is_name}
 use Rattle.definition.specs.Chart.{Chart, Names}
-use Rattle.definition.specs.Answers.{answer_no, status_no}
-use Rattle.follower.specs.Blocks.{Effect, trace_no}
-use Rattle.follower.specs.Follower.{Timed, ended_follower, most_queued, timed, first_follower, first_table, first_effects, refusal_if, refusal, start_or, start, round_in, round, over, is_ended, post_answer, post, clock_answer, clock, Ran, stopped, run}
+use Rattle.definition.specs.Answers.{answer_no}
+use Rattle.follower.specs.Blocks.{trace_no}
+use Rattle.follower.specs.Follower.{Timed, ended_follower, most_queued, timed, first_follower, first_table, first_effects, refusal_if, refusal, start_or, start, round_in, round, over, is_ended, post_answer, post, clock_answer, clock, stopped, run}
 use Rattle.follower.specs.Calls.{Call, starts, posts, clocks, runs, Outcome, started_outcome, ran_outcome, follow, at_rest}
 use Rattle.laws.specs.Answers.{answer_done}
-use Rattle.laws.specs.Bools.{and_false, not_so, no, clash, bool_case, and_left, and_right, and_true, or_elim, or_left}
+use Rattle.laws.specs.Bools.{and_false, not_so, no, clash, bool_case, and_true}
 use Rattle.theory.specs.Runs.{refusal_not_done, run_over, run_rounds}
-use Rattle.recorded.specs.Journal.{Entered, entered_post, entered_clock, entered_run, most_entries, most_rounds, At, accepted, exactly, again, started_at, replayed, Replay, refused, reached, unless_no_room, replay}
+use Rattle.recorded.specs.Journal.{Entered, entered_post, entered_clock, entered_run, most_entries, most_rounds, At, accepted, again, started_at, refused, reached, unless_no_room, replay}
 use Rattle.recorded.specs.Recorded.{Recorded, RecordedCall, calls, steps_back, RecordedOutcome, entries, journal_after, is_such, is_full, leaving, recorded_by, back_to, back, follow_recorded, recorded_at_rest}
 use Rattle.replay.specs.Again.{run_exactly, run_number}
-use Rattle.replay.specs.Ledger.{kept_by, kept_after, Ledger, after_call, after_calls, empty_ledger, Permitted, AllPermitted, outcome_at, Replays, Fresh}
+use Rattle.replay.specs.Ledger.{kept_by, kept_after, Ledger, after_call, after_calls, empty_ledger, Permitted, AllPermitted, Replays, Fresh}
 use Rattle.replay.specs.Leaves.{Told, Leaves, begun, more, leaves_replayed, leaves_many, leaves_told, first_left, replay_first, replays_to}
 
 -- ---- a call without a journal, by what is entered of it

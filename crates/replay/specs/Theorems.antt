@@ -1,5 +1,5 @@
 -- The theorems of R-10 over the definition, and R-13's cut of a run, with a journal.
-use Rattle.std.specs.Prelude.{◌≡◌, refl, Bool, true, ◌&&◌, ◌||◌, ◌⊎◌, ◌↔◌, leb}
+use Rattle.std.specs.Prelude.{◌≡◌, refl, Bool, ◌||◌, ◌⊎◌, ◌↔◌}
 use Rattle.std.proofs.Math.Path.{sym, ap, ap₂}
 use Rattle.std.proofs.Common.{◌∙◌, inl, inr, arith}
 use Rattle.std.proofs.Math.Bool.{false}
@@ -15,14 +15,14 @@ use Rattle.definition.specs.Chart.{Chart, Names}
 use Rattle.definition.specs.Answers.{answer_no, status_no}
 use Rattle.follower.specs.Blocks.{trace_no}
 use Rattle.follower.specs.Follower.{Timed, is_ended, Ran, run}
-use Rattle.follower.specs.Calls.{Call, runs, Outcome, ran_outcome, follow}
+use Rattle.follower.specs.Calls.{runs, ran_outcome, follow}
 use Rattle.laws.specs.Bools.{bool_case}
 use Rattle.theory.specs.Runs.{joined, cuts}
-use Rattle.recorded.specs.Journal.{Entered, most_entries, most_rounds, At, replayed}
-use Rattle.recorded.specs.Recorded.{Recorded, RecordedCall, calls, RecordedOutcome, entries, journal_after, is_such, is_full, recorded_by, follow_recorded}
-use Rattle.replay.specs.Ledger.{Ledger, after_calls, empty_ledger, AllPermitted, Replays, Fresh, LeftBy}
+use Rattle.recorded.specs.Journal.{Entered, most_entries, At, replayed}
+use Rattle.recorded.specs.Recorded.{Recorded, RecordedCall, calls, RecordedOutcome, entries, journal_after, is_full, recorded_by, follow_recorded}
+use Rattle.replay.specs.Ledger.{after_calls, empty_ledger, AllPermitted, Replays, Fresh, LeftBy}
 use Rattle.replay.specs.Leaves.{leaves_replayed}
-use Rattle.replay.specs.Replays.{Runs, runs_replays, Sound, fresh, runs_on, all_sound}
+use Rattle.replay.specs.Replays.{runs_replays, Sound, fresh, runs_on, all_sound}
 use Rattle.replay.specs.Making.{made_replayed}
 
 map-append : {A B : Type 0} (g : A → B) (xs ys : List A) → map g (xs ++ ys) ≡ map g xs ++ map g ys

@@ -38,10 +38,8 @@ fn rows_room(chart: &[u64]) -> usize
 {
     let rows = tables::row_count(chart) as u16;
     let mut sum: usize = 0;
-    let mut i: u16 = 0;
-    while i < rows {
+    for i in 0..rows {
         sum += row_room(chart, Row(i as u8));
-        i += 1;
     }
     sum
 }
@@ -52,15 +50,14 @@ fn transitions_room(chart: &[u64]) -> usize
 {
     let n = tables::transition_count(chart) as u16;
     let mut sum: usize = 0;
-    let mut t: u16 = 0;
-    while t < n {
+    for t in 0..n {
         sum += transition_room(chart, Transition(t));
-        t += 1;
     }
     sum
 }
 
 // The entries that suffice for any one start or round of the chart; 0 where it is no compiled chart.
+// Kept: C is answered this number as it is, so 0 stands in place of an Option.
 pub fn room(chart: &[u64], names: &[u8]) -> usize
     ensures { result ≡ room_of chart.now names.now }
 {

@@ -35,7 +35,7 @@ fn round(
     requires { Lookup chart.now names.now index.now × HoldsAt chart.now numbers.old internal.old external.old × (length items.old ≡ 768) × ClockHolds (mode_in numbers.old) clock.old × Hushed (quiet_in index.now) trace.old }
     ensures { Turned (chart_of chart.now) (name_at names.now) (quiet_in index.now) (room_in (quiet_in index.now) (length trace.old)) (round (chart_of chart.now) (name_at names.now) (state_at chart.now numbers.old internal.old external.old)) (timed_at chart.now numbers.old internal.old external.old clock.old) result numbers.new internal.new external.new clock.new trace.old trace.new }
 {
-    let mode = state::mode_from(numbers[state::MODE]);
+    let mode = Mode::from(numbers[state::MODE]);
     match mode {
         Mode::Running => take(
             chart, names, index, numbers, internal, external, items, trace, clock,
@@ -82,7 +82,7 @@ fn rest_status(
     requires { EventReady chart.now names.now index.now numbers.now items.old }
     ensures { result ≡ rest_by (mode_in numbers.now) (internal_in numbers.now) (external_in numbers.now) (selected (chart_of chart.now) (name_at names.now) (rows_of (configuration_in numbers.now)) (stored_at (history_in numbers.now)) none) }
 {
-    let mode = state::mode_from(numbers[state::MODE]);
+    let mode = Mode::from(numbers[state::MODE]);
     match mode {
         Mode::Ended => Status::Ended,
         Mode::Closing => Status::More,
@@ -129,10 +129,9 @@ pub fn run(
     index[lookup::QUIET] = mark_of(quiet);
     lookup::put_index(chart, &mut index);
     let mut items = [0u16; matching::ITEMS];
-    let mut done: u32 = 0;
     let mut count: usize = 0;
     let mut at = place_of(quiet, trace.len());
-    while done < rounds {
+    for done in 0..rounds {
         let rest = &mut trace[at..];
         let turn = round(
             chart, names, &index, numbers, internal, external, &mut items, rest, clock,
@@ -143,11 +142,10 @@ pub fn run(
         let Outcome::Did = outcome else {
             return stopped(outcome, done, count);
         };
-        done += 1;
     }
     Progress {
         status: rest_status(chart, names, &index, numbers, &mut items),
-        rounds: done,
+        rounds: rounds,
         count: count,
     }
 }

@@ -29,7 +29,7 @@ use crate::{NOTES, NOTHING, Outcome, QUIET_ROOM, Shown, Step, Turn};
 use definition::Mode;
 use effects::Tally;
 use events::{Choice, Source};
-use places::copy_u32;
+use places::copy;
 use rowset::RowSet;
 use state::State;
 
@@ -147,7 +147,7 @@ fn show(
             tally: tally,
         };
     }
-    copy_u32(&draft[..end], trace);
+    copy(&draft[..end], trace);
     Shown {
         outcome: Outcome::Did,
         count: end,

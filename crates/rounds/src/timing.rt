@@ -1,5 +1,5 @@
 // A step that sends or cancels: what it leaves of the clock record is drafted, judged with the step, and kept where that is done (R-9).
-ghost use Rattle.std.specs.Prelude.{◌≡◌, ◌≤◌, min};
+ghost use Rattle.std.specs.Prelude.{◌≡◌, ◌≤◌};
 ghost use Rattle.definition.specs.Tables.{transition_count};
 ghost use Rattle.matching.specs.Chosen.{ChosenIn};
 ghost use Rattle.microstep.specs.Plan.{PlanReady};
@@ -10,7 +10,7 @@ use crate::taking::step_effects;
 use crate::{Outcome, Step};
 use definition::Answer;
 use effects::Tally;
-use places::copy_u8;
+use places::copy;
 
 // The place of notes has, behind the joins, a cell for how many sends and cancels are passed over, then two for each that is noted.
 const SKIPPED: usize = 32;
@@ -23,15 +23,6 @@ const NOTED: u64 = 8;
 const WINDOW: u64 = 1024;
 
 const WINDOW_NOTES: usize = 2081;
-
-fn smaller(a: u64, b: u64) -> u64
-    ensures { result ≡ min a b }
-{
-    if a < b {
-        return a;
-    }
-    b
-}
 
 // The step is worked out again with no trace to write into, and so many sends and cancels passed over.
 fn note_from(chart: &[u64], step: Step, items: &[u16], done: u64, notes: &mut [u32])
@@ -57,7 +48,7 @@ fn apply_timers(
     ensures { AppliedAll names.now (step_effects chart.now items.now step) clock.old clock.new result }
 {
     let timers = tally.timers;
-    let first = smaller(timers, NOTED);
+    let first = timers.min(NOTED);
     let end = FIRST + (first as usize) * 2;
     if clock::apply(names, &notes[FIRST..end], clock) {
         return true;
@@ -69,7 +60,7 @@ fn apply_timers(
     let mut more = [0u32; WINDOW_NOTES];
     while done < timers {
         note_from(chart, step, items, done, &mut more);
-        let n = smaller(timers - done, WINDOW);
+        let n = (timers - done).min(WINDOW);
         let to = FIRST + (n as usize) * 2;
         if clock::apply(names, &more[FIRST..to], clock) {
             return true;
@@ -95,7 +86,7 @@ pub fn judge_timed(
     ensures { JudgesTimed names.now (step_effects chart.now items.now step) kept tally clock.old clock.new room result }
 {
     let mut draft = [0u8; clock::CLOCK];
-    copy_u8(clock, &mut draft);
+    copy(clock, &mut draft);
     if apply_timers(chart, names, step, items, tally, notes, &mut draft) {
         return Outcome::Refused(Answer::Full);
     }
@@ -103,6 +94,6 @@ pub fn judge_timed(
     let Outcome::Did = outcome else {
         return outcome;
     };
-    copy_u8(&draft, clock);
+    copy(&draft, clock);
     outcome
 }

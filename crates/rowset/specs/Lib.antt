@@ -1,3 +1,4 @@
+pub mod Iterating
 pub mod Member
 pub mod Bits
 pub mod Words

@@ -2,9 +2,10 @@
 use Rattle.std.specs.Prelude.{◌≡◌, Bool, true, false, List, ℕ, zero, suc, ◌/◌, ◌%◌, ◌^◌, ◌≤◌, ◌<◌, eqb, leb, ltb}
 use Rattle.std.proofs.Math.Option.{Option, none, some}
 use Rattle.definition.specs.Rows.{those, first, backwards}
+use Rattle.numbers.specs.declared.Row.{Row}
 use Rattle.rowset.specs.declared.RowSet.{RowSet}
-use Rattle.rowset.specs.declared.Found.{Found}
-use Rattle.rowset.specs.declared.Found.TheVariants.{At, Nothing}
+use Rattle.std.specs.declared.option.Option as program
+use Rattle.std.specs.declared.option.Option.TheVariants.{Some, None}
 
 -- bit j of w is set
 unfoldable pub bit : ℕ → ℕ → Bool
@@ -34,16 +35,16 @@ is_from k x = leb k x
 abbrev pub is_below : ℕ → ℕ → Bool
 is_below k x = ltb x k
 
-unfoldable pub found : Option ℕ → Found
-found none = Nothing
-found (some x) = At (record { 0 = x })
+unfoldable pub found : Option ℕ → program.Option Row
+found none = None
+found (some x) = Some (record { 0 = x })
 
 -- the first of an ascending list at or above k
-unfoldable pub next_in : List ℕ → ℕ → Found
+unfoldable pub next_in : List ℕ → ℕ → program.Option Row
 next_in xs k = found (first (is_from k) xs)
 
 -- the last of an ascending list below k
-unfoldable pub prev_in : List ℕ → ℕ → Found
+unfoldable pub prev_in : List ℕ → ℕ → program.Option Row
 prev_in xs k = found (first (is_below k) (backwards xs))
 
 -- ---- what the functions on one word say

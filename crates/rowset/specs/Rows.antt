@@ -5,7 +5,7 @@ use Rattle.std.proofs.Common.{sym, ap, ◌∙◌, zero-add, arith, eqb-true, eq-
 use Rattle.std.specs.Int.Bits.{bit_and, bit_or, bit_xor}
 use Rattle.definition.specs.Rows.{from, mem, is_in, is_empty, union, intersection, minus, same, is_set}
 use Rattle.definition.specs.Compiled.{word, words}
-use Rattle.laws.specs.Bools.{both_ways, not_so, no, and4}
+use Rattle.laws.specs.Bools.{both_ways, not_so, no, and_left, and_right}
 use Rattle.laws.specs.Sets.{Ascends, ascends_ext, ascends_those, mem_those, those_low, mem_union, mem_intersection, mem_minus, ascends_union, ascends_intersection, ascends_minus, ascends_from, mem_from}
 use Rattle.laws.specs.Lists.{mem_cases, same_eq, same_self, ascends_set, empty_list}
 use Rattle.laws.specs.Orders.{lt_case, union_none}
@@ -147,13 +147,14 @@ rows_none s f = both_ways (eqb (any_bit s) 0) (is_empty (rows_of s)) there back
 
 -- two sets are the same if their words are
 abbrev alike : RowSet → RowSet → Bool
-alike a b = eqb a.w0 b.w0 && eqb a.w1 b.w1 && eqb a.w2 b.w2 && eqb a.w3 b.w3
+alike a b = eqb a.w0 b.w0 && (eqb a.w1 b.w1 && (eqb a.w2 b.w2 && eqb a.w3 b.w3))
 
 pub rows_same : (a b : RowSet) → Fitting a → Fitting b → alike a b ≡ same (rows_of a) (rows_of b)
 rows_same a b fa fb =
     both_ways (alike a b) (same (rows_of a) (rows_of b))
-    (λ h. let e = and4 _ _ _ _ h in
-    let q : a ≡ b = same_words a b (eqb-true _ _ e.0) (eqb-true _ _ e.1) (eqb-true _ _ e.2) (eqb-true _ _ e.3) in
+    (λ h. let f = and_right (eqb a.w0 b.w0) _ h in
+    let g = and_right (eqb a.w1 b.w1) _ f in
+    let q : a ≡ b = same_words a b (eqb-true _ _ (and_left (eqb a.w0 b.w0) _ h)) (eqb-true _ _ (and_left (eqb a.w1 b.w1) _ f)) (eqb-true _ _ (and_left (eqb a.w2 b.w2) _ g)) (eqb-true _ _ (and_right (eqb a.w2 b.w2) _ g)) in
     ap (λ (t : RowSet). same (rows_of a) (rows_of t)) (sym q) ∙ same_self (rows_of a))
     (λ h. let e : a ≡ b = rows_ext a b fa fb (same_eq (rows_of a) (rows_of b) h) in
     ap (alike a) (sym e) ∙

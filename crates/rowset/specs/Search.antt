@@ -10,17 +10,17 @@ use Rattle.laws.specs.Sets.{Ascends, mem_keep}
 use Rattle.laws.specs.Orders.{lt_case, leads_first, first_leads, first_left, first_missing, missing_first, keep_all, keep_none, ascends_pairs, mem_backwards, pairs_backwards}
 use Rattle.numbers.specs.declared.Row.{Row}
 use Rattle.rowset.specs.declared.RowSet.{RowSet}
-use Rattle.rowset.specs.declared.Found.TheVariants.{At, Nothing}
+use Rattle.std.specs.declared.option.Option.TheVariants.{Some, None}
 use Rattle.rowset.specs.Member.{bit, word_of, member, rows_of, is_from, is_below, found, next_in, prev_in, LowFrom, HighBelow}
 use Rattle.rowset.specs.Words.{member_past, member_at, member_in}
 use Rattle.rowset.specs.Rows.{mem_rows, ascends_rows}
 
-found_at : (o : Option ℕ) (r : Row) → found o ≡ At r → o ≡ some r.0
+found_at : (o : Option ℕ) (r : Row) → found o ≡ Some r → o ≡ some r.0
 unfolding found
 found_at none r e = let z : ◌≡◌ {A = ℕ} 0 1 = cc in absurd (omega arith)
 found_at (some x) r e = let q : record { 0 = x } ≡ r = cc in ap (λ (y : Row). some y.0) q
 
-found_none : (o : Option ℕ) → found o ≡ Nothing → o ≡ none
+found_none : (o : Option ℕ) → found o ≡ None → o ≡ none
 unfolding found
 found_none none e = refl
 found_none (some x) e = let z : ◌≡◌ {A = ℕ} 0 1 = cc in absurd (omega arith)
@@ -38,7 +38,7 @@ unfoldable pub rest_from : List ℕ → ℕ → List ℕ
 rest_from xs k = keep (is_from k) xs
 
 module _ (xs : List ℕ) (up : Ascends 0 xs) (k : ℕ) where
-  pub next_is : (r : ℕ) → NextAt xs k r → next_in xs k ≡ At (record { 0 = r })
+  pub next_is : (r : ℕ) → NextAt xs k r → next_in xs k ≡ Some (record { 0 = r })
   unfolding next_in found
   next_is r f =
       ap found (leads_first (λ x y. x < y) (is_from k) xs r (ascends_pairs 0 xs up) (record {
@@ -47,7 +47,7 @@ module _ (xs : List ℕ) (up : Ascends 0 xs) (k : ℕ) where
         before = λ x m l. lt_case x k (λ g. lt-leb k x g) (λ g. absurd (no (sym (f.none x g l) ∙ m)));
       }))
 
-  pub next_at_lem : (r : Row) → next_in xs k ≡ At r → NextAt xs k r.0
+  pub next_at_lem : (r : Row) → next_in xs k ≡ Some r → NextAt xs k r.0
   unfolding next_in
   next_at_lem r e =
       let l = first_leads (λ x y. x < y) (is_from k) (λ x y a b. omega arith) xs r.0 (ascends_pairs 0 xs up) (found_at (first (is_from k) xs) r e) in
@@ -57,7 +57,7 @@ module _ (xs : List ℕ) (up : Ascends 0 xs) (k : ℕ) where
         none = λ m g h. not_so (mem m xs) (λ i. clash (leb k m) (le-leb k m g) (l.before m i h));
       }
 
-  pub rest_next : (r : Row) → next_in xs k ≡ At r → rest_from xs k ≡ r.0 ∷ rest_from xs (r.0 + 1)
+  pub rest_next : (r : Row) → next_in xs k ≡ Some r → rest_from xs k ≡ r.0 ∷ rest_from xs (r.0 + 1)
   unfolding next_in rest_from
   rest_next r e =
       first_left (λ x y. x < y) (is_from k) (is_from (r.0 + 1)) xs r.0 (ascends_pairs 0 xs up) (found_at (first (is_from k) xs) r e)
@@ -67,18 +67,18 @@ module _ (xs : List ℕ) (up : Ascends 0 xs) (k : ℕ) where
       (λ x p. let q : x < k = leb-false k x p in let a : k ≤ r.0 = (next_at_lem r e).low in lt-leb (r.0 + 1) x (omega arith))
 
 module _ (xs : List ℕ) (k : ℕ) where
-  pub next_none : ((m : ℕ) → k ≤ m → mem m xs ≡ false) → next_in xs k ≡ Nothing
+  pub next_none : ((m : ℕ) → k ≤ m → mem m xs ≡ false) → next_in xs k ≡ None
   unfolding next_in found
   next_none h = ap found (first_missing (is_from k) xs (λ x m. not_so (leb k x) (λ l. no (sym (h x (leb-true k x l)) ∙ m))))
 
-  from_none : next_in xs k ≡ Nothing → (x : ℕ) → mem x xs ≡ true → is_from k x ≡ false
+  from_none : next_in xs k ≡ None → (x : ℕ) → mem x xs ≡ true → is_from k x ≡ false
   unfolding next_in
   from_none e = missing_first (is_from k) xs (found_none (first (is_from k) xs) e)
 
-  pub none_next : next_in xs k ≡ Nothing → (m : ℕ) → k ≤ m → mem m xs ≡ false
+  pub none_next : next_in xs k ≡ None → (m : ℕ) → k ≤ m → mem m xs ≡ false
   none_next e m l = not_so (mem m xs) (λ i. clash (leb k m) (le-leb k m l) (from_none e m i))
 
-  pub rest_none : next_in xs k ≡ Nothing → rest_from xs k ≡ []
+  pub rest_none : next_in xs k ≡ None → rest_from xs k ≡ []
   unfolding rest_from
   rest_none e = keep_none (is_from k) xs (from_none e)
 
@@ -99,7 +99,7 @@ unfoldable pub rest_below : List ℕ → ℕ → List ℕ
 rest_below xs k = keep (is_below k) (backwards xs)
 
 module _ (xs : List ℕ) (up : Ascends 0 xs) (k : ℕ) where
-  pub prev_is : (r : ℕ) → PrevAt xs k r → prev_in xs k ≡ At (record { 0 = r })
+  pub prev_is : (r : ℕ) → PrevAt xs k r → prev_in xs k ≡ Some (record { 0 = r })
   unfolding prev_in found
   prev_is r f =
       ap found (leads_first (λ x y. y < x) (is_below k) (backwards xs) r (pairs_backwards (λ x y. x < y) xs (ascends_pairs 0 xs up)) (record {
@@ -108,7 +108,7 @@ module _ (xs : List ℕ) (up : Ascends 0 xs) (k : ℕ) where
         before = λ x m l. lt_case x k (λ g. absurd (no (sym (f.none x l g) ∙ sym (mem_backwards x xs) ∙ m))) (λ g. le-ltb x k g);
       }))
 
-  pub prev_at : (r : Row) → prev_in xs k ≡ At r → PrevAt xs k r.0
+  pub prev_at : (r : Row) → prev_in xs k ≡ Some r → PrevAt xs k r.0
   unfolding prev_in
   prev_at r e =
       let l = first_leads (λ x y. y < x) (is_below k) (λ x y a b. omega arith) (backwards xs) r.0 (pairs_backwards (λ x y. x < y) xs (ascends_pairs 0 xs up))
@@ -119,7 +119,7 @@ module _ (xs : List ℕ) (up : Ascends 0 xs) (k : ℕ) where
         none = λ m g h. not_so (mem m xs) (λ i. clash (ltb m k) (lt-ltb m k h) (l.before m (mem_backwards m xs ∙ i) g));
       }
 
-  pub rest_prev : (r : Row) → prev_in xs k ≡ At r → rest_below xs k ≡ r.0 ∷ rest_below xs r.0
+  pub rest_prev : (r : Row) → prev_in xs k ≡ Some r → rest_below xs k ≡ r.0 ∷ rest_below xs r.0
   unfolding prev_in rest_below
   rest_prev r e =
       first_left (λ x y. y < x) (is_below k) (is_below r.0) (backwards xs) r.0 (pairs_backwards (λ x y. x < y) xs (ascends_pairs 0 xs up))
@@ -130,18 +130,18 @@ module _ (xs : List ℕ) (up : Ascends 0 xs) (k : ℕ) where
       (λ x p. let q : k ≤ x = ltb-false x k p in let a : r.0 < k = (prev_at r e).high in le-ltb x r.0 (omega arith))
 
 module _ (xs : List ℕ) (k : ℕ) where
-  pub prev_none : ((m : ℕ) → m < k → mem m xs ≡ false) → prev_in xs k ≡ Nothing
+  pub prev_none : ((m : ℕ) → m < k → mem m xs ≡ false) → prev_in xs k ≡ None
   unfolding prev_in found
   prev_none h = ap found (first_missing (is_below k) (backwards xs) (λ x m. not_so (ltb x k) (λ l. no (sym (h x (ltb-true x k l)) ∙ sym (mem_backwards x xs) ∙ m))))
 
-  below_none : prev_in xs k ≡ Nothing → (x : ℕ) → mem x (backwards xs) ≡ true → is_below k x ≡ false
+  below_none : prev_in xs k ≡ None → (x : ℕ) → mem x (backwards xs) ≡ true → is_below k x ≡ false
   unfolding prev_in
   below_none e = missing_first (is_below k) (backwards xs) (found_none (first (is_below k) (backwards xs)) e)
 
-  pub none_prev : prev_in xs k ≡ Nothing → (m : ℕ) → m < k → mem m xs ≡ false
+  pub none_prev : prev_in xs k ≡ None → (m : ℕ) → m < k → mem m xs ≡ false
   none_prev e m l = not_so (mem m xs) (λ i. clash (ltb m k) (lt-ltb m k l) (below_none e m (mem_backwards m xs ∙ i)))
 
-  pub rest_start : prev_in xs k ≡ Nothing → rest_below xs k ≡ []
+  pub rest_start : prev_in xs k ≡ None → rest_below xs k ≡ []
   unfolding rest_below
   rest_start e = keep_none (is_below k) (backwards xs) (below_none e)
 
@@ -152,10 +152,10 @@ rest_whole xs k h = keep_all (is_below k) (backwards xs) (λ x m. lt-ltb x k (h 
 -- ---- the first of all
 
 -- the least row stands first
-pub first_row : (xs : List ℕ) → Ascends 0 xs → (r : Row) → next_in xs 0 ≡ At r → xs ≡ r.0 ∷ rest_from xs (r.0 + 1)
+pub first_row : (xs : List ℕ) → Ascends 0 xs → (r : Row) → next_in xs 0 ≡ Some r → xs ≡ r.0 ∷ rest_from xs (r.0 + 1)
 first_row xs up r e = sym (rest_all xs) ∙ rest_next xs up 0 r e
 
-pub first_none : (xs : List ℕ) → next_in xs 0 ≡ Nothing → xs ≡ []
+pub first_none : (xs : List ℕ) → next_in xs 0 ≡ None → xs ≡ []
 first_none xs e = sym (rest_all xs) ∙ rest_none xs 0 e
 
 minus_head : (x : ℕ) (ys : List ℕ) → mem x ys ≡ false → minus (x ∷ ys) (x ∷ []) ≡ ys
@@ -163,7 +163,7 @@ unfolding minus mem
 minus_head x ys h = rw (eq-eqb x x refl) (keep_all (not_in (x ∷ [])) ys (λ y m. rw (ne_eqb y x (λ e. clash (mem y ys) m (rw e h)))))
 
 -- without it the list is empty exactly if it was the only one
-pub single_row : (xs : List ℕ) → Ascends 0 xs → (r : Row) → next_in xs 0 ≡ At r → is_empty (minus xs (r.0 ∷ [])) ≡ is_single xs
+pub single_row : (xs : List ℕ) → Ascends 0 xs → (r : Row) → next_in xs 0 ≡ Some r → is_empty (minus xs (r.0 ∷ [])) ≡ is_single xs
 unfolding is_single
 single_row xs up r e = rw (first_row xs up r e) (ap is_empty (minus_head r.0 (rest_from xs (r.0 + 1)) after))
   where
@@ -209,7 +209,7 @@ module _ (s : RowSet) (k q j b w : ℕ) (past : Clear s k (q * 64)) (e : w ≡ w
   pub up_past : 64 ≤ b → Clear s k (q * 64 + 64)
   up_past h = clear_in s k (q * 64 + b) k (q * 64 + 64) up_clear (omega arith) (omega arith)
 
-  pub up_found : b < 64 → (r : ℕ) → r ≡ q * 64 + b → At (record { 0 = r }) ≡ next_in (rows_of s) k
+  pub up_found : b < 64 → (r : ℕ) → r ≡ q * 64 + b → Some (record { 0 = r }) ≡ next_in (rows_of s) k
   up_found h r at' =
       let jb : j ≤ b = low.least in
       sym (next_is (rows_of s) (ascends_rows s) k r (record {
@@ -218,7 +218,7 @@ module _ (s : RowSet) (k q j b w : ℕ) (past : Clear s k (q * 64)) (e : w ≡ w
         none = λ m l u. clear_rows s k (q * 64 + b) up_clear m l (omega arith);
       }))
 
-pub up_nothing : (s : RowSet) (k n : ℕ) → Clear s k n → 256 ≤ n → Nothing ≡ next_in (rows_of s) k
+pub up_nothing : (s : RowSet) (k n : ℕ) → Clear s k n → 256 ≤ n → None ≡ next_in (rows_of s) k
 up_nothing s k n f h = sym (next_none (rows_of s) k (λ m l. lt_case m n (λ u. clear_rows s k n f m l u) (λ u. mem_rows s m ∙ member_past s m (omega arith))))
 
 -- downward: none from the word after q up to k; b is the bit of word q before k
@@ -232,7 +232,7 @@ module _ (s : RowSet) (k q j b w : ℕ) (past : Clear s (q * 64 + 64) k) (e : w 
       let c : Clear s (q * 64 + 0) k = clear_join s (q * 64 + 0) (q * 64 + j) k (clear_word s q w 0 j e (omega arith) (λ i l u. high.clear (omega arith) i u)) down_start in
       clear_in s (q * 64 + 0) k (q * 64) k c (omega arith) (omega arith)
 
-  pub down_found : b < 64 → (r : ℕ) → r ≡ q * 64 + b → At (record { 0 = r }) ≡ prev_in (rows_of s) k
+  pub down_found : b < 64 → (r : ℕ) → r ≡ q * 64 + b → Some (record { 0 = r }) ≡ prev_in (rows_of s) k
   down_found h r at' =
       let f = high.set h in
       let bj : b < j = f.0 in
@@ -243,5 +243,5 @@ module _ (s : RowSet) (k q j b w : ℕ) (past : Clear s (q * 64 + 64) k) (e : w 
         none = λ m g u. clear_rows s (q * 64 + suc b) k over m (omega arith) u;
       }))
 
-pub down_nothing : (s : RowSet) (k n : ℕ) → Clear s n k → n ≤ 0 → Nothing ≡ prev_in (rows_of s) k
+pub down_nothing : (s : RowSet) (k n : ℕ) → Clear s n k → n ≤ 0 → None ≡ prev_in (rows_of s) k
 down_nothing s k n f z = sym (prev_none (rows_of s) k (λ m l. clear_rows s n k f m (omega arith) l))

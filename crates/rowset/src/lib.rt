@@ -6,25 +6,20 @@ ghost use Rattle.std.specs.Prelude.{◌≡◌, [], ◌∷◌, min};
 ghost use Rattle.definition.specs.Rows.{from, mem, is_empty, is_single, insert, union, intersection, minus, meets, subset, same};
 ghost use Rattle.rowset.specs.Member.{rows_of, next_in, prev_in};
 
-use crate::words::{high_below, less, low_from, ones_below, placed};
+use crate::words::{high_below, low_from, ones_below, placed};
 use numbers::Row;
+pub use rows::{Rows, RowsDown};
 
+pub mod rows;
 pub mod words;
 
 // Bit r % 64 of word r / 64 stands for row r.
-#[derive(Clone, Copy)]
+#[derive(Clone, Copy, PartialEq, Eq)]
 pub struct RowSet {
     pub w0: u64,
     pub w1: u64,
     pub w2: u64,
     pub w3: u64,
-}
-
-// What a search finds.
-#[derive(Clone, Copy)]
-pub enum Found {
-    At(Row),
-    Nothing,
 }
 
 impl RowSet {
@@ -58,9 +53,9 @@ impl RowSet {
     {
         RowSet {
             w0: ones_below(n),
-            w1: ones_below(less(n, 64)),
-            w2: ones_below(less(n, 128)),
-            w3: ones_below(less(n, 192)),
+            w1: ones_below(n.saturating_sub(64)),
+            w2: ones_below(n.saturating_sub(128)),
+            w3: ones_below(n.saturating_sub(192)),
         }
     }
 
@@ -179,70 +174,89 @@ impl RowSet {
     pub fn same(self, o: RowSet) -> bool
         ensures { result ≡ same (rows_of self) (rows_of o) }
     {
-        (self.w0 == o.w0) & (self.w1 == o.w1) & (self.w2 == o.w2) & (self.w3 == o.w3)
+        self == o
     }
 
     // The first row at or above k. The four words are written out: a loop would choose the word anew each time.
-    pub fn next_from(self, k: u16) -> Found
+    pub fn next_from(self, k: u16) -> Option<Row>
         ensures { result ≡ next_in (rows_of self) k }
     {
         if k < 64 {
             let b = low_from(self.w0, k);
             if b < 64 {
-                return Found::At(Row(b as u8));
+                return Some(Row(b as u8));
             }
         }
         if k < 128 {
-            let b = low_from(self.w1, less(k, 64));
+            let b = low_from(self.w1, k.saturating_sub(64));
             if b < 64 {
-                return Found::At(Row((64 + b) as u8));
+                return Some(Row((64 + b) as u8));
             }
         }
         if k < 192 {
-            let b = low_from(self.w2, less(k, 128));
+            let b = low_from(self.w2, k.saturating_sub(128));
             if b < 64 {
-                return Found::At(Row((128 + b) as u8));
+                return Some(Row((128 + b) as u8));
             }
         }
         if k < 256 {
-            let b = low_from(self.w3, less(k, 192));
+            let b = low_from(self.w3, k.saturating_sub(192));
             if b < 64 {
-                return Found::At(Row((192 + b) as u8));
+                return Some(Row((192 + b) as u8));
             }
         }
-        Found::Nothing
+        None
     }
 
     // The last row below k.
-    pub fn prev_below(self, k: u16) -> Found
+    pub fn prev_below(self, k: u16) -> Option<Row>
         ensures { result ≡ prev_in (rows_of self) k }
     {
         if 192 < k {
             let b = high_below(self.w3, k - 192);
             if b < 64 {
-                return Found::At(Row((192 + b) as u8));
+                return Some(Row((192 + b) as u8));
             }
         }
         if 128 < k {
             let b = high_below(self.w2, k - 128);
             if b < 64 {
-                return Found::At(Row((128 + b) as u8));
+                return Some(Row((128 + b) as u8));
             }
         }
         if 64 < k {
             let b = high_below(self.w1, k - 64);
             if b < 64 {
-                return Found::At(Row((64 + b) as u8));
+                return Some(Row((64 + b) as u8));
             }
         }
         let b = high_below(self.w0, k);
         if b < 64 {
-            return Found::At(Row(b as u8));
+            return Some(Row(b as u8));
         }
-        Found::Nothing
+        None
     }
 
-    pub fn first(self) -> Found
+    // Its rows, upward.
+    pub fn iter(self) -> Rows
+        ensures set { result.set ≡ self }
+        ensures at { result.at ≡ 0 }
+    {
+        Rows { set: self, at: 0 }
+    }
+
+    // Its rows, downward.
+    pub fn down(self) -> RowsDown
+        ensures set { result.set ≡ self }
+        ensures below { result.below ≡ 256 }
+    {
+        RowsDown {
+            set: self,
+            below: 256,
+        }
+    }
+
+    pub fn first(self) -> Option<Row>
         ensures { result ≡ next_in (rows_of self) 0 }
     {
         self.next_from(0)
@@ -253,8 +267,8 @@ impl RowSet {
         ensures { result ≡ is_single (rows_of self) }
     {
         match self.first() {
-            Found::At(r) => self.without(r).is_empty(),
-            Found::Nothing => false,
+            Some(r) => self.without(r).is_empty(),
+            None => false,
         }
     }
 }

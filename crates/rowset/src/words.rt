@@ -13,13 +13,6 @@ pub fn placed(k: u8, q: u8) -> u64
     0
 }
 
-// n - m, and 0 where m is more than n.
-pub fn less(n: u16, m: u16) -> u16
-    ensures { result ≡ n - m }
-{
-    if n < m { 0 } else { n - m }
-}
-
 // The word of all bits below k.
 pub fn ones_below(k: u16) -> u64
     ensures { result ≡ 2 ^ min k 64 - 1 }
@@ -27,7 +20,7 @@ pub fn ones_below(k: u16) -> u64
     if k < 64 {
         return (1u64 << k) - 1;
     }
-    18446744073709551615
+    u64::MAX
 }
 
 // The lowest set bit of w at or above k, and 64 where there is none. Most words of a set are empty: these are told first.

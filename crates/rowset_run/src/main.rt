@@ -8,34 +8,28 @@ ghost use Rattle.rowset.specs.Member.{rows_of};
 ghost use Rattle.rowset_run.specs.Count.{more};
 
 use numbers::Row;
-use rowset::{Found, RowSet};
+use rowset::RowSet;
 use std::io;
 use std::io::{ErrorKind, Read};
 
 fn digit(b: u8) -> u64 {
-    if 48 <= b && b <= 57 {
-        return (b - 48) as u64;
+    match b {
+        b'0'..=b'9' => u64::from(b - b'0'),
+        b'a'..=b'f' => u64::from(b - b'a') + 10,
+        _ => 0,
     }
-    if 97 <= b && b <= 102 {
-        return (b - 87) as u64;
-    }
-    0
 }
 
-fn number_at(line: &[u8], at: usize, digits: u64) -> u64 {
+fn number_at(line: &[u8], at: usize, digits: usize) -> u64 {
     let mut v: u64 = 0;
-    let mut i = at;
-    for _ in 0..digits {
-        if i < line.len() {
-            v = (v << 4) | digit(line[i]);
-            i += 1;
-        }
+    for b in line.iter().skip(at).take(digits) {
+        v = v << 4 | digit(*b);
     }
     v
 }
 
 fn set_at(line: &[u8], at: u8) -> RowSet {
-    let i = at as usize;
+    let i = usize::from(at);
     RowSet {
         w0: number_at(line, i, 16),
         w1: number_at(line, i + 17, 16),
@@ -52,11 +46,11 @@ fn count_up(s: RowSet) -> u64
     let mut k: u16 = 0;
     loop {
         match s.next_from(k) {
-            Found::At(r) => {
+            Some(r) => {
                 n += 1;
                 k = r.0 as u16 + 1;
             }
-            Found::Nothing => {
+            None => {
                 return n;
             }
         }
@@ -71,11 +65,11 @@ fn count_down(s: RowSet) -> u64
     let mut k: u16 = 256;
     loop {
         match s.prev_below(k) {
-            Found::At(r) => {
+            Some(r) => {
                 n += 1;
                 k = r.0 as u16;
             }
-            Found::Nothing => {
+            None => {
                 return n;
             }
         }
@@ -83,16 +77,13 @@ fn count_down(s: RowSet) -> u64
 }
 
 fn show_test(rt: &impl Print, b: bool) -> io::Result<()> {
-    if b {
-        return rt.write_all(b"1");
-    }
-    rt.write_all(b"0")
+    rt.write_all(if b { b"1" } else { b"0" })
 }
 
-fn show_found(rt: &impl Print, f: Found) -> io::Result<()> {
+fn show_found(rt: &impl Print, f: Option<Row>) -> io::Result<()> {
     match f {
-        Found::At(r) => show_count(rt, r.0 as u64),
-        Found::Nothing => rt.write_all(b" -"),
+        Some(r) => show_count(rt, u64::from(r.0)),
+        None => rt.write_all(b" -"),
     }
 }
 

@@ -15,8 +15,8 @@ use Rattle.laws.specs.Orders.{lt_case, first_leads, missing_first}
 use Rattle.accepted.specs.Tree.{ancestors_on, ancestors_top, ancestor_low}
 use Rattle.numbers.specs.declared.Row.{Row}
 use Rattle.rowset.specs.declared.RowSet.{RowSet}
-use Rattle.rowset.specs.declared.Found.{Found}
-use Rattle.rowset.specs.declared.Found.TheVariants.{At, Nothing}
+use Rattle.std.specs.declared.option.Option as program
+use Rattle.std.specs.declared.option.Option.TheVariants.{Some, None}
 use Rattle.rowset.specs.Member.{rows_of, prev_in}
 use Rattle.rowset.specs.Rows.{ascends_rows, rows_low}
 use Rattle.rowset.specs.Search.{PrevAt, prev_at, none_prev}
@@ -103,20 +103,20 @@ nearest_last c a b = go (first (is_in (ancestors c b)) (ancestors c a)) refl
 
 -- ---- as it is computed
 
-abbrev row_in : Found → ℕ
-row_in (At r) = r.0
-row_in Nothing = 0
+abbrev row_in : program.Option Row → ℕ
+row_in (Some r) = r.0
+row_in None = 0
 
 -- the last row of both, and 0 where there is none
 unfoldable pub highest : List ℕ → List ℕ → ℕ
 highest xs ys = row_in (prev_in (intersection xs ys) 256)
 
-module _ (xs ys zs : List ℕ) (o : Found) (e : zs ≡ intersection xs ys) (f : o ≡ prev_in zs 256) where
-  pub highest_at : (r : Row) → o ≡ At r → r.0 ≡ highest xs ys
+module _ (xs ys zs : List ℕ) (o : program.Option Row) (e : zs ≡ intersection xs ys) (f : o ≡ prev_in zs 256) where
+  pub highest_at : (r : Row) → o ≡ Some r → r.0 ≡ highest xs ys
   unfolding highest
   highest_at r h = sym (rw (← e, ← f, h))
 
-  pub highest_none : o ≡ Nothing → 0 ≡ highest xs ys
+  pub highest_none : o ≡ None → 0 ≡ highest xs ys
   unfolding highest
   highest_none h = sym (rw (← e, ← f, h))
 
@@ -131,10 +131,10 @@ module _ (s : RowSet) (ys : List ℕ) where
   unfolding highest
   highest_last = go (prev_in both 256) refl
     where
-      go : (o : Found) → prev_in both 256 ≡ o → Last (rows_of s) ys (row_in o)
-      go (At r) e =
+      go : (o : program.Option Row) → prev_in both 256 ≡ o → Last (rows_of s) ys (row_in o)
+      go (Some r) e =
           let p : PrevAt both 256 r.0 = prev_at both (ascends_intersection (rows_of s) ys (ascends_rows s)) 256 r e in
           let m = sym (mem_intersection r.0 (rows_of s) ys) ∙ p.here in
           common (and_left (mem r.0 (rows_of s)) _ m) (and_right (mem r.0 (rows_of s)) _ m)
           (λ z l a b. clash _ (in_both z a b) (p.none z l (rows_low s z a)))
-      go Nothing e = nothing refl (λ z a b. clash _ (in_both z a b) (none_prev both 256 e z (rows_low s z a)))
+      go None e = nothing refl (λ z a b. clash _ (in_both z a b) (none_prev both 256 e z (rows_low s z a)))

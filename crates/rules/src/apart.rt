@@ -9,15 +9,15 @@ ghost use Rattle.rules.specs.Beside.{is_beside, UnderSet};
 ghost use Rattle.rules.specs.Nearest.{highest};
 
 use numbers::Row;
-use rowset::{Found, RowSet};
+use rowset::RowSet;
 
 // The last row of both sets, and row 0 where there is none.
 fn highest_common(a: RowSet, b: RowSet) -> Row
     ensures { result.0 ≡ highest (rows_of a) (rows_of b) }
 {
     match a.intersection(b).prev_below(256) {
-        Found::At(r) => r,
-        Found::Nothing => Row(0),
+        Some(r) => r,
+        None => Row(0),
     }
 }
 
@@ -50,8 +50,7 @@ pub fn are_apart(numbers: &[u64], sets: &[u64], list: &[u64]) -> bool
 {
     let mut anchors = RowSet::empty();
     let mut above = RowSet::empty();
-    let mut k = 0;
-    while k < list.len() {
+    for k in 0..list.len() {
         let a = rules3::anchor_of(numbers, tables::row_at(numbers, list, k));
         let over = rules3::set_of(sets, a);
         if !is_beside(numbers, anchors, above, over, a) {
@@ -59,7 +58,6 @@ pub fn are_apart(numbers: &[u64], sets: &[u64], list: &[u64]) -> bool
         }
         anchors = anchors.with(a);
         above = above.union(over);
-        k += 1;
     }
     true
 }

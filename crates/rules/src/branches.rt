@@ -44,7 +44,7 @@ fn step(ifs: u64, action: Action) -> u64
 }
 
 // Whether an In may name row r.
-fn may_be_asked(numbers: &[u64], r: Row) -> bool
+pub fn may_be_asked(numbers: &[u64], r: Row) -> bool
     requires { RowIn numbers.now r.0 }
     ensures { result ≡ condition_fits (chart_of numbers.now) (some r.0) }
 {
@@ -74,14 +74,12 @@ fn branches_fit(numbers: &[u64], block: &[u64]) -> bool
 {
     let n = tables::actions_in(block);
     let mut ifs = NONE_OPEN;
-    let mut k = 0;
-    while k < n {
+    for k in 0..n {
         let action = tables::action_of(block, k);
         if !test_fits(numbers, action) {
             return false;
         }
         ifs = step(ifs, action);
-        k += 1;
     }
     ifs == NONE_OPEN
 }
@@ -107,14 +105,7 @@ fn rows_branches_fit(numbers: &[u64]) -> bool
     ensures { result ≡ all (row_branches_fit (chart_of numbers.now)) (from (row_count numbers.now) 0) }
 {
     let n = tables::row_count(numbers);
-    let mut i = 0;
-    while i < n {
-        if !row_branches_fit(numbers, Row(i as u8)) {
-            return false;
-        }
-        i += 1;
-    }
-    true
+    (0..n).all(|i| row_branches_fit(numbers, Row(i as u8)))
 }
 
 fn transitions_branches_fit(numbers: &[u64]) -> bool
@@ -122,14 +113,7 @@ fn transitions_branches_fit(numbers: &[u64]) -> bool
     ensures { result ≡ all (transition_branches_fit (chart_of numbers.now)) (from (transition_count numbers.now) 0) }
 {
     let n = tables::transition_count(numbers);
-    let mut i = 0;
-    while i < n {
-        if !transition_branches_fit(numbers, Transition(i as u16)) {
-            return false;
-        }
-        i += 1;
-    }
-    true
+    (0..n).all(|i| transition_branches_fit(numbers, Transition(i as u16)))
 }
 
 // Whether no action of the table is a part of an if: raise and host action have lower numbers than those.
@@ -138,14 +122,7 @@ fn all_plain(numbers: &[u64]) -> bool
     ensures { result ≡ all (is_plain_at numbers.now) (from (action_count numbers.now) 0) }
 {
     let n = tables::action_count(numbers);
-    let mut i = 0;
-    while i < n {
-        if columns::IF <= tables::action_cell(numbers, i, columns::ACTION_KIND) {
-            return false;
-        }
-        i += 1;
-    }
-    true
+    (0..n).all(|i| tables::action_cell(numbers, i, columns::ACTION_KIND) < columns::IF)
 }
 
 // Rule 5, as far as it is about the ifs of blocks.

@@ -19,12 +19,6 @@ pub fn all_under(numbers: &[u64], sets: &[u64], a: Row, list: &[u64]) -> bool
     requires { Climbed numbers.now sets.now × RowsIn numbers.now list.now }
     ensures { result ≡ all (is_under (chart_of numbers.now) a.0) list.now }
 {
-    let mut k = 0;
-    while k < list.len() {
-        if !is_under(numbers, sets, a, tables::row_at(numbers, list, k)) {
-            return false;
-        }
-        k += 1;
-    }
-    true
+    list.iter()
+        .all(|&x| is_under(numbers, sets, a, Row(x as u8)))
 }

@@ -24,14 +24,8 @@ fn all_descendants(numbers: &[u64], sets: &[u64], a: Row, list: &[u64]) -> bool
     requires { Climbed numbers.now sets.now × RowsIn numbers.now list.now }
     ensures { result ≡ all (is_descendant (chart_of numbers.now) a.0) list.now }
 {
-    let mut k = 0;
-    while k < list.len() {
-        if !is_descendant(numbers, sets, a, tables::row_at(numbers, list, k)) {
-            return false;
-        }
-        k += 1;
-    }
-    true
+    list.iter()
+        .all(|&x| is_descendant(numbers, sets, a, Row(x as u8)))
 }
 
 fn is_child(numbers: &[u64], a: Row, r: Row) -> bool
@@ -46,28 +40,21 @@ fn all_children(numbers: &[u64], a: Row, list: &[u64]) -> bool
     requires { RowsIn numbers.now list.now }
     ensures { result ≡ all (is_child (chart_of numbers.now) a.0) list.now }
 {
-    let mut k = 0;
-    while k < list.len() {
-        if !is_child(numbers, a, tables::row_at(numbers, list, k)) {
-            return false;
-        }
-        k += 1;
-    }
-    true
+    list.iter().all(|&x| is_child(numbers, a, Row(x as u8)))
+}
+
+fn is_no_root(numbers: &[u64], r: Row) -> bool
+    requires { RowIn numbers.now r.0 }
+    ensures { result ≡ is_no_root (chart_of numbers.now) r.0 }
+{
+    !tables::is_root(tables::kind_of(numbers, r))
 }
 
 fn no_roots(numbers: &[u64], list: &[u64]) -> bool
     requires { RowsIn numbers.now list.now }
     ensures { result ≡ all (is_no_root (chart_of numbers.now)) list.now }
 {
-    let mut k = 0;
-    while k < list.len() {
-        if tables::is_root(tables::kind_of(numbers, tables::row_at(numbers, list, k))) {
-            return false;
-        }
-        k += 1;
-    }
-    true
+    list.iter().all(|&x| is_no_root(numbers, Row(x as u8)))
 }
 
 fn default_fits(numbers: &[u64], sets: &[u64], r: Row) -> bool
@@ -156,14 +143,7 @@ fn lists_fit(numbers: &[u64], sets: &[u64]) -> bool
     ensures { result ≡ all (row_lists_fit (chart_of numbers.now)) (from (row_count numbers.now) 0) }
 {
     let n = tables::row_count(numbers);
-    let mut i = 0;
-    while i < n {
-        if !row_lists_fit(numbers, sets, Row(i as u8)) {
-            return false;
-        }
-        i += 1;
-    }
-    true
+    (0..n).all(|i| row_lists_fit(numbers, sets, Row(i as u8)))
 }
 
 fn many_targets_fit(numbers: &[u64], sets: &[u64], t: Transition) -> bool
@@ -193,14 +173,7 @@ fn all_targets_fit(numbers: &[u64], sets: &[u64]) -> bool
     ensures { result ≡ all (targets_fit (chart_of numbers.now)) (from (transition_count numbers.now) 0) }
 {
     let n = tables::transition_count(numbers);
-    let mut i = 0;
-    while i < n {
-        if !targets_fit(numbers, sets, Transition(i as u16)) {
-            return false;
-        }
-        i += 1;
-    }
-    true
+    (0..n).all(|i| targets_fit(numbers, sets, Transition(i as u16)))
 }
 
 // The rule, where the ancestors of each row are there.

@@ -5,9 +5,8 @@ ghost use Rattle.definition.specs.Tables.{transition_count, kind_at, source_at, 
 ghost use Rattle.definition.specs.Rules.{is_in_order, is_source_kind, has_use, condition_fits, spins, transition_fits, rule5};
 ghost use Rattle.tables.specs.Ranges.{InTables, TransitionIn};
 
-use crate::branches::keeps_branches;
+use crate::branches::{keeps_branches, may_be_asked};
 use numbers::{Row, Transition};
-use tables::Condition;
 
 fn is_in_order(numbers: &[u64], t: Transition) -> bool
     requires { TransitionIn numbers.now t.0 }
@@ -42,10 +41,7 @@ fn has_use(numbers: &[u64], t: Transition) -> bool
     if targets.len() != 0 {
         return true;
     }
-    match tables::condition_of(numbers, t) {
-        Condition::Always => false,
-        Condition::In(_) => true,
-    }
+    tables::condition_of(numbers, t).is_some()
 }
 
 fn condition_fits(numbers: &[u64], t: Transition) -> bool
@@ -53,11 +49,8 @@ fn condition_fits(numbers: &[u64], t: Transition) -> bool
     ensures { result ≡ condition_fits (chart_of numbers.now) (condition_at numbers.now t.0) }
 {
     match tables::condition_of(numbers, t) {
-        Condition::Always => true,
-        Condition::In(r) => {
-            let kind = tables::kind_of(numbers, r);
-            tables::is_state(kind) | tables::is_parallel(kind) | tables::is_final(kind)
-        }
+        None => true,
+        Some(r) => may_be_asked(numbers, r),
     }
 }
 
@@ -65,14 +58,7 @@ fn condition_fits(numbers: &[u64], t: Transition) -> bool
 fn has_row(list: &[u64], r: Row) -> bool
     ensures { result ≡ mem r.0 list.now }
 {
-    let mut k = 0;
-    while k < list.len() {
-        if r.0 as u64 == list[k] {
-            return true;
-        }
-        k += 1;
-    }
-    false
+    list.contains(&u64::from(r.0))
 }
 
 // Whether a transition is eventless and either has no targets, or has no condition and its own source among them.
@@ -89,8 +75,8 @@ fn spins(numbers: &[u64], t: Transition) -> bool
         return true;
     }
     match tables::condition_of(numbers, t) {
-        Condition::Always => has_row(targets, tables::source_of(numbers, t)),
-        Condition::In(_) => false,
+        None => has_row(targets, tables::source_of(numbers, t)),
+        Some(_) => false,
     }
 }
 
@@ -110,14 +96,7 @@ fn transitions_fit(numbers: &[u64]) -> bool
     ensures { result ≡ all (transition_fits (chart_of numbers.now)) (from (transition_count numbers.now) 0) }
 {
     let n = tables::transition_count(numbers);
-    let mut i = 0;
-    while i < n {
-        if !transition_fits(numbers, Transition(i as u16)) {
-            return false;
-        }
-        i += 1;
-    }
-    true
+    (0..n).all(|i| transition_fits(numbers, Transition(i as u16)))
 }
 
 pub fn keeps_transitions(numbers: &[u64]) -> bool

@@ -3,7 +3,7 @@ use Rattle.std.specs.Prelude.{◌≡◌, false, not, List, length, set, replicat
 use Rattle.std.proofs.Math.Path.{refl, sym, ap}
 use Rattle.std.proofs.Common.{◌∙◌, length-set, get_or-set_same}
 use Rattle.std.proofs.Math.Bool.{true}
-use Prim.Native.Nat.{ℕ, zero, suc, ◌+◌, ◌-◌, ◌<◌, ◌≤◌}
+use Prim.Native.Nat.{ℕ, zero, suc, ◌+◌, ◌-◌, ◌<◌}
 use native.Mathlib.Omega.{arith}
 use Rattle.std.proofs.Math.ListN.{get_or}
 use Rattle.std.proofs.lemmas.List.{length-replicate}
@@ -18,6 +18,8 @@ use Rattle.laws.specs.Orders.{lt_case}
 use Rattle.rules1.specs.Ids.{IdTurn, is_id_of, is_new_id, new_done, new_leave, differs_root, differs_names, id_slots, before_id}
 use Rattle.rules1.specs.Keys.{slot_key, key_at}
 use Rattle.rules1.specs.Splits.{zeros}
+use Rattle.rules1.specs.declared.ids.Asked.{Asked}
+use Rattle.rules1.specs.declared.ids.Asked.TheVariants.{New, Twice, Many}
 
 -- the row so many links behind x
 unfoldable pub follow : List ℕ → ℕ → ℕ → ℕ
@@ -63,14 +65,13 @@ pub record Turn (numbers names heads links : List ℕ) (i key : ℕ) : Type 0 wh
   pub low : key < 1024
   pub so_far : Seen numbers names heads links i
 
--- what compared says: 0 where the id is new, 1 where a row before has it
-pub record Met (numbers names : List ℕ) (i e : ℕ) : Type 0 where
-  pub low : e ≤ 2
-  pub new : e ≡ 0 → is_new_id numbers names i ≡ true
-  pub twice : e ≡ 1 → is_new_id numbers names i ≡ false
+-- what compared says: the id is new, or a row before has it
+pub record Met (numbers names : List ℕ) (i : ℕ) (e : Asked) : Type 0 where
+  pub new : e ≡ New → is_new_id numbers names i ≡ true
+  pub twice : e ≡ Twice → is_new_id numbers names i ≡ false
 
 -- the first e rows of the chain from head have been asked, and x comes next
-pub record Asked (numbers names links : List ℕ) (i head x e : ℕ) : Type 0 where
+pub record Passed (numbers names links : List ℕ) (i head x e : ℕ) : Type 0 where
   pub next : x ≡ follow links e head
   pub each : (y : ℕ) → y < e → id_differs numbers names i (follow links y head) ≡ true
 
@@ -89,7 +90,7 @@ module _ (numbers names : List ℕ) where
     abbrev head : ℕ
     head = get_or heads key 0
 
-    pub asked_begin : Asked numbers names links i head head 0
+    pub asked_begin : Passed numbers names links i head head 0
     unfolding follow
     asked_begin = record { next = refl; each = λ y l. absurd (omega arith) }
 
@@ -99,7 +100,7 @@ module _ (numbers names : List ℕ) where
     chain_low (suc d) y l = chain_low d (get_or links y 0) (t.so_far.before y)
 
     -- every row on a chain is one before i
-    pub asked_low : (x e : ℕ) → Asked numbers names links i head x e → x < i
+    pub asked_low : (x e : ℕ) → Passed numbers names links i head x e → x < i
     asked_low x e a = rw a.next (chain_low e head (t.so_far.last key))
 
     stays : (d : ℕ) → follow links d 0 ≡ 0
@@ -107,20 +108,19 @@ module _ (numbers names : List ℕ) where
     stays zero = refl
     stays (suc d) = ap (follow links d) t.so_far.ends ∙ stays d
 
-    module _ (x e : ℕ) (a : Asked numbers names links i head x e) where
-      pub asked_turn : id_differs numbers names i x ≡ true → Asked numbers names links i head (get_or links x 0) (e + 1)
+    module _ (x e : ℕ) (a : Passed numbers names links i head x e) where
+      pub asked_turn : id_differs numbers names i x ≡ true → Passed numbers names links i head (get_or links x 0) (e + 1)
       asked_turn d = record {
         next = ap (λ (y : ℕ). get_or links y 0) a.next ∙ sym (follow_next links e head);
         each = λ y l. eq_case y e (λ q. rw (q, ← a.next) d) (λ n. a.each y (omega (arith, n, l)));
       }
 
       -- the chain ends here: every row of the key has been asked
-      pub met_none : x ≡ 0 → Met numbers names i 0
+      pub met_none : x ≡ 0 → Met numbers names i New
       unfolding key_at
       met_none z = record {
-        low = omega arith;
         new = λ q. sym (new_done numbers names i i (omega arith) (omega arith) t.own (below_each (id_differs numbers names i) i differs));
-        twice = λ q. absurd (omega arith);
+        twice = λ q. absurd (let z : ⊥ = cc in z);
       }
         where
           asked : (k : ℕ) → Reached links head k → 0 < k → id_differs numbers names i k ≡ true
@@ -142,11 +142,11 @@ module _ (numbers names : List ℕ) where
               (λ n. differs_names numbers names i (suc j) (omega arith) (λ w. omega arith) ∙
               ap not (bool_case (same (name_at names (id_at numbers i)) (name_at names (id_at numbers (suc j)))) (λ q. absurd (n (one_key j m (same_eq _ _ q)))) (λ q. q)))
 
-      pub met_twice : x < i → id_differs numbers names i x ≡ false → Met numbers names i 1
-      met_twice l d = record { low = omega arith; new = λ q. absurd (omega arith); twice = λ q. sym (new_leave numbers names i x l d) }
+      pub met_twice : x < i → id_differs numbers names i x ≡ false → Met numbers names i Twice
+      met_twice l d = record { new = λ q. absurd (let z : ⊥ = cc in z); twice = λ q. sym (new_leave numbers names i x l d) }
 
-    pub met_many : Met numbers names i 2
-    met_many = record { low = omega arith; new = λ q. absurd (omega arith); twice = λ q. absurd (omega arith) }
+    pub met_many : Met numbers names i Many
+    met_many = record { new = λ q. absurd (let z : ⊥ = cc in z); twice = λ q. absurd (let z : ⊥ = cc in z) }
 
     -- the row becomes the head of its key's chain
     module _ (few : i < 256) where

@@ -1,6 +1,6 @@
 -- Equal ids, found byte by byte: rows whose ids begin alike are one class, named by its first row, and each byte splits every class by its two halves.
 -- Behind the last byte that an id can have a class is the rows of one id.
-use Rattle.std.specs.Prelude.{◌≡◌, refl, Bool, true, false, not, ℕ, zero, suc, ◌+◌, ◌*◌, ◌/◌, ◌%◌, ◌^◌, ◌<◌, ◌≤◌, eqb, length, set, replicate}
+use Rattle.std.specs.Prelude.{◌≡◌, refl, Bool, true, false, not, ◌&&◌, ℕ, zero, suc, ◌+◌, ◌-◌, ◌*◌, ◌/◌, ◌%◌, ◌^◌, ◌<◌, ◌≤◌, eqb, length, set, replicate}
 use Rattle.std.proofs.Common.{sym, ◌∙◌, mod-lt, zero-lt-suc, length-set, get_or-set_same, get_or-set_other, eqb-true, eq-eqb, ne_eqb}
 use Rattle.std.proofs.Math.Path.{ap}
 use mathlib.Core.List.{List, [], ◌∷◌}
@@ -235,3 +235,13 @@ ids_some_no numbers names f = bool_case (all (id_fits numbers names) (from (row_
     (λ t. absurd (no (sym f ∙ below_each (is_id_of numbers names) (row_count numbers) (λ i l. bool_case (is_id_of numbers names i) (λ h. h)
     (λ h. absurd (no (ids_leave numbers names i (row_count numbers) l refl (sym (new_no numbers names i h)) ∙ t)))))))
     (λ t. sym t)
+
+-- the root is one by itself: the rows behind it decide
+pub alone_behind : (class : List ℕ) (n : ℕ) (r : Bool) → 1 ≤ n → r ≡ all (λ (i : ℕ). eqb (get_or class i 0) i) (from (n - 1) 1) → r ≡ all (is_alone class) (from n 0)
+unfolding from all is_alone
+alone_behind class zero r l e = absurd (omega arith)
+alone_behind class (suc n) r l e = let k : suc n - 1 ≡ n = omega arith in e ∙ ap (λ (j : ℕ). all (λ (i : ℕ). eqb (get_or class i 0) i) (from j 1)) k ∙ go n 0
+  where
+    go : (m a : ℕ) → all (λ (i : ℕ). eqb (get_or class i 0) i) (from m (suc a)) ≡ all (is_alone class) (from m (suc a))
+    go zero a = refl
+    go (suc m) a = ap (λ (b : Bool). eqb (get_or class (suc a) 0) (suc a) && b) (go m (suc a))

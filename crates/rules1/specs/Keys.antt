@@ -1,5 +1,5 @@
 -- A key of an id: any function of its slot's bytes serves, since slots of different keys differ.
-use Rattle.std.specs.Prelude.{◌≡◌, refl, true, false, List, ℕ, zero, suc, ◌+◌, ◌*◌, ◌/◌, ◌%◌, ◌^◌, ◌<◌, ◌≤◌, get_or}
+use Rattle.std.specs.Prelude.{◌≡◌, refl, true, false, List, ℕ, zero, suc, ◌+◌, ◌*◌, ◌/◌, ◌%◌, ◌^◌, ◌<◌, ◌≤◌, get_or, Option, Some, None}
 use Rattle.std.proofs.Common.{ap, ◌∙◌, add-one, arith}
 use Rattle.std.specs.Int.Bits.{bit_or, bit_xor}
 use Rattle.definition.specs.Tables.{id_at, slot_at}
@@ -53,18 +53,14 @@ pub key_of_row : (numbers names : List ℕ) (i n k : ℕ) (xs : List ℕ) → Id
 unfolding key_at
 key_of_row numbers names i n k xs o a e = e ∙ rw (a.is, o.is)
 
--- k is the key of row i's id, or it has none
-pub record KeyOf (numbers names : List ℕ) (i k : ℕ) : Type 0 where
-  pub low : k ≤ keys
-  pub none : k ≡ keys → is_id_of numbers names i ≡ false
-  pub some : k < keys → (is_id_of numbers names i ≡ true) × (k ≡ key_at numbers names i)
+-- what was found is the key of row i's id, or it has none
+pub record KeyOf (numbers names : List ℕ) (i : ℕ) (k : Option ℕ) : Type 0 where
+  pub none : k ≡ None → is_id_of numbers names i ≡ false
+  pub some : (n : ℕ) → k ≡ Some n → (n < keys) × (is_id_of numbers names i ≡ true) × (n ≡ key_at numbers names i)
 
 module _ (numbers names : List ℕ) (i : ℕ) where
-  pub key_none : is_id_of numbers names i ≡ false → KeyOf numbers names i keys
-  key_none h = record { low = omega arith; none = λ e. h; some = λ l. absurd (omega arith) }
+  pub key_none : is_id_of numbers names i ≡ false → KeyOf numbers names i None
+  key_none h = record { none = λ e. h; some = λ n e. absurd (let z : ⊥ = cc in z) }
 
-  pub key_some : (k : ℕ) → is_id_of numbers names i ≡ true → k ≡ key_at numbers names i → k < keys → KeyOf numbers names i k
-  key_some k h e l = record { low = omega arith; none = λ q. absurd (omega arith); some = λ q. (h, e) }
-
-  pub key_found : (k : ℕ) → KeyOf numbers names i k → (k ≡ keys → ⊥) → (k < keys) × (is_id_of numbers names i ≡ true) × (k ≡ key_at numbers names i)
-  key_found k o d = let m = o.low in let l : k < keys = omega arith in (l, (o.some l).0, (o.some l).1)
+  pub key_some : (k : ℕ) → is_id_of numbers names i ≡ true → k ≡ key_at numbers names i → k < keys → KeyOf numbers names i (Some k)
+  key_some k h e l = record { none = λ q. absurd (let z : ⊥ = cc in z); some = λ n q. let w : k ≡ n = cc in rw (← w) (l, h, e) }

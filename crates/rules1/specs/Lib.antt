@@ -9,3 +9,4 @@ pub mod Chains
 pub mod Raises
 pub mod Verdicts
 pub mod Plain
+pub mod Ranged

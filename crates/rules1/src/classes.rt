@@ -29,13 +29,11 @@ fn split(class: &[u8], bytes: &[u8], shift: u8, n: usize) -> [u8; 256]
 {
     let mut firsts = [0u8; CELLS];
     let mut out = [0u8; 256];
-    let mut i = 1;
-    while i < n {
+    for i in 1..n {
         let cell = class[i] as usize * 16 + ((bytes[i] >> shift) % 16) as usize;
         let first = first_of(firsts[cell], i as u8);
         firsts[cell] = first;
         out[i] = first;
-        i += 1;
     }
     out
 }
@@ -47,11 +45,9 @@ fn bytes_at(numbers: &[u64], names: &[u8], p: usize) -> [u8; 256]
 {
     let n = tables::row_count(numbers) as usize;
     let mut bytes = [0u8; 256];
-    let mut i = 1;
-    while i < n {
+    for i in 1..n {
         let slot = tables::slot_of(names, tables::id_of(numbers, Row(i as u8)));
         bytes[i] = slot[p];
-        i += 1;
     }
     bytes
 }
@@ -72,10 +68,8 @@ fn classes_of(numbers: &[u64], names: &[u8]) -> [u8; 256]
     ensures { Classes numbers.now names.now 52 result }
 {
     let mut class = [1u8; 256];
-    let mut p = 0;
-    while p < MOST_ID {
+    for p in 0..MOST_ID {
         class = next_classes(numbers, names, &class, p);
-        p += 1;
     }
     class
 }
@@ -85,14 +79,7 @@ fn are_alone(class: &[u8], n: usize) -> bool
     requires { (length class.now ≡ 256) × (1 ≤ n) × (n ≤ 256) }
     ensures { result ≡ all (is_alone class.now) (from n 0) }
 {
-    let mut i = 1;
-    while i < n {
-        if class[i] as usize != i {
-            return false;
-        }
-        i += 1;
-    }
-    true
+    (1..n).all(|i| usize::from(class[i]) == i)
 }
 
 // Whether every row's id is one and all differ.

@@ -1,39 +1,21 @@
 // What a slot of 64 bytes holds, read as many bytes at a time as the machine takes: no pass here ends early.
 ghost use Rattle.std.specs.Prelude.{◌≡◌, true, ◌&&◌, ◌+◌, ◌≤◌, length};
 ghost use Rattle.definition.specs.Names.{is_descriptor, before_zero, zeros_after};
-ghost use Rattle.names.specs.Blank.{filled_in};
 ghost use Rattle.rules1.specs.Filled.{is_held, is_wrong, Right, NameAhead};
 
-use tables::limits;
+use names::filled;
 
 // So many bytes of a name are judged at once, each with the next one, and names of at most so many bytes are.
 const AT_ONCE: usize = 16;
 
 const MOST_AHEAD: usize = 48;
 
-// How many bytes of a slot are not zero.
-fn filled(slot: &[u8]) -> u8
-    requires { length slot.now ≡ 64 }
-    ensures { result ≡ filled_in slot.now }
-{
-    let mut n: u8 = 0;
-    let mut i = 0;
-    while i < limits::SLOT_SIZE {
-        if slot[i] != 0 {
-            n += 1;
-        }
-        i += 1;
-    }
-    n
-}
-
 // The bytes before the zeros that end a slot.
 pub fn name_in(slot: &[u8]) -> &[u8]
     requires { (length slot.now ≡ 64) × (zeros_after slot.now ≡ true) }
     ensures { result.now ≡ before_zero slot.now }
 {
-    let n = filled(slot) as usize;
-    &slot[..n]
+    &slot[..filled(slot)]
 }
 
 // A byte that a slot may hold before and behind the end of its name.
@@ -62,10 +44,8 @@ fn has_wrong(slot: &[u8], at: usize) -> bool
     ensures { Right slot.now at (at + 16) result }
 {
     let mut wrong = false;
-    let mut j = 0;
-    while j < AT_ONCE {
-        wrong = wrong | is_wrong(slot[at + j], slot[at + j + 1]);
-        j += 1;
+    for j in 0..AT_ONCE {
+        wrong |= is_wrong(slot[at + j], slot[at + j + 1]);
     }
     wrong
 }
@@ -79,12 +59,10 @@ fn holds_name(slot: &[u8], n: usize) -> bool
     if (slot[0] == b'.') | (last == b'.') | (last == 0) {
         return false;
     }
-    let mut q = 0;
-    while q * AT_ONCE < n {
+    for q in 0..n.div_ceil(AT_ONCE) {
         if has_wrong(slot, q * AT_ONCE) {
             return false;
         }
-        q += 1;
     }
     true
 }
@@ -95,7 +73,7 @@ pub fn fits(slot: &[u8]) -> bool
     requires { length slot.now ≡ 64 }
     ensures { result ≡ (zeros_after slot.now && is_descriptor (before_zero slot.now)) }
 {
-    let n = filled(slot) as usize;
+    let n = filled(slot);
     if (0 < n) & (n <= MOST_AHEAD) {
         if holds_name(slot, n) {
             return true;

@@ -20,48 +20,45 @@ use tables::limits;
 const MOST_OF_A_KEY: usize = 32;
 
 // What the rows of a key say of an id: none has it, one has, there are too many.
-const NEW: u64 = 0;
+enum Asked {
+    New,
+    Twice,
+    Many,
+}
 
-const TWICE: u64 = 1;
-
-const MANY: u64 = 2;
-
-// The key of a row's id, and KEYS where it has none.
-fn id_key(numbers: &[u64], names: &[u8], r: Row) -> usize
+// The key of a row's id, if it has one.
+fn id_key(numbers: &[u64], names: &[u8], r: Row) -> Option<usize>
     requires { Slots numbers.now names.now × (r.0 < row_count numbers.now) × (0 < r.0) }
     ensures { KeyOf numbers.now names.now r.0 result }
 {
     let n = tables::id_of(numbers, r);
-    let none = n.0 as u64 == limits::NO_NUMBER;
-    if none {
-        return KEYS;
+    if u64::from(n.0) == limits::NO_NUMBER {
+        return None;
     }
     let slot = tables::slot_of(names, n);
     if !is_id(name_in(slot)) {
-        return KEYS;
+        return None;
     }
-    key_of(slot)
+    Some(key_of(slot))
 }
 
 // Slots that end in zeros are equal if their names are.
-fn met(numbers: &[u64], names: &[u8], heads: &[u8], links: &[u8], r: Row, key: usize) -> u64
+fn met(numbers: &[u64], names: &[u8], heads: &[u8], links: &[u8], r: Row, key: usize) -> Asked
     requires { Turn numbers.now names.now heads.now links.now r.0 key }
     ensures { Met numbers.now names.now r.0 result }
 {
     let mut x = heads[key];
-    let mut e = 0;
-    while e < MOST_OF_A_KEY {
+    for e in 0..MOST_OF_A_KEY {
         if x == 0 {
-            return NEW;
+            return Asked::New;
         }
         let own = tables::slot_of(names, tables::id_of(numbers, r));
         if names::equal(own, tables::slot_of(names, tables::id_of(numbers, Row(x)))) {
-            return TWICE;
+            return Asked::Twice;
         }
         x = links[x as usize];
-        e += 1;
     }
-    MANY
+    Asked::Many
 }
 
 // Ids of different keys differ, and few have one key.
@@ -75,23 +72,18 @@ pub fn ids_fit(numbers: &[u64], names: &[u8]) -> bool
     }
     let mut heads = [0u8; KEYS];
     let mut links = [0u8; 256];
-    let mut i = 1;
-    while i < n {
+    for i in 1..n {
         let r = Row(i as u8);
-        let key = id_key(numbers, names, r);
-        if key == KEYS {
+        let Some(key) = id_key(numbers, names, r) else {
             return false;
-        }
-        let found = met(numbers, names, &heads, &links, r, key);
-        if found == TWICE {
-            return false;
-        }
-        if found == MANY {
-            return ids_differ(numbers, names);
+        };
+        match met(numbers, names, &heads, &links, r, key) {
+            Asked::New => {}
+            Asked::Twice => return false,
+            Asked::Many => return ids_differ(numbers, names),
         }
         links[i as usize] = heads[key];
         heads[key] = r.0;
-        i += 1;
     }
     true
 }

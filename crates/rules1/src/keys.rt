@@ -12,9 +12,10 @@ fn byte_at(slot: &[u8], i: usize) -> u64
     requires { i < length slot.now }
     ensures { result ≡ get_or slot.now i 0 }
 {
-    slot[i] as u64
+    u64::from(slot[i])
 }
 
+// Kept: `u64::from_le_bytes` takes an array, which would be put together byte by byte too.
 fn word_at(slot: &[u8], at: usize) -> u64
     requires { at + 8 ≤ length slot.now }
     ensures { result ≡ word_at slot.now at }
@@ -33,7 +34,7 @@ fn word_at(slot: &[u8], at: usize) -> u64
 fn mixed(k: u64, w: u64) -> u64
     ensures { result ≡ mix_of k w }
 {
-    ((k << 23) | (k >> 41)) ^ w
+    k.rotate_left(23) ^ w
 }
 
 // Both halves of the word have a part in each bit of the key: the factor is 2 ^ 32 by the golden ratio.
@@ -49,10 +50,8 @@ pub fn key_of(slot: &[u8]) -> usize
     ensures { (result ≡ slot_key slot.now) × (result < 1024) }
 {
     let mut k = 0;
-    let mut j = 0;
-    while j < WORDS {
+    for j in 0..WORDS {
         k = mixed(k, word_at(slot, j * 8));
-        j += 1;
     }
     squeezed(k)
 }

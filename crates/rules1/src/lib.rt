@@ -28,15 +28,7 @@ fn slots_fit(numbers: &[u64], names: &[u8]) -> bool
     requires { InTables numbers.now × SlotsIn numbers.now names.now }
     ensures { result ≡ all (slot_fits names.now) (from (name_count numbers.now) 0) }
 {
-    let n = tables::name_count(numbers);
-    let mut i = 0;
-    while i < n {
-        if !fits(tables::slot_of(names, NameNumber(i as u16))) {
-            return false;
-        }
-        i += 1;
-    }
-    true
+    (0..tables::name_count(numbers)).all(|i| fits(tables::slot_of(names, NameNumber(i as u16))))
 }
 
 fn is_named(numbers: &[u64], names: &[u8], n: u64) -> bool
@@ -79,15 +71,7 @@ fn actions_named(numbers: &[u64], names: &[u8]) -> bool
     requires { InTables numbers.now × SlotsIn numbers.now names.now }
     ensures { result ≡ all (action_named numbers.now names.now) (from (action_count numbers.now) 0) }
 {
-    let n = tables::action_count(numbers);
-    let mut i = 0;
-    while i < n {
-        if !action_named(numbers, names, i) {
-            return false;
-        }
-        i += 1;
-    }
-    true
+    (0..tables::action_count(numbers)).all(|a| action_named(numbers, names, a))
 }
 
 pub fn keeps_names(numbers: &[u64], names: &[u8]) -> bool

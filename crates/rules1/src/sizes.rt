@@ -7,6 +7,7 @@ ghost use Rattle.tables.specs.Ranges.{Sized};
 ghost use Rattle.rules1.specs.Arguments.{ArgumentIs};
 ghost use Rattle.rules1.specs.Inside.{is_short_list, is_nothing, has_no_parts};
 
+use definition::Kind;
 use numbers::{Row, Transition};
 use tables::{columns, limits};
 
@@ -85,7 +86,7 @@ fn row_in_range(numbers: &[u64], r: Row) -> bool
     let kind = tables::row_cell(numbers, r, columns::KIND);
     let parent = tables::row_cell(numbers, r, columns::PARENT);
     let id = tables::row_cell(numbers, r, columns::ID);
-    let own = (kind <= kinds::DEEP)
+    let own = (kind <= u64::from(Kind::Deep))
         & is_optional_below(tables::row_count(numbers), parent)
         & is_optional_below(tables::name_count(numbers), id);
     if has_no_parts(numbers, r) {
@@ -184,30 +185,17 @@ fn rows_in_range(numbers: &[u64]) -> bool
     requires { Sized numbers.now }
     ensures { result ≡ all (row_in_range numbers.now) (from (row_count numbers.now) 0) }
 {
-    let n = tables::row_count(numbers);
-    let mut i = 0;
-    while i < n {
-        if !row_in_range(numbers, Row(i as u8)) {
-            return false;
-        }
-        i += 1;
-    }
-    true
+    (0..tables::row_count(numbers)).all(|i| row_in_range(numbers, Row(i as u8)))
 }
 
 fn transitions_in_range(numbers: &[u64]) -> bool
     requires { Sized numbers.now }
     ensures { result ≡ all (transition_in_range numbers.now) (from (transition_count numbers.now) 0) }
 {
-    let n = tables::transition_count(numbers);
-    let mut i = 0;
-    while i < n {
-        if !transition_in_range(numbers, Transition(i as u16)) {
-            return false;
-        }
-        i += 1;
-    }
-    true
+    (0..tables::transition_count(numbers)).all(|i| transition_in_range(
+        numbers,
+        Transition(i as u16),
+    ))
 }
 
 fn references_in_range(numbers: &[u64]) -> bool
@@ -215,15 +203,7 @@ fn references_in_range(numbers: &[u64]) -> bool
     ensures { result ≡ all (reference_in_range numbers.now) (from (reference_count numbers.now) 0) }
 {
     let rows = tables::row_count(numbers);
-    let n = tables::reference_count(numbers);
-    let mut i = 0;
-    while i < n {
-        if rows <= tables::reference_cell(numbers, i) {
-            return false;
-        }
-        i += 1;
-    }
-    true
+    (0..tables::reference_count(numbers)).all(|i| tables::reference_cell(numbers, i) < rows)
 }
 
 fn descriptors_in_range(numbers: &[u64]) -> bool
@@ -231,30 +211,14 @@ fn descriptors_in_range(numbers: &[u64]) -> bool
     ensures { result ≡ all (descriptor_in_range numbers.now) (from (descriptor_count numbers.now) 0) }
 {
     let names = tables::name_count(numbers);
-    let n = tables::descriptor_count(numbers);
-    let mut i = 0;
-    while i < n {
-        if names <= tables::descriptor_cell(numbers, i) {
-            return false;
-        }
-        i += 1;
-    }
-    true
+    (0..tables::descriptor_count(numbers)).all(|i| tables::descriptor_cell(numbers, i) < names)
 }
 
 fn actions_in_range(numbers: &[u64]) -> bool
     requires { Sized numbers.now }
     ensures { result ≡ all (action_in_range numbers.now) (from (action_count numbers.now) 0) }
 {
-    let n = tables::action_count(numbers);
-    let mut i = 0;
-    while i < n {
-        if !action_in_range(numbers, i) {
-            return false;
-        }
-        i += 1;
-    }
-    true
+    (0..tables::action_count(numbers)).all(|a| action_in_range(numbers, a))
 }
 
 // The counts are judged before anything is worked out from them.

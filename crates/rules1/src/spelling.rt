@@ -16,7 +16,7 @@ pub const MOST_ID: usize = 52;
 fn starts_id(b: u8) -> bool
     ensures { result ≡ starts_id b }
 {
-    ((b'A' <= b) & (b <= b'Z')) | ((b'a' <= b) & (b <= b'z')) | (b == b'_')
+    names::is_letter(b) | (b == b'_')
 }
 
 // Whether a descriptor is an id. It is a name unless a star ends it: no byte between is read again.
@@ -52,13 +52,5 @@ pub fn are_ids(numbers: &[u64], names: &[u8]) -> bool
     requires { Slots numbers.now names.now }
     ensures { result ≡ all (is_id_of numbers.now names.now) (from (row_count numbers.now) 0) }
 {
-    let n = tables::row_count(numbers);
-    let mut i = 0;
-    while i < n {
-        if !is_id_of(numbers, names, Row(i as u8)) {
-            return false;
-        }
-        i += 1;
-    }
-    true
+    (0..tables::row_count(numbers)).all(|i| is_id_of(numbers, names, Row(i as u8)))
 }

@@ -63,12 +63,10 @@ fn parents_fit(numbers: &[u64]) -> bool
     ensures { result ≡ all (parent_fits (chart_of numbers.now)) (from (row_count numbers.now) 0) }
 {
     let n = tables::row_count(numbers);
-    let mut i = 0;
-    while i < n {
+    for i in 0..n {
         if !parent_fits(numbers, Row(i as u8)) {
             return false;
         }
-        i += 1;
     }
     true
 }
@@ -87,8 +85,7 @@ fn gather_parents(numbers: &[u64]) -> Parents
     let n = tables::row_count(numbers);
     let mut children = RowSet::empty();
     let mut histories = RowSet::empty();
-    let mut i = 1;
-    while i < n {
+    for i in 1..n {
         let r = Row(i as u8);
         let p = tables::parent_row(numbers, r);
         if tables::is_history(tables::kind_of(numbers, r)) {
@@ -96,11 +93,10 @@ fn gather_parents(numbers: &[u64]) -> Parents
         } else {
             children = children.with(p);
         }
-        i += 1;
     }
     Parents {
-        children: children,
-        histories: histories,
+        children,
+        histories,
     }
 }
 
@@ -120,16 +116,15 @@ fn are_filled(numbers: &[u64]) -> bool
     requires { TreeIn numbers.now }
     ensures { result ≡ all (is_filled (chart_of numbers.now)) (from (row_count numbers.now) 0) }
 {
-    let both = gather_parents(numbers);
-    let children = both.children;
-    let histories = both.histories;
+    let Parents {
+        children,
+        histories,
+    } = gather_parents(numbers);
     let n = tables::row_count(numbers);
-    let mut i = 0;
-    while i < n {
+    for i in 0..n {
         if !is_filled(numbers, children, histories, Row(i as u8)) {
             return false;
         }
-        i += 1;
     }
     true
 }
@@ -161,7 +156,7 @@ pub fn set_of(sets: &[u64], r: Row) -> RowSet
     requires { r.0 * 4 + 4 ≤ length sets.now }
     ensures { result ≡ set_of sets.now r.0 }
 {
-    tables::set_at(sets, r.0 as usize * SET_WIDTH)
+    tables::set_at(sets, usize::from(r) * SET_WIDTH)
 }
 
 // A parent stands before its children: its ancestors are there when theirs are made.
@@ -171,12 +166,10 @@ pub fn write_ancestors(numbers: &[u64], sets: &mut [u64])
 {
     let n = tables::row_count(numbers) as usize;
     tables::put_set(sets, 0, RowSet::empty());
-    let mut i = 1;
-    while i < n {
+    for i in 1..n {
         let p = tables::parent_row(numbers, Row(i as u8));
         let above = set_of(sets, p);
         tables::put_set(sets, i * SET_WIDTH, above.with(p));
-        i += 1;
     }
 }
 

@@ -63,12 +63,10 @@ fn is_blocked(
     requires { Candidate chart.now domains.now conf history.now t.0 own × Within (transition_count chart.now) kept.now }
     ensures { result ≡ any (is_in_the_way (chart_of chart.now) (rows_of conf) (stored_at history.now) t.0) kept.now }
 {
-    let mut i = 0;
-    while i < kept.len() {
+    for i in 0..kept.len() {
         if is_in_the_way(chart, domains, conf, history, t, own, Transition(kept[i])) {
             return true;
         }
-        i += 1;
     }
     false
 }
@@ -113,11 +111,9 @@ fn beside(
         len: 0,
         exits: RowSet::empty(),
     };
-    let mut i = 0;
-    while i < n {
+    for i in 0..n {
         let k = Transition(items[i]);
         rest = keep_beside(chart, domains, conf, history, t, own, items, rest, k);
-        i += 1;
     }
     rest
 }
@@ -164,11 +160,9 @@ fn without_conflicts(
         len: 0,
         exits: RowSet::empty(),
     };
-    let mut i = 0;
-    while i < n {
+    for i in 0..n {
         let t = Transition(items[i]);
         kept = admit(chart, domains, conf, history, items, kept, t);
-        i += 1;
     }
     kept
 }

@@ -69,6 +69,7 @@ pub fn domain(chart: &[u64], history: &[u64], t: Transition) -> Row
 }
 
 // What stands for no domain: no row has this number.
+// Kept: the domains stand in the lent index (lookup::put_index), whose cells are numbers.
 pub const NO_DOMAIN: u16 = 256;
 
 // Whether a transition has targets, and no history among them.
@@ -77,15 +78,13 @@ fn has_fixed_targets(chart: &[u64], t: Transition) -> bool
     ensures { result ≡ has_fixed_targets (chart_of chart.now) t.0 }
 {
     let targets = tables::targets_of(chart, t);
-    let mut i = 0;
-    while i < targets.len() {
+    for i in 0..targets.len() {
         let x = tables::row_at(chart, targets, i);
         if kinds::is_history(tables::kind_of(chart, x)) {
             return false;
         }
-        i += 1;
     }
-    0 < i
+    0 < targets.len()
 }
 
 fn fixed_domain(chart: &[u64], t: Transition) -> u16
@@ -105,10 +104,8 @@ pub fn fixed_domains(chart: &[u64]) -> FixedDomains
 {
     let n = tables::transition_count(chart) as usize;
     let mut domains = [NO_DOMAIN; 512];
-    let mut t: usize = 0;
-    while t < n {
+    for t in 0..n {
         domains[t] = fixed_domain(chart, Transition(t as u16));
-        t += 1;
     }
     FixedDomains { domains: domains }
 }

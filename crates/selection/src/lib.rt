@@ -10,13 +10,6 @@ pub mod conflicts;
 pub mod domains;
 pub mod targets;
 
-// What a history has stored.
-#[derive(Clone, Copy)]
-pub enum Stored {
-    Nothing,
-    Stored(RowSet),
-}
-
 // The domain of each transition that has targets and no history among them, and 256 for the others: theirs is sought in each round.
 #[derive(Drop)]
 pub struct FixedDomains {

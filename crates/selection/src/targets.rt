@@ -9,37 +9,36 @@ ghost use Rattle.paths.specs.History.{stored_at};
 ghost use Rattle.selection.specs.History.{as_stored, stored_of, stands_for};
 ghost use Rattle.selection.specs.Ready.{MoveReady};
 
-use crate::Stored;
 use numbers::{Row, Transition};
 use rowset::RowSet;
 
 // A set that a history stores: the empty one says that nothing is stored.
-pub fn as_stored(set: RowSet) -> Stored
+pub fn as_stored(set: RowSet) -> Option<RowSet>
     ensures { result ≡ as_stored set }
 {
     if set.is_empty() {
-        return Stored::Nothing;
+        return None;
     }
-    Stored::Stored(set)
+    Some(set)
 }
 
 // Four words for each of 256 rows.
-pub fn stored_at(history: &[u64], h: Row) -> Stored
+pub fn stored_at(history: &[u64], h: Row) -> Option<RowSet>
     requires { length history.now ≡ 1024 }
     ensures { result ≡ stored_of history.now h.0 }
 {
-    as_stored(chart::set_at(history, numbers::row_index(h) * 4))
+    as_stored(chart::set_at(history, usize::from(h) * 4))
 }
 
 // The set with what stands in for target x, which has `kept` stored if it is a history.
-pub fn add_stand_ins(chart: &[u64], set: RowSet, x: Row, kept: Stored) -> RowSet
+pub fn add_stand_ins(chart: &[u64], set: RowSet, x: Row, kept: Option<RowSet>) -> RowSet
     requires { RowReady chart.now x.0 }
     ensures { rows_of result ≡ union (rows_of set) (stands_for (chart_of chart.now) kept x.0) }
 {
     if !kinds::is_history(tables::kind_of(chart, x)) {
         return set.with(x);
     }
-    let Stored::Stored(stored) = kept else {
+    let Some(stored) = kept else {
         return tables::with_rows(chart, set, tables::list_of(chart, x));
     };
     set.union(stored)
@@ -51,11 +50,9 @@ pub fn effective_targets(chart: &[u64], history: &[u64], t: Transition) -> RowSe
 {
     let targets = tables::targets_of(chart, t);
     let mut set = RowSet::empty();
-    let mut i = 0;
-    while i < targets.len() {
+    for i in 0..targets.len() {
         let x = tables::row_at(chart, targets, i);
         set = add_stand_ins(chart, set, x, stored_at(history, x));
-        i += 1;
     }
     set
 }

@@ -6,6 +6,8 @@ use Rattle.std.proofs.Math.Bool.{true, false}
 use Rattle.std.proofs.Math.ListN.{length}
 use borrow.Author.Tests.{le-leb, lt-leb}
 use Rattle.definition.specs.declared.Answer.{Answer}
+use Rattle.definition.specs.declared.Mode.{Mode}
+use Rattle.definition.specs.declared.Mode.TheVariants.{Running, Closing, Ended}
 use Rattle.definition.specs.declared.Answer.TheVariants.{Done, NotAName, Full, BadChart, BadSession, SessionEnded}
 use Rattle.definition.specs.Names.{Name, is_name}
 use Rattle.definition.specs.Chart.{Chart}
@@ -28,6 +30,32 @@ use Rattle.session.specs.Sessions.{session, session_of, view, is_session, posted
 use Rattle.session.specs.Spelling.{view_session, session_passes, session_spells, session_well_formed}
 
 -- ---- the answer
+
+-- the number of a mode that is, or is not, that of an ended session
+pub ended_number : (n : ℕ) (m : Mode) → m ≡ mode_from n → m ≡ Ended → n ≡ 0
+unfolding mode_from
+ended_number zero m e f = refl
+ended_number (suc zero) m e f = let q : Running ≡ Ended = sym e ∙ f in absurd (cc)
+ended_number (suc (suc n)) m e f = let q : Closing ≡ Ended = sym e ∙ f in absurd (cc)
+
+pub live_number : (n : ℕ) (m : Mode) → m ≡ mode_from n → (m ≡ Ended → ⊥) → n ≡ 0 → ⊥
+unfolding mode_from
+live_number n m e f z = f (e ∙ ap mode_from z)
+
+-- so with that of one that runs
+pub running_number : (n : ℕ) (m : Mode) → m ≡ mode_from n → m ≡ Running → n ≡ 1
+unfolding mode_from
+running_number zero m e f = let q : Ended ≡ Running = sym e ∙ f in absurd (cc)
+running_number (suc zero) m e f = refl
+running_number (suc (suc n)) m e f = let q : Closing ≡ Running = sym e ∙ f in absurd (cc)
+
+pub resting_number : (n : ℕ) (m : Mode) → m ≡ mode_from n → (m ≡ Running → ⊥) → n ≡ 1 → ⊥
+unfolding mode_from
+resting_number n m e f z = f (e ∙ ap mode_from z)
+
+pub most_mode : mode_no Closing ≡ 2
+unfolding mode_no
+most_mode = refl
 
 pub ended_mode : (m : ℕ) → (m ≡ 0 → ⊥) → is_ended (mode_from m) ≡ false
 unfolding is_ended mode_from

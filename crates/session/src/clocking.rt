@@ -9,11 +9,8 @@ ghost use Rattle.clock.specs.Records.{ClockHolds, JoinedDue};
 ghost use Rattle.session.specs.Sessions.{clock_checked};
 
 use crate::{Clock, Clocked, Session};
-use definition::Answer;
-use state::ENDED;
-
-// "ticks up to 2^62"
-pub const MOST_TICKS: u64 = 4611686018427387904;
+pub use clock::MOST_TICKS;
+use definition::{Answer, Mode};
 
 // What is due joins a queue in which so many names wait, and the record's clock moves to ticks.
 fn join(clock: &mut [u8; 4368], external: &mut [u8; 2048], waiting: u64, ticks: u64) -> u64
@@ -36,7 +33,8 @@ pub fn clock_checked(mut session: Session, mut clock: Clock, chart: &[u64], tick
             answer: Answer::BadSession,
         };
     }
-    if session.mode == ENDED {
+    let mode = Mode::from(session.mode);
+    if let Mode::Ended = mode {
         return Clocked {
             session: session,
             clock: clock,

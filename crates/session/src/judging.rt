@@ -7,9 +7,9 @@ ghost use Rattle.chart.specs.Ready.{Ready};
 ghost use Rattle.session.specs.Sessions.{session, is_session};
 ghost use Rattle.session.specs.Judged.{Lengths, holds_place, mode_holds};
 
+use definition::Mode;
 use numbers::Row;
 use rowset::RowSet;
-use state::{CLOSING, ENDED, RUNNING};
 use tables::columns::SET_WIDTH;
 
 // So many places are judged one by one; with more of them it takes less to judge all together.
@@ -20,17 +20,19 @@ pub fn mode_holds(chart: &[u64], conf: RowSet, internal: u64, external: u64, mod
     requires { Ready chart.now }
     ensures { result ≡ mode_holds (chart_of chart.now) (rows_of conf) internal external mode }
 {
-    if mode == ENDED {
-        return conf.is_empty() & (internal == 0) & (external == 0);
-    }
-    if CLOSING < mode {
+    let most = u64::from(Mode::Closing);
+    if most < mode {
         return false;
+    }
+    let known = Mode::from(mode);
+    if let Mode::Ended = known {
+        return conf.is_empty() & (internal == 0) & (external == 0);
     }
     if !legality::is_legal(chart, conf) {
         return false;
     }
     let closing = legality::has_final(chart, conf);
-    if mode == RUNNING {
+    if let Mode::Running = known {
         return !closing;
     }
     closing
@@ -60,10 +62,8 @@ fn are_zero(words: &[u64]) -> bool
     ensures { result ≡ all (eqb 0) words.now }
 {
     let mut any: u64 = 0;
-    let mut i = 0;
-    while i < words.len() {
+    for i in 0..words.len() {
         any = any | words[i];
-        i += 1;
     }
     any == 0
 }
@@ -73,15 +73,13 @@ fn are_many(history: &[u64], rows: usize) -> bool
     requires { (rows ≤ 256) × (length history.now ≡ 1024) }
 {
     let mut left = FEW_PLACES;
-    let mut h = 0;
-    while h < rows {
+    for h in 0..rows {
         if !chart::set_at(history, h * SET_WIDTH).is_empty() {
             if left == 0 {
                 return true;
             }
             left -= 1;
         }
-        h += 1;
     }
     false
 }
@@ -103,12 +101,10 @@ pub fn history_holds(chart: &[u64], history: &[u64]) -> bool
     if are_many(history, rows) {
         return histories::places_hold(chart, history);
     }
-    let mut h = 0;
-    while h < rows {
+    for h in 0..rows {
         if !place_holds(chart, history, h) {
             return false;
         }
-        h += 1;
     }
     true
 }

@@ -12,11 +12,11 @@ ghost use Rattle.definition.specs.Answers.{mode_no};
 
 pub use clocking::MOST_TICKS;
 use clocking::clock_checked;
-use definition::{Answer, Status};
+use definition::{Answer, Mode, Status};
 use judging::parts_hold;
 pub use judging::{history_holds, mode_holds};
-use places::copy_u64;
-use state::{ENDED, State};
+use places::copy;
+use state::State;
 
 mod clocking;
 mod judging;
@@ -94,7 +94,7 @@ impl Session {
             external: [0u8; 2048],
             internal_count: 0,
             external_count: 0,
-            mode: ENDED,
+            mode: u64::from(Mode::Ended),
         }
     }
 
@@ -103,7 +103,7 @@ impl Session {
         ensures { result ≡ session_at numbers internal external }
     {
         let mut history = [0u64; 1024];
-        copy_u64(&numbers[state::HISTORY..state::INTERNAL], &mut history);
+        copy(&numbers[state::HISTORY..state::INTERNAL], &mut history);
         Session {
             configuration: [numbers[0], numbers[1], numbers[2], numbers[3]],
             history: history,
@@ -121,7 +121,7 @@ impl Session {
     {
         let state = self.state();
         let mut numbers = [0u64; state::NUMBERS];
-        copy_u64(&self.history, &mut numbers[state::HISTORY..state::INTERNAL]);
+        copy(&self.history, &mut numbers[state::HISTORY..state::INTERNAL]);
         state::put_state(&mut numbers, state);
         numbers
     }
@@ -135,7 +135,7 @@ impl Session {
             configuration: configuration,
             internal: self.internal_count,
             external: self.external_count,
-            mode: state::mode_from(self.mode),
+            mode: Mode::from(self.mode),
         }
     }
 
@@ -179,7 +179,7 @@ impl Session {
         if !self.is_session(chart) {
             return false;
         }
-        clock::is_clock(&clock.bytes, state::mode_from(mode))
+        clock::is_clock(&clock.bytes, Mode::from(mode))
     }
 
     // A post, the chart once checked: answers 9, 6, 11, 7 in this order, or the name last in the external queue.
@@ -200,7 +200,8 @@ impl Session {
                 answer: Answer::NotAName,
             };
         }
-        if self.mode == ENDED {
+        let mode = Mode::from(self.mode);
+        if let Mode::Ended = mode {
             return Posted {
                 session: self,
                 answer: Answer::SessionEnded,

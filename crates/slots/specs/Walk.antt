@@ -5,7 +5,7 @@ use Rattle.std.specs.Prelude.{Bool, not, ◌&&◌, ℕ, zero, suc, ◌+◌, ◌*
 use Rattle.std.proofs.Math.Bool.{true, false, cond}
 use mathlib.Core.List.{List, [], ◌∷◌, ◌++◌, append_assoc, append-nil}
 use Rattle.std.proofs.Math.Dec.{ltb}
-use borrow.Author.Tests.{not-true, not-false, ltb-true, ltb-false}
+use borrow.Author.Tests.{ltb-true, ltb-false}
 use Rattle.definition.specs.Rows.{flat}
 use Rattle.marks.specs.declared.Mark.{Mark}
 use Rattle.marks.specs.declared.Mark.TheVariants.{Nothing, Valued, Tagged}
@@ -21,8 +21,9 @@ use Rattle.laws.specs.Orders.{lt_case}
 use Rattle.values.specs.Ids.{id_at, ids_from, Noted, noted_of}
 use Rattle.values.specs.Notes.{Forgotten, forgotten_index}
 use Rattle.gather.specs.Parts.{part_at}
-use Rattle.slots.specs.declared.Slots.{Slots}
-use Rattle.slots.specs.declared.Slots.TheVariants.{Many, Count}
+use Rattle.std.specs.declared.result.Result.{Result}
+use Rattle.std.specs.declared.result.Result.TheVariants.{Ok, Err}
+use Rattle.slots.specs.declared.TooMany.{TooMany}
 use Rattle.slots.specs.First.{fresh_append, fresh_grows}
 use Rattle.slots.specs.Slots.{Fits, Held, AddRoom, Grows, grows_none, is_use, ValueIn}
 
@@ -41,20 +42,19 @@ pub record AddedBy (text slots slots' : List ℕ) (n : ℕ) (m : Mark) (r : ℕ)
   pub grows : Grows text slots slots' n r (used_by text m)
 
 module _ (text slots : List ℕ) (n : ℕ) (m : Mark) where
-  pub by_none : m ≡ Nothing → Fits text slots n → AddedBy text slots slots n m n
-  by_none x f = record { grows = subst (λ (k : Mark). Grows text slots slots n n (used_by text k)) (sym x) (grows_none text slots n f) }
-
-  pub by_tag : (a s e : ℕ) → m ≡ Tagged a s e → Fits text slots n → AddedBy text slots slots n m n
-  by_tag a s e x f = record { grows = subst (λ (k : Mark). Grows text slots slots n n (used_by text k)) (sym x) (grows_none text slots n f) }
+  pub by_other : ((e w a b : ℕ) → m ≡ Valued e w a b → ⊥) → Fits text slots n → AddedBy text slots slots n m n
+  by_other x f = record { grows = by m refl }
+    where
+      by : (k : Mark) → m ≡ k → Grows text slots slots n n (used_by text m)
+      by Nothing e = subst (λ (k : Mark). Grows text slots slots n n (used_by text k)) (sym e) (grows_none text slots n f)
+      by (Valued e w a b) g = absurd (x e w a b g)
+      by (Tagged a s e) g = subst (λ (k : Mark). Grows text slots slots n n (used_by text k)) (sym g) (grows_none text slots n f)
 
   pub by_value : (slots' : List ℕ) (r e w a b : ℕ) → m ≡ Valued e w a b → ValueIn text slots slots' n w a b r → AddedBy text slots slots' n m r
   by_value slots' r e w a b x v = record { grows = subst (λ (k : Mark). Grows text slots slots' n r (used_by text k)) (sym x) v }
 
   pub mark_both : (e w a b : ℕ) → AddRoom text slots n (value_from m) (value_to m) → m ≡ Valued e w a b → AddRoom text slots n a b
   mark_both e w a b h x = subst (λ (k : Mark). AddRoom text slots n (value_from k) (value_to k)) x h
-
-  pub mark_tag : (a s e : ℕ) → m ≡ Tagged a s e → true ≡ ends_tag m
-  mark_tag a s e x = sym (ap ends_tag x)
 
 -- ---- the walk
 
@@ -68,11 +68,11 @@ pub record Found (text slots : List ℕ) (n : ℕ) : Type 0 where
   pub noted : Noted text slots n
   pub are : ids_from text slots n 0 ≡ slots_of (tags_of text)
 
-abbrev SlotsAs : List ℕ → List ℕ → Slots → Type 0
-SlotsAs text slots Many = 768 < length (slots_of (tags_of text))
-SlotsAs text slots (Count n) = Found text slots n
+abbrev SlotsAs : List ℕ → List ℕ → Result ℕ TooMany → Type 0
+SlotsAs text slots (Err many) = 768 < length (slots_of (tags_of text))
+SlotsAs text slots (Ok n) = Found text slots n
 
-pub record Gathered (text levels slots : List ℕ) (r : Slots) : Type 0 where
+pub record Gathered (text levels slots : List ℕ) (r : Result ℕ TooMany) : Type 0 where
   pub begun : Begun text levels slots
   pub slots_are_lem : SlotsAs text slots r
 
@@ -133,10 +133,10 @@ whole_noted text slots n whole f l m =
     noted_of text slots whole f.noted (lt_case 768 n (λ g. let e = f.full g in omega (arith, e, m)) (λ g. let e = f.all_noted g in omega (arith, e, l))) f.index
 
 module _ (text levels slots : List ℕ) (w : Walk) (n whole : ℕ) (k : Gathering text levels slots w n whole) (levels' : List ℕ) (r : Walk) (next : Next text levels levels' w r) where
-  pub slots_end : (found : Bool) → found ≡ is_mark r.mark → not found ≡ true → Gathered text levels' slots (Count whole)
+  pub slots_end : (found : Bool) → found ≡ is_mark r.mark → found ≡ false → Gathered text levels' slots (Ok whole)
   unfolding grouped flat fresh
   slots_end found e q =
-      let none = next.none (sym e ∙ not-true found q) in
+      let none = next.none (sym e ∙ q) in
       record {
         begun = record { short = k.standing.short; deep = next.standing.room; room = k.fits.room };
         slots_are_lem =
@@ -158,9 +158,9 @@ module _ (text levels slots : List ℕ) (w : Walk) (n whole : ℕ) (k : Gatherin
   pub slots_both : AddRoom text slots n (value_from r.mark) (value_to r.mark)
   slots_both = record { fits = k.fits; name = record { first = next.first; quote = next.quote } }
 
-  module _ (found : Bool) (e : found ≡ is_mark r.mark) (q : not found ≡ false) (ends : Bool) (t : ends ≡ ends_tag r.mark) where
+  module _ (found : Bool) (e : found ≡ is_mark r.mark) (q : found ≡ true) (ends : Bool) (t : ends ≡ ends_tag r.mark) where
     pub slots_less : length text - r.index < length text - w.index
-    slots_less = let more = next.further (sym e ∙ not-false found q) in let i = next.standing.within in omega arith
+    slots_less = let more = next.further (sym e ∙ q) in let i = next.standing.within in omega arith
 
     and_left : (a b : Bool) → (a && b) ≡ true → a ≡ true
     and_left true b h = refl
@@ -170,8 +170,8 @@ module _ (text levels slots : List ℕ) (w : Walk) (n whole : ℕ) (k : Gatherin
     and_right true b h = h
     and_right false b h = absurd (let z : ◌≡◌ {A = ℕ} 0 1 = cc in omega arith)
 
-    pub slots_many : (ends && ltb 768 n) ≡ true → Gathered text levels' slots Many
-    slots_many h =
+    pub slots_many : (many : TooMany) → (ends && ltb 768 n) ≡ true → Gathered text levels' slots (Err many)
+    slots_many many h =
         record { begun = record { short = k.standing.short; deep = next.standing.room; room = k.fits.room }; slots_are_lem = by r.mark refl }
       where
         over : 768 < n
@@ -195,7 +195,7 @@ module _ (text levels slots : List ℕ) (w : Walk) (n whole : ℕ) (k : Gatherin
       slots_more = by r.mark refl
         where
           by : (m : Mark) → r.mark ≡ m → Gathering text levels' slots' r n' whole'
-          by Nothing g = absurd (let x : true ≡ false = sym (sym e ∙ not-false found q) ∙ ap is_mark g in let z : ◌≡◌ {A = ℕ} 0 1 = cc in omega arith)
+          by Nothing g = absurd (let x : true ≡ false = sym (sym e ∙ q) ∙ ap is_mark g in let z : ◌≡◌ {A = ℕ} 0 1 = cc in omega arith)
           by (Valued d v a b) g =
               let p = part_at text d v a b in
               let G : Grows text slots slots' n n' (uses_in p) = subst (λ (m : Mark). Grows text slots slots' n n' (used_by text m)) g by-mark.grows in

@@ -12,12 +12,9 @@ use scan::is_space;
 use values::item_end;
 use values::noted::{forget, note, place_of};
 
-// How many slots the text has, or more than 768.
-#[derive(Clone, Copy)]
-pub enum Slots {
-    Many,
-    Count(usize),
-}
+// The text has more than 768 slots.
+#[derive(Clone, Copy, PartialEq, Eq)]
+pub struct TooMany;
 
 // The most slots; one more stands for too many.
 const MOST: usize = 768;
@@ -48,9 +45,9 @@ fn add_names(text: &[u8], slots: &mut [u16], n: usize, from: usize, to: usize) -
     let mut r = n;
     let mut i = 0;
     let long = to - from;
+    // Kept: the index goes on by a whole name at a time, which no `for` over a range does.
     while i < long {
-        let space = is_space(text[from + i]);
-        if space {
+        if is_space(text[from + i]) {
             i += 1;
             continue;
         }
@@ -62,6 +59,7 @@ fn add_names(text: &[u8], slots: &mut [u16], n: usize, from: usize, to: usize) -
 }
 
 // An id, a raise's or send's event, a descriptor, a cancel's sendid.
+// Kept: words of attributes are the numbers of the definition (Rattle.grammar.specs.Tables).
 fn is_use(word: u8) -> bool
     ensures { result ≡ is_use word }
 {
@@ -72,8 +70,7 @@ fn add_value(text: &[u8], slots: &mut [u16], n: usize, word: u8, from: usize, to
     requires { AddRoom text.now slots.old n from to }
     ensures { ValueIn text.now slots.old slots.new n word from to result }
 {
-    let names = is_use(word);
-    if names {
+    if is_use(word) {
         return add_names(text, slots, n, from, to);
     }
     n
@@ -83,11 +80,7 @@ fn add_value(text: &[u8], slots: &mut [u16], n: usize, word: u8, from: usize, to
 fn ends_tag(m: Mark) -> bool
     ensures { result ≡ ends_tag m }
 {
-    match m {
-        Mark::Nothing => false,
-        Mark::Valued(e, w, a, b) => false,
-        Mark::Tagged(a, s, e) => true,
-    }
+    matches!(m, Mark::Tagged(_, _, _))
 }
 
 // The names of the value that the mark ends, if it ends one.
@@ -96,14 +89,13 @@ fn add_mark(text: &[u8], slots: &mut [u16], n: usize, m: Mark) -> usize
     ensures { AddedBy text.now slots.old slots.new n m result }
 {
     match m {
-        Mark::Nothing => n,
-        Mark::Valued(e, w, a, b) => add_value(text, slots, n, w, a, b),
-        Mark::Tagged(a, s, e) => n,
+        Mark::Valued(_, word, from, to) => add_value(text, slots, n, word, from, to),
+        _ => n,
     }
 }
 
-// The slots of a text: those of the tags that have ended, so that a tag without an end counts for nothing.
-pub fn gather_slots(text: &[u8], levels: &mut [u8], slots: &mut [u16]) -> Slots
+// How many slots a text has: those of the tags that have ended, so that a tag without an end counts for nothing.
+pub fn gather_slots(text: &[u8], levels: &mut [u8], slots: &mut [u16]) -> Result<usize, TooMany>
     requires { Begun text.now levels.old slots.old }
     ensures { Gathered text.now levels.new slots.new result }
 {
@@ -114,13 +106,12 @@ pub fn gather_slots(text: &[u8], levels: &mut [u8], slots: &mut [u16]) -> Slots
     loop {
         let next = next_mark(text, levels, w);
         let m = next.mark;
-        let found = is_mark(m);
-        if !found {
-            return Slots::Count(whole);
+        if !is_mark(m) {
+            return Ok(whole);
         }
         let ends = ends_tag(m);
         if ends & (MOST < n) {
-            return Slots::Many;
+            return Err(TooMany);
         }
         whole = either(ends, n, whole);
         n = add_mark(text, slots, n, m);

@@ -1,11 +1,15 @@
 -- Actions by their four cells.
-use Rattle.std.specs.Prelude.{◌≡◌, refl, true, ◌&&◌, List, [], ◌∷◌, ◌++◌, ℕ, zero, suc, ◌≤◌, ◌<◌, eqb, leb, ltb}
-use Rattle.std.proofs.Common.{sym, ap, ap₂, ◌∙◌, append_assoc, arith}
-use borrow.Author.Tests.{leb-true, ltb-true}
-use Rattle.definition.specs.Tables.{most_delay, row_count, name_count, action_count, action_cell, action_of, action_at, name_at}
-use Rattle.definition.specs.Rules.{optional_below, arguments_fit, action_in_range}
-use Rattle.laws.specs.Bools.{and_left, and3}
-use Rattle.tables.specs.Ranges.{arguments_fit_lem, optional_below_lem}
+use Rattle.std.specs.Prelude.{◌≡◌, refl, true, cond, List, [], ◌∷◌, ◌++◌, ℕ, zero, suc, ◌<◌, eqb, leb, ltb}
+use Rattle.std.proofs.Common.{sym, ap, ◌∙◌, append_assoc}
+use Rattle.std.proofs.Math.Option.{none, some}
+use borrow.Author.Tests.{ltb-true}
+use Rattle.definition.specs.declared.Action.{Action}
+use Rattle.definition.specs.declared.Action.TheVariants.{Raise, Host, If, ElseIf, Else, End, Send, Cancel}
+use Rattle.definition.specs.Tables.{no_number, most_delay, row_count, name_count, action_count, action_cell, action_of, action_at, name_at}
+use Rattle.definition.specs.Rules.{optional_below}
+use Rattle.laws.specs.Bools.{and3}
+use Rattle.tables.specs.Ranges.{ActionIn, optional_below_lem}
+use Rattle.tables.specs.Actions.{fits_number, number_fits}
 use Rattle.reading.specs.Content.{Act, Row, raises, hosts, if_in, elseif_in, otherwise, end_if, sends, cancels}
 use Rattle.reading.specs.Layout.{act_of, content}
 use Rattle.reading.specs.Print.{number, condition, act_text}
@@ -63,109 +67,103 @@ module _ {place out : List ℕ} {from at : ℕ} where
 
 -- ---- an action by its cells
 
--- a kind that is none of the others is the last
-last_kind : (k : ℕ) → k ≤ 7 → (k ≡ 0 → ⊥) → (k ≡ 1 → ⊥) → (k ≡ 2 → ⊥) → (k ≡ 3 → ⊥) → (k ≡ 4 → ⊥) → (k ≡ 5 → ⊥) → (k ≡ 6 → ⊥) → k ≡ 7
-last_kind zero l a0 a1 a2 a3 a4 a5 a6 = absurd (a0 refl)
-last_kind (suc zero) l a0 a1 a2 a3 a4 a5 a6 = absurd (a1 refl)
-last_kind (suc (suc zero)) l a0 a1 a2 a3 a4 a5 a6 = absurd (a2 refl)
-last_kind (suc (suc (suc zero))) l a0 a1 a2 a3 a4 a5 a6 = absurd (a3 refl)
-last_kind (suc (suc (suc (suc zero)))) l a0 a1 a2 a3 a4 a5 a6 = absurd (a4 refl)
-last_kind (suc (suc (suc (suc (suc zero))))) l a0 a1 a2 a3 a4 a5 a6 = absurd (a5 refl)
-last_kind (suc (suc (suc (suc (suc (suc zero)))))) l a0 a1 a2 a3 a4 a5 a6 = absurd (a6 refl)
-last_kind (suc (suc (suc (suc (suc (suc (suc zero))))))) l a0 a1 a2 a3 a4 a5 a6 = refl
-last_kind (suc (suc (suc (suc (suc (suc (suc (suc k)))))))) l a0 a1 a2 a3 a4 a5 a6 = absurd (omega arith)
+-- what the writer reads of an action, as the content has it
+abbrev pub act_from : (ℕ → List ℕ) → Action → Act
+act_from name (Raise n) = raises (name n)
+act_from name (Host n) = hosts n
+act_from name (If i) = if_in i
+act_from name (ElseIf i) = elseif_in i
+act_from name Else = otherwise
+act_from name End = end_if
+act_from name (Send n delay id) = sends (name n) delay (cond (eqb id no_number) none (some (name id)))
+act_from name (Cancel n) = cancels (name n)
+
+cells_read : (name : ℕ → List ℕ) (k x y z : ℕ) → act_of name k x y z ≡ act_from name (action_of k x y z)
+cells_read name zero x y z = refl
+cells_read name (suc zero) x y z = refl
+cells_read name (suc (suc zero)) x y z = refl
+cells_read name (suc (suc (suc zero))) x y z = refl
+cells_read name (suc (suc (suc (suc zero)))) x y z = refl
+cells_read name (suc (suc (suc (suc (suc zero))))) x y z = refl
+cells_read name (suc (suc (suc (suc (suc (suc zero)))))) x y z = refl
+cells_read name (suc (suc (suc (suc (suc (suc (suc k))))))) x y z = refl
 
 pub record ActionReady (numbers names : List ℕ) (a : ℕ) : Type 0 where
   pub ready : Ready numbers names
   pub below : a < action_count numbers
 
 module _ (numbers names : List ℕ) (a : ℕ) (h : ActionReady numbers names a) where
-  act_low : action_cell numbers a 0 ≤ 7
-  unfolding action_in_range
-  act_low =
-      leb-true (action_cell numbers a 0) 7
-      (and_left (leb (action_cell numbers a 0) 7) (arguments_fit numbers (action_at numbers a) (action_cell numbers a 1) (action_cell numbers a 2) (action_cell numbers a 3)) (h.ready.tables.action a h.below))
+  pub action_in_lem : ActionIn numbers a
+  action_in_lem = record { tables = h.ready.tables; below = h.below }
 
-  fits : (k : ℕ) → action_cell numbers a 0 ≡ k →
-      arguments_fit numbers (action_of k (action_cell numbers a 1) (action_cell numbers a 2) (action_cell numbers a 3)) (action_cell numbers a 1) (action_cell numbers a 2) (action_cell numbers a 3) ≡ true
-  unfolding action_at
-  fits k e = rw e at (arguments_fit_lem numbers a (record { tables = h.ready.tables; below = h.below }))
+  name_below : (n : ℕ) → ltb n (name_count numbers) ≡ true → NameReady names n
+  name_below n f = name_ready numbers names h.ready n (ltb-true n (name_count numbers) f)
 
-  -- the number of a name, of a row, alone in its action
-  name_below : (x : ℕ) → x ≡ action_cell numbers a 1 → (ltb (action_cell numbers a 1) (name_count numbers) && eqb (action_cell numbers a 2) 0 && eqb (action_cell numbers a 3) 0) ≡ true → NameReady names x
-  name_below x e f =
-      name_ready numbers names h.ready x
-      (rw (sym e) at (ltb-true (action_cell numbers a 1) (name_count numbers) (and3 (ltb (action_cell numbers a 1) (name_count numbers)) (eqb (action_cell numbers a 2) 0) (eqb (action_cell numbers a 3) 0) f).0))
+  row_below : (i : ℕ) → ltb i (row_count numbers) ≡ true → RowReady numbers names i
+  row_below i f = record { ready = h.ready; below = ltb-true i (row_count numbers) f }
 
-  row_below : (x : ℕ) → x ≡ action_cell numbers a 1 → (ltb (action_cell numbers a 1) (row_count numbers) && eqb (action_cell numbers a 2) 0 && eqb (action_cell numbers a 3) 0) ≡ true → RowReady numbers names x
-  row_below x e f =
+  -- ---- what an action names is there
+
+  pub raise_ready : (n : ℕ) → fits_number numbers (Raise n) ≡ true → NameReady names n
+  unfolding fits_number
+  raise_ready n f = name_below n f
+
+  pub if_ready : (i : ℕ) → fits_number numbers (If i) ≡ true → RowReady numbers names i
+  unfolding fits_number
+  if_ready i f = row_below i f
+
+  -- the same by its cells
+  pub if_row : action_cell numbers a 0 ≡ 2 → (i : ℕ) → i ≡ action_cell numbers a 1 → RowReady numbers names i
+  if_row e i q = if_ready i (ap (fits_number numbers) (sym here) ∙ number_fits numbers a action_in_lem)
+    where
+      here : action_at numbers a ≡ If i
+      here = unfold action_at in rw e (ap If (sym q))
+
+  pub else_if_ready : (i : ℕ) → fits_number numbers (ElseIf i) ≡ true → RowReady numbers names i
+  unfolding fits_number
+  else_if_ready i f = row_below i f
+
+  pub send_ready : (n delay id : ℕ) → fits_number numbers (Send n delay id) ≡ true → SendReady names n id
+  unfolding fits_number
+  send_ready n delay id f =
+      let g = and3 (ltb n (name_count numbers)) (leb delay most_delay) (optional_below (name_count numbers) id) f in
       record {
-        ready = h.ready;
-        below =
-            rw (sym e) at (ltb-true (action_cell numbers a 1) (row_count numbers) (and3 (ltb (action_cell numbers a 1) (row_count numbers)) (eqb (action_cell numbers a 2) 0) (eqb (action_cell numbers a 3) 0) f).0);
+        event = name_below n g.0;
+        id = record { named = λ d. name_ready numbers names h.ready id (optional_below_lem (name_count numbers) id g.2 d) };
       }
 
-  module _ (kind x : ℕ) (k : kind ≡ action_cell numbers a 0) (e : x ≡ action_cell numbers a 1) where
-    pub raise_ready : kind ≡ 0 → NameReady names x
-    unfolding arguments_fit
-    raise_ready q = name_below x e (fits 0 (sym k ∙ q))
+  pub cancel_ready : (n : ℕ) → fits_number numbers (Cancel n) ≡ true → NameReady names n
+  unfolding fits_number
+  cancel_ready n f = name_below n f
 
-    pub if_ready : kind ≡ 2 → RowReady numbers names x
-    unfolding arguments_fit
-    if_ready q = row_below x e (fits 2 (sym k ∙ q))
+  -- ---- an action as its function lays it
 
-    pub else_if_ready : kind ≡ 3 → RowReady numbers names x
-    unfolding arguments_fit
-    else_if_ready q = row_below x e (fits 3 (sym k ∙ q))
+  module _ {place out : List ℕ} {from at : ℕ} where
+    act_laid : (act : Action) → act ≡ action_at numbers a → Laid (act_text (content numbers names).rows (act_from (name_at names) act)) place from out at → Laid (act_text (content numbers names).rows (act_at numbers names a)) place from out at
+    unfolding action_at
+    act_laid act e l = laid_as (ap (act_text (content numbers names).rows) (cells_read (name_at names) (action_cell numbers a 0) _ _ _ ∙ ap (act_from (name_at names)) (sym e))) l
 
-    pub send_ready : kind ≡ 6 → (z : ℕ) → z ≡ action_cell numbers a 3 → SendReady names x z
-    unfolding arguments_fit
-    send_ready q z g =
-        let f = and3 (ltb (action_cell numbers a 1) (name_count numbers)) (leb (action_cell numbers a 2) most_delay) (optional_below (name_count numbers) (action_cell numbers a 3)) (fits 6 (sym k ∙ q)) in
-        record {
-          event = name_ready numbers names h.ready x (rw (sym e) at (ltb-true (action_cell numbers a 1) (name_count numbers) f.0));
-          id = record { named = λ d. name_ready numbers names h.ready z (optional_below_lem (name_count numbers) z (ap (optional_below (name_count numbers)) g ∙ f.2) d) };
-        }
+    pub raise_laid : (n : ℕ) → Raise n ≡ action_at numbers a → Laid (act_text [] (raises (name_at names n))) place from out at → Laid (act_text (content numbers names).rows (act_at numbers names a)) place from out at
+    raise_laid n e l = act_laid (Raise n) e (laid_as (raise_rows _ _) l)
 
-    -- what is no other kind is a cancel
-    is_cancel : (kind ≡ 0 → ⊥) → (kind ≡ 1 → ⊥) → (kind ≡ 2 → ⊥) → (kind ≡ 3 → ⊥) → (kind ≡ 4 → ⊥) → (kind ≡ 5 → ⊥) → (kind ≡ 6 → ⊥) → kind ≡ 7
-    is_cancel a0 a1 a2 a3 a4 a5 a6 = last_kind kind (let w = act_low in omega arith) a0 a1 a2 a3 a4 a5 a6
+    pub host_laid : (n : ℕ) → Host n ≡ action_at numbers a → Laid (act_text [] (hosts n)) place from out at → Laid (act_text (content numbers names).rows (act_at numbers names a)) place from out at
+    host_laid n e l = act_laid (Host n) e (laid_as (host_rows _ _) l)
 
-    pub cancel_ready : (kind ≡ 0 → ⊥) → (kind ≡ 1 → ⊥) → (kind ≡ 2 → ⊥) → (kind ≡ 3 → ⊥) → (kind ≡ 4 → ⊥) → (kind ≡ 5 → ⊥) → (kind ≡ 6 → ⊥) → NameReady names x
-    unfolding arguments_fit
-    cancel_ready a0 a1 a2 a3 a4 a5 a6 = name_below x e (fits 7 (sym k ∙ is_cancel a0 a1 a2 a3 a4 a5 a6))
+    pub if_laid : (i : ℕ) → If i ≡ action_at numbers a → Laid (act_text (content numbers names).rows (if_in i)) place from out at → Laid (act_text (content numbers names).rows (act_at numbers names a)) place from out at
+    if_laid i e l = act_laid (If i) e l
 
-    -- the action of this kind
-    act_is : (j : ℕ) → kind ≡ j → act_at numbers names a ≡ act_of (name_at names) j x (action_cell numbers a 2) (action_cell numbers a 3)
-    act_is j q = ap₂ (λ (u v : ℕ). act_of (name_at names) u v (action_cell numbers a 2) (action_cell numbers a 3)) (sym k ∙ q) (sym e)
+    pub else_if_laid : (i : ℕ) → ElseIf i ≡ action_at numbers a → Laid (act_text (content numbers names).rows (elseif_in i)) place from out at → Laid (act_text (content numbers names).rows (act_at numbers names a)) place from out at
+    else_if_laid i e l = act_laid (ElseIf i) e l
 
-    module _ {place out : List ℕ} {from at : ℕ} where
-      act_laid : (act : Act) → act_at numbers names a ≡ act → Laid (act_text (content numbers names).rows act) place from out at → Laid (act_text (content numbers names).rows (act_at numbers names a)) place from out at
-      act_laid act q l = laid_as (ap (act_text (content numbers names).rows) q) l
+    pub else_laid : Else ≡ action_at numbers a → Laid (act_text [] otherwise) place from out at → Laid (act_text (content numbers names).rows (act_at numbers names a)) place from out at
+    else_laid e l = act_laid Else e (laid_as (else_rows _) l)
 
-      pub raise_laid : kind ≡ 0 → Laid (act_text [] (raises (name_at names x))) place from out at → Laid (act_text (content numbers names).rows (act_at numbers names a)) place from out at
-      raise_laid q l = act_laid (raises (name_at names x)) (act_is 0 q) (laid_as (raise_rows _ _) l)
+    pub end_laid : End ≡ action_at numbers a → Laid (act_text [] end_if) place from out at → Laid (act_text (content numbers names).rows (act_at numbers names a)) place from out at
+    end_laid e l = act_laid End e (laid_as (end_rows _) l)
 
-      pub host_laid : kind ≡ 1 → Laid (act_text [] (hosts x)) place from out at → Laid (act_text (content numbers names).rows (act_at numbers names a)) place from out at
-      host_laid q l = act_laid (hosts x) (act_is 1 q) (laid_as (host_rows _ _) l)
+    pub send_laid : (n delay id : ℕ) → Send n delay id ≡ action_at numbers a → Laid (act_text [] (sends (name_at names n) delay (sent_id names id))) place from out at →
+        Laid (act_text (content numbers names).rows (act_at numbers names a)) place from out at
+    send_laid n delay id e l = act_laid (Send n delay id) e (laid_as (send_rows _ _ _ _) l)
 
-      pub if_laid : kind ≡ 2 → Laid (act_text (content numbers names).rows (if_in x)) place from out at → Laid (act_text (content numbers names).rows (act_at numbers names a)) place from out at
-      if_laid q l = act_laid (if_in x) (act_is 2 q) l
-
-      pub else_if_laid : kind ≡ 3 → Laid (act_text (content numbers names).rows (elseif_in x)) place from out at → Laid (act_text (content numbers names).rows (act_at numbers names a)) place from out at
-      else_if_laid q l = act_laid (elseif_in x) (act_is 3 q) l
-
-      pub else_laid : kind ≡ 4 → Laid (act_text [] otherwise) place from out at → Laid (act_text (content numbers names).rows (act_at numbers names a)) place from out at
-      else_laid q l = act_laid otherwise (act_is 4 q) (laid_as (else_rows _) l)
-
-      pub end_laid : kind ≡ 5 → Laid (act_text [] end_if) place from out at → Laid (act_text (content numbers names).rows (act_at numbers names a)) place from out at
-      end_laid q l = act_laid end_if (act_is 5 q) (laid_as (end_rows _) l)
-
-      pub send_laid : kind ≡ 6 → (y z : ℕ) → y ≡ action_cell numbers a 2 → z ≡ action_cell numbers a 3 → Laid (act_text [] (sends (name_at names x) y (sent_id names z))) place from out at →
-          Laid (act_text (content numbers names).rows (act_at numbers names a)) place from out at
-      send_laid q y z f g l =
-          act_laid (sends (name_at names x) y (sent_id names z)) (act_is 6 q ∙ ap₂ (λ (u v : ℕ). sends (name_at names x) u (sent_id names v)) (sym f) (sym g)) (laid_as (send_rows _ _ _ _) l)
-
-      pub cancel_laid : (kind ≡ 0 → ⊥) → (kind ≡ 1 → ⊥) → (kind ≡ 2 → ⊥) → (kind ≡ 3 → ⊥) → (kind ≡ 4 → ⊥) → (kind ≡ 5 → ⊥) → (kind ≡ 6 → ⊥) → Laid (act_text [] (cancels (name_at names x))) place from out at →
-          Laid (act_text (content numbers names).rows (act_at numbers names a)) place from out at
-      cancel_laid a0 a1 a2 a3 a4 a5 a6 l = act_laid (cancels (name_at names x)) (act_is 7 (is_cancel a0 a1 a2 a3 a4 a5 a6)) (laid_as (cancel_rows _ _) l)
+    pub cancel_laid : (n : ℕ) → Cancel n ≡ action_at numbers a → Laid (act_text [] (cancels (name_at names n))) place from out at → Laid (act_text (content numbers names).rows (act_at numbers names a)) place from out at
+    cancel_laid n e l = act_laid (Cancel n) e (laid_as (cancel_rows _ _) l)

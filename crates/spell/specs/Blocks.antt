@@ -16,7 +16,7 @@ use Rattle.reading.specs.Layout.{act_of, acts_at, content}
 use Rattle.reading.specs.Print.{condition, act_text, is_if, is_end, row_of_if, block_from, block_text, element, block_element}
 use Rattle.spell.specs.Laid.{Laid, laid_as, laid_none, laid_then, Left, left_begin, left_turn, left_end}
 use Rattle.spell.specs.Ready.{Ready, RowReady}
-use Rattle.spell.specs.Actions.{act_at, ActionReady, if_ready}
+use Rattle.spell.specs.Actions.{act_at, ActionReady, if_row}
 
 -- action a is an if, and the next one, before action n, its end
 unfoldable pub is_hollow : List ℕ → ℕ → ℕ → Bool
@@ -138,7 +138,7 @@ module _ (numbers names : List ℕ) where
     module _ (z : Bool) (e : z ≡ is_hollow numbers a (start + count)) where
       module _ (yes : z ≡ true) (i : ℕ) (q : i ≡ action_cell numbers a 1) where
         pub block_row : a < start + count → RowReady numbers names i
-        block_row l = if_ready numbers names a (block_action l) 2 i (sym (kinds (sym e ∙ yes)).0) q refl
+        block_row l = if_row numbers names a (block_action l) (kinds (sym e ∙ yes)).0 i q
 
         pub block_pair : a < start + count → {out' : List ℕ} {at' : ℕ} → Laid ((60 ∷ 105 ∷ 102 ∷ []) ++ condition (content numbers names).rows i ++ (47 ∷ 62 ∷ [])) out at out' at' → Blocking start count place from out' at' (a + 2)
         block_pair l p =

@@ -11,7 +11,7 @@ ghost use Rattle.spell.specs.Actions.{ActionReady, act_at};
 use crate::parts::{lay_number, lay_part};
 use crate::sends::{lay_cancel, lay_send};
 use crate::values::{lay_condition, lay_name};
-use tables::columns;
+use definition::Action;
 
 fn lay_raise(names: &[u8], n: u64, out: &mut [u8], at: usize) -> usize
     requires { NameReady names.now n }
@@ -61,30 +61,14 @@ pub fn lay_action(numbers: &[u64], names: &[u8], a: u64, out: &mut [u8], at: usi
     requires { ActionReady numbers.now names.now a }
     ensures { Laid (act_text (content numbers.now names.now).rows (act_at numbers.now names.now a)) out.old at out.new result }
 {
-    let kind = tables::action_cell(numbers, a, columns::ACTION_KIND);
-    let x = tables::action_cell(numbers, a, columns::ARGUMENT);
-    if kind == columns::RAISE {
-        return lay_raise(names, x, out, at);
+    match tables::action_at(numbers, a) {
+        Action::Raise(n) => lay_raise(names, n, out, at),
+        Action::Host(n) => lay_host(n, out, at),
+        Action::If(i) => lay_if(numbers, names, i, out, at),
+        Action::ElseIf(i) => lay_else_if(numbers, names, i, out, at),
+        Action::Else => lay_else(out, at),
+        Action::End => lay_end(out, at),
+        Action::Send(n, delay, id) => lay_send(names, n, delay, id, out, at),
+        Action::Cancel(n) => lay_cancel(names, n, out, at),
     }
-    if kind == columns::HOST {
-        return lay_host(x, out, at);
-    }
-    if kind == columns::IF {
-        return lay_if(numbers, names, x, out, at);
-    }
-    if kind == columns::ELSE_IF {
-        return lay_else_if(numbers, names, x, out, at);
-    }
-    if kind == columns::ELSE {
-        return lay_else(out, at);
-    }
-    if kind == columns::END {
-        return lay_end(out, at);
-    }
-    if kind == columns::SEND {
-        let delay = tables::action_cell(numbers, a, columns::DELAY);
-        let id = tables::action_cell(numbers, a, columns::SEND_ID);
-        return lay_send(names, x, delay, id, out, at);
-    }
-    lay_cancel(names, x, out, at)
 }

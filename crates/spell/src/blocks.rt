@@ -41,6 +41,7 @@ fn lay_block(
     let end = start + count;
     let mut next = at;
     let mut a = start;
+    // Kept: no `for` is plainer, since an if and its end go in one turn: a step is one action or two.
     while a < end {
         let hollow = is_hollow(numbers, a, end);
         if hollow {

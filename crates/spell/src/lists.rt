@@ -7,15 +7,22 @@ ghost use Rattle.spell.specs.Lists.{gap, item, ItemReady, ItemsReady, ListReady}
 use crate::parts::{lay_byte, lay_part};
 use crate::values::{lay_id, lay_name};
 
+// What the numbers of a list are those of: names, or rows, which stand by their ids.
+#[derive(Clone, Copy, PartialEq, Eq)]
+pub enum Items {
+    Names,
+    Rows,
+}
+
 // The name of number x, or the id of row x.
-fn lay_item(numbers: &[u64], names: &[u8], by_id: bool, x: u64, out: &mut [u8], at: usize) -> usize
-    requires { ItemReady numbers.now names.now by_id x }
-    ensures { Laid (item numbers.now names.now by_id x) out.old at out.new result }
+fn lay_item(numbers: &[u64], names: &[u8], items: Items, x: u64, out: &mut [u8], at: usize) -> usize
+    requires { ItemReady numbers.now names.now items x }
+    ensures { Laid (item numbers.now names.now items x) out.old at out.new result }
 {
-    if by_id {
-        return lay_id(numbers, names, x, out, at);
+    match items {
+        Items::Names => lay_name(names, x, out, at),
+        Items::Rows => lay_id(numbers, names, x, out, at),
     }
-    lay_name(names, x, out, at)
 }
 
 // The space before item k: none before the first.
@@ -31,20 +38,18 @@ fn lay_gap(k: usize, out: &mut [u8], at: usize) -> usize
 fn lay_items(
     numbers: &[u64],
     names: &[u8],
-    by_id: bool,
+    items: Items,
     list: &[u64],
     out: &mut [u8],
     at: usize,
 ) -> usize
-    requires { ItemsReady numbers.now names.now by_id list.now }
-    ensures { Laid (spaced (map (item numbers.now names.now by_id) list.now)) out.old at out.new result }
+    requires { ItemsReady numbers.now names.now items list.now }
+    ensures { Laid (spaced (map (item numbers.now names.now items) list.now)) out.old at out.new result }
 {
     let mut next = at;
-    let mut k = 0;
-    while k < list.len() {
+    for (k, x) in list.iter().enumerate() {
         let begun = lay_gap(k, out, next);
-        next = lay_item(numbers, names, by_id, list[k], out, begun);
-        k += 1;
+        next = lay_item(numbers, names, items, *x, out, begun);
     }
     next
 }
@@ -54,19 +59,19 @@ pub fn lay_list(
     numbers: &[u64],
     names: &[u8],
     word: &[u8],
-    by_id: bool,
+    items: Items,
     list: &[u64],
     out: &mut [u8],
     at: usize,
 ) -> usize
-    requires { ListReady numbers.now names.now by_id list.now }
-    ensures { Laid (given word.now (spaced (map (item numbers.now names.now by_id) list.now))) out.old at out.new result }
+    requires { ListReady numbers.now names.now items list.now }
+    ensures { Laid (given word.now (spaced (map (item numbers.now names.now items) list.now))) out.old at out.new result }
 {
-    if list.len() == 0 {
+    if list.is_empty() {
         return at;
     }
     let begun = lay_part(word, out, at);
     let opened = lay_byte(b'"', out, begun);
-    let listed = lay_items(numbers, names, by_id, list, out, opened);
+    let listed = lay_items(numbers, names, items, list, out, opened);
     lay_byte(b'"', out, listed)
 }

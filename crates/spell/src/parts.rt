@@ -29,10 +29,8 @@ pub fn lay_part(part: &[u8], out: &mut [u8], at: usize) -> usize
     ensures { Laid part.now out.old at out.new result }
 {
     let mut next = at;
-    let mut i = 0;
-    while i < part.len() {
-        next = lay_byte(part[i], out, next);
-        i += 1;
+    for b in part {
+        next = lay_byte(*b, out, next);
     }
     next
 }
@@ -49,14 +47,12 @@ pub fn lay_number(n: u64, out: &mut [u8], at: usize) -> usize
 {
     let mut spelt = [0u8; 10];
     let mut m = n;
-    let mut i = MOST_DIGITS;
-    while 0 < i {
-        i -= 1;
+    for i in (0..MOST_DIGITS).rev() {
         spelt[i] = digit(m);
         if m <= 9 {
             return lay_part(&spelt[i..], out, at);
         }
-        m = m / 10;
+        m /= 10;
     }
     lay_part(&spelt, out, at)
 }

@@ -1,5 +1,4 @@
 pub mod State
-pub mod Modes
 pub mod Words
 pub mod Found
 pub mod Numbers

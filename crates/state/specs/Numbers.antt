@@ -1,5 +1,5 @@
 -- The numbers of a session: what is read of them where they are made of their parts, and what is left in them where a part is written.
-use Rattle.std.specs.Prelude.{◌≡◌, refl, ℕ, ◌+◌, length, take, drop, set}
+use Rattle.std.specs.Prelude.{◌≡◌, refl, ℕ, ◌+◌, length, take, drop}
 use Rattle.std.proofs.Common.{sym, ◌∙◌, length-take, length-drop, take-append-drop, drop_at, drop-drop, get_or-take, get_or-drop, length-take-le}
 use Rattle.std.proofs.Math.Path.{ap}
 use mathlib.Core.List.{List, [], ◌∷◌, ◌++◌, append_assoc, append-nil}
@@ -82,13 +82,6 @@ numbers_parts numbers l =
     sym (take-append-drop 4 numbers) ∙ ap (λ (xs : List ℕ). take 4 numbers ++ xs) (sym (take-append-drop 1024 (drop 4 numbers)) ∙ ap (λ (xs : List ℕ). history_in numbers ++ xs) tail)
 
 -- ---- written
-
-pub put_three : (old : List ℕ) (a b c : ℕ) → length old ≡ 3 → set (set (set old 0 a) 1 b) 2 c ≡ a ∷ b ∷ c ∷ []
-put_three [] a b c l = absurd (omega arith)
-put_three (x ∷ []) a b c l = absurd (omega arith)
-put_three (x ∷ y ∷ []) a b c l = absurd (omega arith)
-put_three (x ∷ y ∷ z ∷ []) a b c l = refl
-put_three (x ∷ y ∷ z ∷ w ∷ old) a b c l = absurd (omega arith)
 
 -- the configuration first, then the three numbers behind the history
 module _ (numbers conf : List ℕ) (internal external mode : ℕ) (size : length numbers ≡ 1031) (four : length conf ≡ 4) where

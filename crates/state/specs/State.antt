@@ -1,7 +1,6 @@
 -- How a state of the plain follower is spelled in words and bytes: a set of rows as four words, a queue as 32 slots of 64 bytes, the mode as its number.
-use Rattle.std.specs.Prelude.{◌≡◌, List, [], ◌∷◌, ◌++◌, map, ℕ, zero, suc, length, get_or, take, drop, replicate}
+use Rattle.std.specs.Prelude.{◌≡◌, List, [], ◌∷◌, ◌++◌, map, ℕ, length, get_or, take, drop, replicate}
 use Rattle.definition.specs.declared.Mode.{Mode}
-use Rattle.definition.specs.declared.Mode.TheVariants.{Running, Closing, Ended}
 use Rattle.definition.specs.Rows.{from, flat}
 use Rattle.follower.specs.Blocks.{Effect, trace_no}
 use Rattle.definition.specs.Chart.{Chart}
@@ -9,6 +8,7 @@ use Rattle.definition.specs.Tables.{row_count, chart_of}
 use Rattle.follower.specs.Follower.{Follower}
 use Rattle.follower.specs.Legal.{WellFormed}
 use Rattle.definition.specs.Compiled.{words}
+unfoldable pub use Rattle.definition.specs.Answers.{mode_from}
 use Rattle.definition.specs.Answers.{mode_no}
 use Rattle.rowset.specs.declared.RowSet.{RowSet}
 use Rattle.rowset.specs.Member.{rows_of}
@@ -24,11 +24,6 @@ history_words sets = take 1024 (flat words sets ++ replicate 1024 0)
 -- the rows of the set of four words from place w on
 unfoldable pub rows_at : List ℕ → ℕ → List ℕ
 rows_at words w = rows_of (row_set_at words w)
-
-unfoldable pub mode_from : ℕ → Mode
-mode_from zero = Ended
-mode_from (suc zero) = Running
-mode_from (suc (suc n)) = Closing
 
 -- ---- the numbers of a session
 

@@ -5,7 +5,7 @@ ghost use Rattle.std.specs.Prelude.{◌≡◌, [], ◌∷◌, length};
 ghost use Rattle.definition.specs.Compiled.{words};
 ghost use Rattle.definition.specs.Answers.{mode_no};
 ghost use Rattle.rowset.specs.Member.{rows_of};
-ghost use Rattle.state.specs.State.{mode_from, history_in, state_in, numbers_of};
+ghost use Rattle.state.specs.State.{history_in, state_in, numbers_of};
 
 use definition::Mode;
 use rowset::RowSet;
@@ -17,35 +17,6 @@ pub struct State {
     pub internal: u64,
     pub external: u64,
     pub mode: Mode,
-}
-
-// The numbers of the modes.
-pub const ENDED: u64 = 0;
-
-pub const RUNNING: u64 = 1;
-
-pub const CLOSING: u64 = 2;
-
-pub fn mode_from(n: u64) -> Mode
-    ensures { result ≡ mode_from n }
-{
-    if n == ENDED {
-        return Mode::Ended;
-    }
-    if n == RUNNING {
-        return Mode::Running;
-    }
-    Mode::Closing
-}
-
-pub fn mode_number(mode: Mode) -> u64
-    ensures { result ≡ mode_no mode }
-{
-    match mode {
-        Mode::Running => RUNNING,
-        Mode::Closing => CLOSING,
-        Mode::Ended => ENDED,
-    }
 }
 
 // A configuration as a session holds it.
@@ -76,17 +47,8 @@ pub fn state_in(numbers: &[u64]) -> State
         configuration: chart::set_at(numbers, 0),
         internal: numbers[INTERNAL],
         external: numbers[EXTERNAL],
-        mode: mode_from(numbers[MODE]),
+        mode: Mode::from(numbers[MODE]),
     }
-}
-
-fn put_counts(place: &mut [u64], internal: u64, external: u64, mode: u64)
-    requires { length place.old ≡ 3 }
-    ensures { place.new ≡ internal ∷ external ∷ mode ∷ [] }
-{
-    place[0] = internal;
-    place[1] = external;
-    place[2] = mode;
 }
 
 // The state into the numbers, whose stored history stays.
@@ -94,15 +56,7 @@ pub fn put_state(numbers: &mut [u64], state: State)
     requires { length numbers.old ≡ 1031 }
     ensures { numbers.new ≡ numbers_of (words (rows_of state.configuration)) (history_in numbers.old) state.internal state.external (mode_no state.mode) }
 {
-    let set = state.configuration;
-    let internal = state.internal;
-    let external = state.external;
-    let mode = state.mode;
-    tables::put_set(numbers, 0, set);
-    put_counts(
-        &mut numbers[INTERNAL..NUMBERS],
-        internal,
-        external,
-        mode_number(mode),
-    );
+    tables::put_set(numbers, 0, state.configuration);
+    let counts = [state.internal, state.external, u64::from(state.mode)];
+    numbers[INTERNAL..NUMBERS].copy_from_slice(&counts);
 }

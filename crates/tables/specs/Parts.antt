@@ -10,8 +10,8 @@ use Rattle.definition.specs.Rows.{from, all, insert, with}
 use Rattle.laws.specs.Maps.{map_length, each_map}
 use Rattle.definition.specs.Tables.{most_actions, slot_size, no_number, row_count, name_count, reference_base, descriptor_base, action_base, reference_cell, descriptor_cell, transition_cell, part, references_at, descriptors_at, block_at, id_at, condition_at, slot_at, action_cell, action_at, action_of}
 use Rattle.definition.specs.Rules.{optional_below, reference_in_range, descriptor_in_range}
-use Rattle.tables.specs.declared.Condition.{Condition}
-use Rattle.tables.specs.declared.Condition.TheVariants.{Always, In}
+use Rattle.std.specs.declared.option.Option as program
+use Rattle.std.specs.declared.option.Option.TheVariants.{None, Some}
 use Rattle.tables.specs.Ranges.{RowIn, RowsIn, NamesIn, TransitionIn, ActionIn, SlotIn, ReferencesIn, DescriptorsIn, BlockIn, layout, condition_below}
 use Rattle.tables.specs.Actions.{IsAction, fits_number, number_fits}
 
@@ -55,11 +55,11 @@ pub record BlockOf (numbers : List ℕ) (actions : List Action) (b : List ℕ) :
   pub short : length actions ≤ most_actions
   pub fits : all (fits_number numbers) actions ≡ true
 
-abbrev pub condition_of : Condition → Option ℕ
-condition_of Always = none
-condition_of (In r) = some r.0
+abbrev pub condition_of : program.Option Row → Option ℕ
+condition_of None = none
+condition_of (Some r) = some r.0
 
-pub record ConditionIn (numbers : List ℕ) (t : ℕ) (c : Condition) : Type 0 where
+pub record ConditionIn (numbers : List ℕ) (t : ℕ) (c : program.Option Row) : Type 0 where
   pub is : condition_of c ≡ condition_at numbers t
   pub row : (i : ℕ) → condition_of c ≡ some i → RowIn numbers i
 
@@ -104,12 +104,12 @@ pub listed_as : (Within : List ℕ → Type 0) (f : ℕ → ℕ → List ℕ) (m
     Listed Within most (f s' c') l
 listed_as Within f most s c s' c' l e q m h = let z = h.short in record { is = h.is ∙ rw (e, q); within = h.within; short = omega arith }
 
-pub condition_always : (numbers : List ℕ) (t : ℕ) → transition_cell numbers t 3 ≡ no_number → ConditionIn numbers t Always
+pub condition_always : (numbers : List ℕ) (t : ℕ) → transition_cell numbers t 3 ≡ no_number → ConditionIn numbers t None
 unfolding condition_at
 condition_always numbers t e =
     record { is = rw e; row = λ i q. let z : ◌≡◌ {A = ℕ} 0 1 = cc in absurd (omega arith) }
 
-pub condition_in_lem : (numbers : List ℕ) (t : ℕ) (r : Row) → TransitionIn numbers t → r.0 ≡ transition_cell numbers t 3 → (r.0 ≡ no_number → ⊥) → ConditionIn numbers t (In r)
+pub condition_in_lem : (numbers : List ℕ) (t : ℕ) (r : Row) → TransitionIn numbers t → r.0 ≡ transition_cell numbers t 3 → (r.0 ≡ no_number → ⊥) → ConditionIn numbers t (Some r)
 unfolding condition_at
 condition_in_lem numbers t r h e d =
     let l : r.0 < row_count numbers = condition_below numbers t r.0 h e d in

@@ -1,7 +1,7 @@
 // Blocks: parts of the table of actions, four cells an action.
-ghost use Rattle.std.specs.Prelude.{◌≡◌, true, length, get_or};
-ghost use Rattle.definition.specs.Tables.{action_cell, action_at, block_at, entry_at, exit_at, list_block_at, transition_block_at};
-ghost use Rattle.tables.specs.Ranges.{CellOfAction, RowIn, TransitionIn, ActionIn, BlockIn};
+ghost use Rattle.std.specs.Prelude.{◌≡◌, ◌+◌, true, length, get_or};
+ghost use Rattle.definition.specs.Tables.{row_cell, action_cell, action_at, block_at, entry_at, exit_at, list_block_at, transition_block_at};
+ghost use Rattle.tables.specs.Ranges.{CellOfRow, CellOfAction, RowIn, TransitionIn, ActionIn, BlockIn};
 ghost use Rattle.tables.specs.Actions.{IsAction, fits_number};
 ghost use Rattle.tables.specs.Parts.{actions_of, ActionInBlock, BlockOf};
 
@@ -33,32 +33,38 @@ fn actions_part(numbers: &[u64], start: u64, count: u64) -> &[u64]
     &numbers[from..to]
 }
 
+// The block of a row whose start and count stand from a column on.
+fn row_block(numbers: &[u64], r: Row, column: usize) -> &[u64]
+    requires start { CellOfRow numbers.now r.0 column }
+    requires count { CellOfRow numbers.now r.0 (column + 1) }
+    requires block { BlockIn numbers.now (row_cell numbers.now r.0 column) (row_cell numbers.now r.0 (column + 1)) }
+    ensures { BlockOf numbers.now (block_at numbers.now (row_cell numbers.now r.0 column) (row_cell numbers.now r.0 (column + 1))) result.now }
+{
+    let start = row_cell(numbers, r, column);
+    let count = row_cell(numbers, r, column + 1);
+    actions_part(numbers, start, count)
+}
+
 // The blocks of a row: on entry, on exit, and that of its list.
 pub fn entry_block_of(numbers: &[u64], r: Row) -> &[u64]
     requires { RowIn numbers.now r.0 }
     ensures { BlockOf numbers.now (entry_at numbers.now r.0) result.now }
 {
-    let start = row_cell(numbers, r, columns::ENTRY);
-    let count = row_cell(numbers, r, columns::ENTRY + 1);
-    actions_part(numbers, start, count)
+    row_block(numbers, r, columns::ENTRY)
 }
 
 pub fn exit_block_of(numbers: &[u64], r: Row) -> &[u64]
     requires { RowIn numbers.now r.0 }
     ensures { BlockOf numbers.now (exit_at numbers.now r.0) result.now }
 {
-    let start = row_cell(numbers, r, columns::EXIT);
-    let count = row_cell(numbers, r, columns::EXIT + 1);
-    actions_part(numbers, start, count)
+    row_block(numbers, r, columns::EXIT)
 }
 
 pub fn list_block_of(numbers: &[u64], r: Row) -> &[u64]
     requires { RowIn numbers.now r.0 }
     ensures { BlockOf numbers.now (list_block_at numbers.now r.0) result.now }
 {
-    let start = row_cell(numbers, r, columns::LIST_BLOCK);
-    let count = row_cell(numbers, r, columns::LIST_BLOCK + 1);
-    actions_part(numbers, start, count)
+    row_block(numbers, r, columns::LIST_BLOCK)
 }
 
 pub fn transition_block_of(numbers: &[u64], t: Transition) -> &[u64]

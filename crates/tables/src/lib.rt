@@ -10,7 +10,6 @@ pub use header::{
     row_count, tables_size, transition_count,
 };
 pub use kinds::{is_final, is_history, is_parallel, is_root, is_shallow, is_state, may_stand};
-use numbers::Row;
 pub use rows::{
     id_of, kind_of, list_of, parent_of, parent_row, reference_cell, row_at, row_cell, with_rows,
 };
@@ -27,10 +26,3 @@ pub mod limits;
 pub mod rows;
 pub mod sets;
 pub mod transitions;
-
-// The condition of a transition.
-#[derive(Clone, Copy)]
-pub enum Condition {
-    Always,
-    In(Row),
-}

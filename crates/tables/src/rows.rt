@@ -9,7 +9,6 @@ ghost use Rattle.tables.specs.Parts.{Listed, RowOf, IdOf};
 use crate::columns;
 use crate::header::reference_base;
 use definition::Kind;
-use kinds::kind_from;
 use numbers::{NameNumber, Row};
 use rowset::RowSet;
 
@@ -33,7 +32,7 @@ pub fn kind_of(numbers: &[u64], r: Row) -> Kind
     requires { RowIn numbers.now r.0 }
     ensures { result ≡ kind_at numbers.now r.0 }
 {
-    kind_from(row_cell(numbers, r, columns::KIND))
+    Kind::from(row_cell(numbers, r, columns::KIND))
 }
 
 // The number in the parent's column: a climb goes on while it is smaller than the row's own.
@@ -94,10 +93,8 @@ pub fn with_rows(numbers: &[u64], set: RowSet, list: &[u64]) -> RowSet
     ensures { rows_of result ≡ union (rows_of set) list.now }
 {
     let mut all = set;
-    let mut k = 0;
-    while k < list.len() {
+    for k in 0..list.len() {
         all = all.with(row_at(numbers, list, k));
-        k += 1;
     }
     all
 }

@@ -6,7 +6,7 @@ ghost use Rattle.tables.specs.Parts.{Listed, RowOf, NameOf, ConditionIn, SlotOf}
 
 use crate::header::{descriptor_base, transition_base};
 use crate::rows::references_part;
-use crate::{Condition, columns, limits};
+use crate::{columns, limits};
 use numbers::{NameNumber, Row, Transition};
 
 pub fn transition_cell(numbers: &[u64], t: Transition, column: usize) -> u64
@@ -73,15 +73,15 @@ pub fn is_internal(numbers: &[u64], t: Transition) -> bool
     transition_cell(numbers, t, columns::INTERNAL) == 1
 }
 
-pub fn condition_of(numbers: &[u64], t: Transition) -> Condition
+pub fn condition_of(numbers: &[u64], t: Transition) -> Option<Row>
     requires { TransitionIn numbers.now t.0 }
     ensures { ConditionIn numbers.now t.0 result }
 {
     let x = transition_cell(numbers, t, columns::CONDITION);
     if x == limits::NO_NUMBER {
-        return Condition::Always;
+        return None;
     }
-    Condition::In(Row(x as u8))
+    Some(Row(x as u8))
 }
 
 // The slot of a name.

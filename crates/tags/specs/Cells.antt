@@ -1,5 +1,6 @@
 -- Where the values of a tag's attributes stand: 22 cells, two for each attribute by its word.
-use Rattle.std.specs.Prelude.{◌≡◌, Bool, not, ◌&&◌, ◌||◌, cond, List, [], ◌∷◌, ◌++◌, ℕ, ◌+◌, ◌*◌, ◌-◌, ◌^◌, ◌≤◌, ◌<◌, length, get_or, set, take, drop}
+use Rattle.std.specs.Prelude.{◌≡◌, Bool, not, ◌&&◌, ◌||◌, cond, List, [], ◌∷◌, ◌++◌, ℕ, ◌+◌, ◌*◌, ◌-◌, ◌^◌, ◌≤◌, ◌<◌, length, get_or, set, take, drop, replicate}
+use Rattle.std.proofs.lemmas.List.{get_or-replicate, length-replicate}
 use Rattle.std.proofs.Math.Path.{refl, sym}
 use Rattle.std.proofs.Common.{ap, subst, ◌∙◌, arith, length-set, get_or-set_same, get_or-set_other}
 use Rattle.std.proofs.Math.Bool.{true, false}
@@ -71,26 +72,12 @@ is_value_mark (Tagged a s e) = false
 
 -- ---- the code's places
 
-pub record Clearing (cells : List ℕ) (i : ℕ) : Type 0 where
-  pub room : length cells ≡ 22
-  pub below : i ≤ 22
-  pub none : (c : ℕ) → c < i → get_or cells c 0 ≡ 0
-
-pub clear_start : (cells : List ℕ) → length cells ≡ 22 → Clearing cells 0
-clear_start cells e = record { room = e; below = omega arith; none = λ c h. absurd (omega arith) }
-
-pub clear_more : (cells : List ℕ) (i : ℕ) → Clearing cells i → i < 22 → Clearing (set cells i 0) (i + 1)
-clear_more cells i k h = record { room = length-set cells i 0 ∙ k.room; below = omega arith; none = λ c l. by c l (eqb c i) refl }
-  where
-    by : (c : ℕ) → c < i + 1 → (z : Bool) → eqb c i ≡ z → get_or (set cells i 0) c 0 ≡ 0
-    by c l true e = let r = k.room in ap (λ (j : ℕ). get_or (set cells i 0) j 0) (eqb-true c i e) ∙ get_or-set_same cells i 0 0 (omega arith)
-    by c l false e = get_or-set_other cells i c 0 0 (eqb-false c i e) ∙ k.none c (below (eqb-false c i e))
-      where
-        below : (c ≡ i → ⊥) → c < i
-        below f = omega arith
-
-pub clear_end : (cells : List ℕ) (i : ℕ) → Clearing cells i → 22 ≤ i → Cleared cells
-clear_end cells i k h = record { room = k.room; none = λ c l. k.none c (omega arith) }
+pub clear_done : (cells cells' : List ℕ) → length cells ≡ 22 → cells' ≡ replicate (length cells) 0 → Cleared cells'
+clear_done cells cells' e q =
+    record {
+      room = ap length q ∙ length-replicate (length cells) 0 ∙ e;
+      none = λ c l. ap (λ (xs : List ℕ). get_or xs c 0) q ∙ get_or-replicate (length cells) c 0 0 (omega arith);
+    }
 
 pub to_fits : (cells : List ℕ) (w a l : ℕ) → EndIn cells w → a ≡ get_or cells (from_cell w) 0 → l ≡ get_or cells (long_cell w) 0 → a + (l - 1) < 2 ^ 64
 to_fits cells w a l h p q = let e = h.end in omega arith
@@ -137,11 +124,13 @@ module _ (m : Mark) where
   pub mark_cells : (cells cells' : List ℕ) (e w a b : ℕ) → m ≡ Valued e w a b → cells' ≡ with_value cells w a b → cells' ≡ with_mark cells m
   mark_cells cells cells' e w a b x q = q ∙ sym (ap (with_mark cells) x)
 
-  pub mark_none : (cells : List ℕ) → m ≡ Nothing → cells ≡ with_mark cells m
-  mark_none cells x = sym (ap (with_mark cells) x)
-
-  pub mark_tag : (cells : List ℕ) (a s e : ℕ) → m ≡ Tagged a s e → cells ≡ with_mark cells m
-  mark_tag cells a s e x = sym (ap (with_mark cells) x)
+  pub mark_other : (cells : List ℕ) → ((e w a b : ℕ) → m ≡ Valued e w a b → ⊥) → cells ≡ with_mark cells m
+  mark_other cells x = by m refl
+    where
+      by : (k : Mark) → m ≡ k → cells ≡ with_mark cells m
+      by Nothing e = sym (ap (with_mark cells) e)
+      by (Valued e w a b) g = absurd (x e w a b g)
+      by (Tagged a s e) g = sym (ap (with_mark cells) g)
 
   pub mark_in : (cells : List ℕ) (e w a b : ℕ) → ValueIn cells (value_from m) (value_to m) → m ≡ Valued e w a b → ValueIn cells a b
   mark_in cells e w a b h x = subst (λ (k : Mark). ValueIn cells (value_from k) (value_to k)) x h

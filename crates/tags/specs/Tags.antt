@@ -4,7 +4,6 @@ use Rattle.std.proofs.Common.{◌∙◌, arith}
 use Rattle.std.specs.Prelude.{Bool, not, List, [], ◌∷◌, ◌++◌, ℕ, ◌-◌, ◌≤◌, ◌<◌}
 use Rattle.std.proofs.Math.Bool.{true, false}
 use Rattle.std.proofs.Math.ListN.{length}
-use borrow.Author.Tests.{not-true, not-false}
 use Rattle.marks.specs.declared.Mark.{Mark}
 use Rattle.marks.specs.declared.Mark.TheVariants.{Nothing, Valued, Tagged}
 use Rattle.marks.specs.declared.Walk.{Walk}
@@ -51,13 +50,13 @@ module _ (text levels₀ : List ℕ) (w₀ : Walk) (levels cells : List ℕ) (w 
   left_with : (m : Mark) → r.mark ≡ m → tags_left text levels₀ w₀ ≡ grouped text k.parts (marked m (rest_of text levels' r))
   left_with m g = k.left ∙ ap (grouped text k.parts) (next.rest ∙ ap (λ (x : Mark). marked x (rest_of text levels' r)) g)
 
-  pub walk_end : (value : Bool) → value ≡ is_value_mark r.mark → not value ≡ true → NextTag text levels₀ levels' cells w₀ r
+  pub walk_end : (value : Bool) → value ≡ is_value_mark r.mark → value ≡ false → NextTag text levels₀ levels' cells w₀ r
   unfolding grouped
   walk_end value e q =
       record {
         standing = next.standing;
         further = λ f. let m = next.further f in let p = k.past in omega arith;
-        no_value = sym e ∙ not-true value q;
+        no_value = sym e ∙ q;
         parts = k.parts;
         stated = k.stated;
         left = by r.mark refl;
@@ -66,20 +65,20 @@ module _ (text levels₀ : List ℕ) (w₀ : Walk) (levels cells : List ℕ) (w 
       by : (m : Mark) → r.mark ≡ m → tags_left text levels₀ w₀ ≡ tagged r.mark k.parts (tags_left text levels' r)
       by Nothing g = k.left ∙ ap (grouped text k.parts) (next.none (ap is_mark g)) ∙ sym (ap (λ (x : Mark). tagged x k.parts (tags_left text levels' r)) g)
       by (Valued d v a b) g =
-          absurd (let t : is_value_mark r.mark ≡ false = sym e ∙ not-true value q in let z : true ≡ false = sym (ap is_value_mark g) ∙ t in let z2 : ◌≡◌ {A = ℕ} 0 1 = cc in omega arith)
+          absurd (let t : is_value_mark r.mark ≡ false = sym e ∙ q in let z : true ≡ false = sym (ap is_value_mark g) ∙ t in let z2 : ◌≡◌ {A = ℕ} 0 1 = cc in omega arith)
       by (Tagged a s d) g = left_with (Tagged a s d) g ∙ sym (ap (λ (x : Mark). tagged x k.parts (tags_left text levels' r)) g)
 
   pub walk_in : ValueIn cells (value_from r.mark) (value_to r.mark)
   walk_in = let q = next.quote in let s = k.standing.short in record { room = k.stated.room; first = next.first; quote = omega arith }
 
-  module _ (value : Bool) (e : value ≡ is_value_mark r.mark) (q : not value ≡ false) where
+  module _ (value : Bool) (e : value ≡ is_value_mark r.mark) (q : value ≡ true) where
     is_mark_lem : (m : Mark) → is_value_mark m ≡ true → is_mark m ≡ true
     is_mark_lem Nothing t = t
     is_mark_lem (Valued d v a b) t = refl
     is_mark_lem (Tagged a s d) t = refl
 
     more : w.index < r.index
-    more = next.further (is_mark_lem r.mark (sym e ∙ not-false value q))
+    more = next.further (is_mark_lem r.mark (sym e ∙ q))
 
     pub walk_less : length text - r.index < length text - w.index
     walk_less = let m = more in let i = next.standing.within in omega arith
@@ -89,8 +88,8 @@ module _ (text levels₀ : List ℕ) (w₀ : Walk) (levels cells : List ℕ) (w 
     walk_more cells' c = by r.mark refl
       where
         by : (m : Mark) → r.mark ≡ m → Walking text levels₀ w₀ levels' cells' r
-        by Nothing g = absurd (let z : true ≡ false = sym (sym e ∙ not-false value q) ∙ ap is_value_mark g in let z2 : ◌≡◌ {A = ℕ} 0 1 = cc in omega arith)
-        by (Tagged a s d) g = absurd (let z : true ≡ false = sym (sym e ∙ not-false value q) ∙ ap is_value_mark g in let z2 : ◌≡◌ {A = ℕ} 0 1 = cc in omega arith)
+        by Nothing g = absurd (let z : true ≡ false = sym (sym e ∙ q) ∙ ap is_value_mark g in let z2 : ◌≡◌ {A = ℕ} 0 1 = cc in omega arith)
+        by (Tagged a s d) g = absurd (let z : true ≡ false = sym (sym e ∙ q) ∙ ap is_value_mark g in let z2 : ◌≡◌ {A = ℕ} 0 1 = cc in omega arith)
         by (Valued d v a b) g =
             let m = more in let p = k.past in
             let first : a ≤ b = subst (λ (x : Mark). value_from x ≤ value_to x) g next.first in

@@ -12,32 +12,8 @@ use marks::{Mark, Walk, next_mark};
 // The values of a tag are noted in 22 cells, two for each attribute by its word, xmlns 24 to sendid 34: where the value begins, and one more than its
 // length. Both are 0 of an attribute that the tag does not state.
 
-// No attribute is stated.
-fn clear(cells: &mut [u16])
-    requires { length cells.old ≡ 22 }
-    ensures { Cleared cells.new }
-{
-    let mut i = 0;
-    while i < 22 {
-        cells[i] = 0;
-        i += 1;
-    }
-}
-
-fn wide(x: u16) -> usize
-    ensures { result ≡ x }
-{
-    x as usize
-}
-
-fn narrow(x: usize) -> u16
-    requires { x < 65536 }
-    ensures { result ≡ x }
-{
-    x as u16
-}
-
 // The word of an attribute, as a number.
+// Kept: words of attributes are the numbers of the definition (Rattle.grammar.specs.Tables), here and where the walks hand them on.
 fn is_word(word: u8) -> bool
     ensures { result ≡ is_word word }
 {
@@ -50,7 +26,7 @@ pub fn is_stated(cells: &[u16], word: usize) -> bool
     ensures { result ≡ stated_in cells.now word }
 {
     let i = (word - 24) * 2 + 1;
-    !(cells[i] == 0)
+    cells[i] != 0
 }
 
 // Where its value begins.
@@ -59,7 +35,7 @@ pub fn value_from(cells: &[u16], word: usize) -> usize
     ensures { result ≡ from_in cells.now word }
 {
     let i = (word - 24) * 2;
-    wide(cells[i])
+    usize::from(cells[i])
 }
 
 // Where its quote stands; where it begins, if the attribute is absent.
@@ -68,11 +44,8 @@ pub fn value_to(cells: &[u16], word: usize) -> usize
     ensures { result ≡ to_in cells.now word }
 {
     let i = (word - 24) * 2;
-    let long = wide(cells[i + 1]);
-    if long < 1 {
-        return wide(cells[i]);
-    }
-    wide(cells[i]) + (long - 1)
+    let long = usize::from(cells[i + 1]);
+    usize::from(cells[i]) + long.saturating_sub(1)
 }
 
 // The first value of an attribute counts.
@@ -80,12 +53,11 @@ fn note_value(cells: &mut [u16], word: u8, from: usize, to: usize)
     requires { ValueIn cells.old from to }
     ensures { cells.new ≡ with_value cells.old word from to }
 {
-    let known = is_word(word);
-    if known {
-        let i = (word as usize - 24) * 2;
+    if is_word(word) {
+        let i = (usize::from(word) - 24) * 2;
         if cells[i + 1] == 0 {
-            cells[i] = narrow(from);
-            cells[i + 1] = narrow(to - from + 1);
+            cells[i] = from as u16;
+            cells[i + 1] = (to - from + 1) as u16;
         }
     }
 }
@@ -93,11 +65,7 @@ fn note_value(cells: &mut [u16], word: u8, from: usize, to: usize)
 fn is_value_mark(m: Mark) -> bool
     ensures { result ≡ is_value_mark m }
 {
-    match m {
-        Mark::Nothing => false,
-        Mark::Valued(e, w, a, b) => true,
-        Mark::Tagged(a, s, e) => false,
-    }
+    matches!(m, Mark::Valued(_, _, _, _))
 }
 
 fn note_mark(cells: &mut [u16], m: Mark)
@@ -105,9 +73,8 @@ fn note_mark(cells: &mut [u16], m: Mark)
     ensures { cells.new ≡ with_mark cells.old m }
 {
     match m {
-        Mark::Nothing => {}
-        Mark::Valued(e, w, a, b) => note_value(cells, w, a, b),
-        Mark::Tagged(a, s, e) => {}
+        Mark::Valued(_, word, from, to) => note_value(cells, word, from, to),
+        _ => {}
     }
 }
 
@@ -119,8 +86,7 @@ fn walk_to_tag(text: &[u8], levels: &mut [u8], cells: &mut [u16], walk: Walk) ->
     loop {
         let next = next_mark(text, levels, w);
         let m = next.mark;
-        let value = is_value_mark(m);
-        if !value {
+        if !is_value_mark(m) {
             return next;
         }
         note_mark(cells, m);
@@ -133,6 +99,6 @@ pub fn next_tag(text: &[u8], levels: &mut [u8], cells: &mut [u16], walk: Walk) -
     requires { (length cells.old ≡ 22) × Standing text.now levels.old walk }
     ensures { NextTag text.now levels.old levels.new cells.new walk result }
 {
-    clear(cells);
+    cells.fill(0);
     walk_to_tag(text, levels, cells, walk)
 }

@@ -1,26 +1,24 @@
 -- What rules 4 and 5 give of an accepted chart: default entry, what stands in for a target.
-use Rattle.std.specs.Prelude.{◌≡◌, refl, Bool, ◌&&◌, ℕ, zero, suc, ◌+◌, ◌<◌, ◌≤◌, leb, ltb, length, get_or, take, drop}
-use Rattle.std.proofs.Common.{ap, ◌∙◌, arith, get_or-drop}
+use Rattle.std.specs.Prelude.{◌≡◌, refl, Bool, ◌&&◌, ℕ, zero, suc, ◌<◌}
+use Rattle.std.proofs.Common.{◌∙◌}
 use Rattle.std.proofs.Math.Path.{sym}
 use Rattle.std.proofs.Math.Bool.{true, false, not, cond}
 use mathlib.Core.List.{List, [], ◌∷◌}
-use borrow.Author.Tests.{lt-ltb, le-ltb, leb-true, ltb-true, ltb-false, not-true}
+use borrow.Author.Tests.{not-true}
 use Rattle.definition.specs.declared.Kind.{Kind}
 use Rattle.definition.specs.declared.Kind.TheVariants.{Root, State, Parallel, Final, Shallow, Deep}
-use Rattle.definition.specs.declared.Answer.TheVariants.{Done}
 use Rattle.definition.specs.Rows.{those, mem, is_in, all, is_empty, intersection}
 use Rattle.definition.specs.Chart.{Chart, kind, parent, is_root, is_state, is_shallow, is_history}
-use Rattle.definition.specs.Tables.{most_rows, most_transitions, most_names, most_targets, row_count, transition_count, reference_count, name_count, row_cell, transition_cell, reference_cell, reference_base, part, references_at, kind_at, parent_at, list_at, source_at, targets_at, chart_of}
 use Rattle.definition.specs.Tree.{ancestors, is_descendant, is_child, descendants, children, is_compound, is_atomic, is_domain_kind, listed, anchor}
-use Rattle.definition.specs.Rules.{inside, each, counts_fit, sizes_fit, row_in_range, transition_in_range, reference_in_range, compiled_size, rule1, rule2, rule3, rule4, rule5, first_broken, verdict, keeps_rules, needs_child, are_apart, initial_fits, default_fits, list_fits, blocks_fit, row_lists_fit, is_no_root, targets_fit, is_in_order, is_source_kind, has_use, condition_fits, spins, transition_fits, is_under, row_branches_fit, transition_branches_fit}
+use Rattle.definition.specs.Rules.{each, rule4, rule5, needs_child, are_apart, initial_fits, default_fits, list_fits, blocks_fit, row_lists_fit, is_no_root, targets_fit, is_in_order, is_source_kind, has_use, condition_fits, spins, transition_fits, is_under, row_branches_fit, transition_branches_fit}
 use Rattle.follower.specs.Selection.{History, atomic_states, or_default, stand_ins}
 use Rattle.follower.specs.Microstep.{would_store}
-use Rattle.laws.specs.Bools.{no, and3, and4, clash, or_elim, bool_case, and_left, and_right, and_true, and7}
-use Rattle.laws.specs.Sets.{mem_head, mem_those, mem_intersection}
+use Rattle.laws.specs.Bools.{no, and3, and4, clash, or_elim, bool_case, and_left, and_right}
+use Rattle.laws.specs.Sets.{mem_head, mem_intersection}
 use Rattle.laws.specs.Loops.{each_below}
 use Rattle.laws.specs.Lists.{mem_cases, all_mem, full_mem, keep_mem}
 use Rattle.laws.specs.Ways.{Way, eq_way, Below, below_way, below_trans, siblings}
-use Rattle.accepted.specs.Tree.{Tree, low, root_kind, way_zero, has_child_lem, under_below, under_plain, below_under, child_facts, mem_children}
+use Rattle.accepted.specs.Tree.{low, root_kind, way_zero, has_child_lem, under_below, under_plain, below_under, child_facts, mem_children}
 use Rattle.accepted.specs.Fork.{anchor_parent, Legal, Forks, part_forks, list_forks, anchor_self}
 use Rattle.theory.specs.Entry.{live_of}
 use Rattle.accepted.specs.Sound.{Sound, mem_descendants}

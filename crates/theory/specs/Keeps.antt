@@ -1,13 +1,12 @@
 -- Start, post, run and every round keep a session's configuration, stored history and mode as they have to be.
 use Rattle.std.specs.Prelude.{◌≡◌, refl, Bool, false, cond, ◌⊎◌, ℕ, zero, suc, eqb, length, get_or}
-use Rattle.std.proofs.Common.{◌∙◌, subst}
+use Rattle.std.proofs.Common.{◌∙◌}
 use Rattle.std.proofs.Math.Bool.{true}
 use mathlib.Core.List.{List, [], map}
-use Rattle.std.proofs.Math.Option.{Option, none, some}
+use Rattle.std.proofs.Math.Option.{Option}
 use Rattle.std.proofs.Math.Logic.{inl, inr, ⊎_elim}
 use Rattle.std.proofs.lemmas.List.{length-map}
 use Rattle.definition.specs.declared.Mode.TheVariants.{Running, Ended}
-use Rattle.definition.specs.declared.Answer.{Answer}
 use Rattle.definition.specs.Rows.{nothing_at, from, those, mem, is_in, is_empty}
 use Rattle.definition.specs.Names.{Name}
 use Rattle.definition.specs.Chart.{Chart, Names, kind, is_history}

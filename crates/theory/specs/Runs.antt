@@ -18,7 +18,6 @@ use Rattle.definition.specs.declared.Status.TheVariants.{More, Idle, Ended as Ha
 use Rattle.definition.specs.Names.{Name}
 use Rattle.definition.specs.Chart.{Chart, Names}
 use Rattle.follower.specs.Blocks.{Effect}
-use Rattle.follower.specs.Clock.{Table}
 use Rattle.follower.specs.Follower.{Follower, most_queued, Round, idle, over, did, taking, selected_by, by_external, by_internal, by_eventless, closing_round, round_in, round, refusal_if, refusal, Timed, timed, table_in, Ran, stopped, counted, rest_status, unless_refused, proceed_by, proceed, run}
 
 -- ---- a round or start that is not refused: the internal queue is not too long, no send found the table full, and the effects fit the room

@@ -12,7 +12,7 @@ use Rattle.definition.specs.Names.{Name}
 use Rattle.definition.specs.Chart.{Chart, Names, kind, parent, is_root, is_final}
 use Rattle.follower.specs.Selection.{History, exit_set, chooser}
 use Rattle.follower.specs.Blocks.{Effect, exited, taken, entered, acted, raised, done, chosen, sent, cancelled, perform, perform_if, performed_from, performed, after}
-use Rattle.follower.specs.Microstep.{active_leaving, active_at, default_block, initial_block, default_effects, staying, exits, exit_effects, exiting, transition_effects, Entry, is_done_above, done_effects, entry_effects, entering, stored_in, effects}
+use Rattle.follower.specs.Microstep.{active_at, default_block, initial_block, default_effects, staying, exits, exit_effects, exiting, transition_effects, Entry, is_done_above, done_effects, entry_effects, entering, stored_in, effects}
 use Rattle.follower.specs.Follower.{Follower, Round, idle, over, did, taking, selected_by, closing_round, round}
 use Rattle.laws.specs.Bools.{no}
 use Rattle.laws.specs.Sets.{NoTwice}

@@ -1,5 +1,5 @@
 -- The theorems in one place: for tables that keep the rules, every call keeps a session and its clock record well formed.
-use Rattle.std.specs.Prelude.{◌≡◌, Bool, not, ◌&&◌, ◌||◌, cond, ◌↔◌, ℕ, zero, suc, ◌-◌, ◌≤◌, take}
+use Rattle.std.specs.Prelude.{◌≡◌, Bool, not, ◌&&◌, ◌||◌, cond, ◌↔◌, ℕ, ◌-◌, ◌≤◌}
 use Rattle.std.proofs.Math.Path.{refl, subst}
 use Rattle.std.proofs.Common.{sym, ◌∙◌, inl, inr, arith}
 use Rattle.std.proofs.Math.Bool.{true, false}
@@ -7,7 +7,7 @@ use mathlib.Core.List.{List, [], ◌∷◌, ◌++◌}
 use Rattle.std.proofs.Math.Option.{Option, none, some}
 use Rattle.std.proofs.Math.Dec.{eqb, leb, ltb}
 use Rattle.std.proofs.Math.ListN.{length, length-append}
-use borrow.Author.Tests.{leb-true, le-leb, ltb-false, le-ltb}
+use borrow.Author.Tests.{leb-true, le-leb, ltb-false}
 use Rattle.definition.specs.declared.Action.{Action}
 use Rattle.definition.specs.declared.Mode.{Mode}
 use Rattle.definition.specs.declared.Mode.TheVariants.{Running, Closing, Ended}
@@ -23,7 +23,7 @@ use Rattle.definition.specs.Answers.{answer_no}
 use Rattle.follower.specs.Blocks.{Effect, performed}
 use Rattle.follower.specs.Microstep.{paths_below, targeted, stored_in, history_after, entry_of, fallen_of}
 use Rattle.follower.specs.Clock.{Timer, new_clock, most_ticks, most_pending, emptied, join_due}
-use Rattle.follower.specs.Follower.{Follower, ended_follower, is_final_under_root, most_queued, Round, idle, over, did, taking, closing_round, round, refusal_if, refusal, selected_by, first_entry, first_fallen, first_follower, first_effects, first_table, Timed, timed, table_in, start_or, start, is_ended, post_answer, with_external, post, clock_answer, with_names, clocked_by, clocked, clock, run}
+use Rattle.follower.specs.Follower.{Follower, ended_follower, is_final_under_root, most_queued, Round, idle, over, did, taking, closing_round, round, refusal, selected_by, first_entry, first_fallen, first_follower, first_effects, first_table, Timed, timed, table_in, start_or, start, is_ended, post_answer, with_external, post, clock_answer, with_names, clocked_by, clocked, clock, run}
 use Rattle.follower.specs.Legal.{is_legal, WellFormed, is_well_formed, timer_fits, WellTimed, clock_fits, is_well_timed}
 use Rattle.follower.specs.Calls.{Call, starts, posts, clocks, runs, Outcome, started_outcome, ran_outcome, follow, follow_all, at_rest}
 use Rattle.laws.specs.Bools.{no, clash, and4, bool_case, and_left, and_right, and_true}

@@ -1,5 +1,5 @@
 -- Pending sends stay well formed (R-9): through the effects of a round, and through a clock call.
-use Rattle.std.specs.Prelude.{◌≡◌, refl, Bool, false, ◌&&◌, ◌||◌, cond, List, [], ◌∷◌, ◌++◌, ℕ, zero, suc, ◌+◌, ◌≤◌, ◌<◌, eqb, leb, ltb, length}
+use Rattle.std.specs.Prelude.{◌≡◌, refl, ◌||◌, List, [], ◌∷◌, ℕ, zero, suc, ◌+◌, ◌≤◌, ◌<◌, leb, ltb, length}
 use Rattle.std.proofs.Math.Bool.{true}
 use Rattle.std.proofs.Common.{arith, length-append, leb-true, leb-false, le-leb, ltb-true}
 use Rattle.definition.specs.Rows.{all, is_empty, same}
@@ -9,7 +9,7 @@ use Rattle.definition.specs.Tables.{most_delay}
 use Rattle.follower.specs.Blocks.{Effect, exited, taken, entered, acted, raised, done, chosen, sent, cancelled}
 use Rattle.follower.specs.Clock.{Timer, most_pending, Table, id_of, send_of, with_send, without, table_step, table_after, next_place, event_at, without_at, Joining, joining, join_due}
 use Rattle.follower.specs.Legal.{timer_fits}
-use Rattle.laws.specs.Bools.{no, and3, bool_case, and_left, and_right, and_true}
+use Rattle.laws.specs.Bools.{and3, bool_case, and_left, and_right, and_true}
 use Rattle.laws.specs.Lists.{all_both}
 use Rattle.theory.specs.Queues.{sends_well}
 

@@ -78,11 +78,13 @@ module _ (text levels cells₀ spots : List ℕ) (t : Turning) (at : TurnAt text
       no_tag (Valued e w a b) q = absurd (let z : ◌≡◌ {A = ℕ} 0 1 = cc in omega arith)
       no_tag (Tagged a s e) q = absurd (let z : ◌≡◌ {A = ℕ} 0 1 = cc in omega arith)
 
-  pub turn_none : (r : Turning) → next.mark ≡ Nothing → r ≡ stayed t next → NextTurn text levels levels' cells spots spots t r
-  turn_none r g q = stays r q (ap is_mark g)
-
-  pub turn_value : (r : Turning) (e w a b : ℕ) → next.mark ≡ Valued e w a b → r ≡ stayed t next → NextTurn text levels levels' cells spots spots t r
-  turn_value r e w a b g q = absurd (let x : true ≡ false = sym (ap is_value_mark g) ∙ tag.no_value in let z : ◌≡◌ {A = ℕ} 0 1 = cc in omega arith)
+  pub turn_other : ((a s e : ℕ) → next.mark ≡ Tagged a s e → ⊥) → (r : Turning) → r ≡ stayed t next → NextTurn text levels levels' cells spots spots t r
+  turn_other x r q = by next.mark refl
+    where
+      by : (m : Mark) → next.mark ≡ m → NextTurn text levels levels' cells spots spots t r
+      by Nothing g = stays r q (ap is_mark g)
+      by (Valued e w a b) g = absurd (let v : true ≡ false = sym (ap is_value_mark g) ∙ tag.no_value in let z : ◌≡◌ {A = ℕ} 0 1 = cc in omega arith)
+      by (Tagged a s e) g = absurd (x a s e g)
 
   module _ (a s e : ℕ) (g : next.mark ≡ Tagged a s e) where
     beyond : t.walk.index < next.index

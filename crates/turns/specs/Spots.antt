@@ -40,20 +40,15 @@ spots_in cells zero = []
 spots_in cells (suc d) = spot_by (get_or cells (d * 2) 0) (get_or cells (d * 2 + 1) 0) ∷ spots_in cells d
 
 abbrev pub rest_depth : ℕ → ℕ
-rest_depth zero = zero
-rest_depth (suc d) = d
+rest_depth d = d - 1
 
 pub rest_spots : (cells : List ℕ) (d : ℕ) → rest (spots_in cells d) ≡ spots_in cells (rest_depth d)
 unfolding spots_in
 rest_spots cells zero = refl
-rest_spots cells (suc d) = refl
-
-pub rest_zero : (d : ℕ) → d ≡ 0 → 0 ≡ rest_depth d
-rest_zero d e = sym (ap rest_depth e)
-
-pub rest_less : (d : ℕ) → (d ≡ 0 → ⊥) → d - 1 ≡ rest_depth d
-rest_less zero f = absurd (f refl)
-rest_less (suc d) f = omega arith
+rest_spots cells (suc d) = ap (spots_in cells) (one d)
+  where
+    one : (d : ℕ) → d ≡ suc d - 1
+    one d = omega arith
 
 pub record TopIs (cells : List ℕ) (d : ℕ) (s : SpotCells) : Type 0 where
   pub is : spot_as s ≡ top (spots_in cells d)

@@ -20,8 +20,7 @@ use Rattle.turns.specs.Spots.{spot_as, spots_in, rest_depth, rest_spots, TopIs, 
 -- ---- the stack behind a start tag
 
 rest_below : (d : ℕ) → rest_depth d ≤ d
-rest_below zero = omega arith
-rest_below (suc d) = omega arith
+rest_below d = omega arith
 
 pub record EnterRoom (spots : List ℕ) (d : ℕ) (t : TurnCells) : Type 0 where
   pub room : d * 2 + 4 ≤ length spots

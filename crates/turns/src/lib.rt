@@ -2,7 +2,7 @@
 #![tactic(auto)]
 
 ghost use Rattle.std.specs.Prelude.{◌≡◌, ◌*◌, ◌≤◌, ◌<◌, length};
-ghost use Rattle.turns.specs.Spots.{TopIs, StoreRoom, stored, rest_depth, TurnRoom, TransitionTurn, block_part, TurnIs};
+ghost use Rattle.turns.specs.Spots.{TopIs, StoreRoom, stored, TurnRoom, TransitionTurn, block_part, TurnIs};
 ghost use Rattle.turns.specs.Turns.{EnterRoom, Entered, TagRoom, TagTurned};
 ghost use Rattle.turns.specs.Next.{TurnAt, stayed, NextTurn};
 
@@ -11,6 +11,7 @@ use tags::{is_stated, next_tag};
 
 // Where a tag stands, as two numbers: 0 under a row; 1 under a history or an initial element that still wants its default transition; 2 and more in a block,
 // which 3 is the entry, 4 the exit block of a row, 5 that of its list, 6 that of a transition. The number is the row's or the transition's.
+// Kept: the spots stand so in the lent place of numbers (StoreRoom), and elements are the numbers of the definition (Rattle.grammar.specs.Tables).
 #[derive(Clone, Copy)]
 pub struct SpotCells {
     pub what: usize,
@@ -26,19 +27,6 @@ pub struct TurnCells {
     pub transitions: usize,
 }
 
-fn wide(x: u16) -> usize
-    ensures { (result ≡ x) × (result < 65536) }
-{
-    x as usize
-}
-
-fn narrow(x: usize) -> u16
-    requires { x < 65536 }
-    ensures { result ≡ x }
-{
-    x as u16
-}
-
 // The innermost of the spots, of which there are depth; outside all of them, under no row.
 pub fn top_spot(spots: &[u16], depth: usize) -> SpotCells
     requires { (depth * 2 ≤ length spots.now) × (length spots.now ≤ 16388) }
@@ -52,8 +40,8 @@ pub fn top_spot(spots: &[u16], depth: usize) -> SpotCells
     }
     let i = (depth - 1) * 2;
     SpotCells {
-        what: wide(spots[i]),
-        number: wide(spots[i + 1]),
+        what: usize::from(spots[i]),
+        number: usize::from(spots[i + 1]),
     }
 }
 
@@ -61,20 +49,8 @@ fn store_spot(spots: &mut [u16], at: usize, s: SpotCells)
     requires { StoreRoom spots.old at s }
     ensures { spots.new ≡ stored spots.old at s }
 {
-    let what = s.what;
-    let number = s.number;
-    spots[at * 2] = narrow(what);
-    spots[at * 2 + 1] = narrow(number);
-}
-
-// How many spots there are around the innermost.
-fn rest_depth(depth: usize) -> usize
-    ensures { result ≡ rest_depth depth }
-{
-    if depth == 0 {
-        return 0;
-    }
-    depth - 1
+    spots[at * 2] = s.what as u16;
+    spots[at * 2 + 1] = s.number as u16;
 }
 
 // A start tag of a transition: the default one of a history or an initial element, or one of the row's own.
@@ -119,16 +95,12 @@ fn transition_turn(
 fn block_part(element: u8) -> usize
     ensures { result ≡ block_part element }
 {
-    if element == 5 {
-        return 1;
+    match element {
+        5 => 1,
+        7 => 3,
+        8 => 4,
+        _ => 0,
     }
-    if element == 7 {
-        return 3;
-    }
-    if element == 8 {
-        return 4;
-    }
-    0
 }
 
 // A start tag of an element in a spot, with so many rows and transitions before it; plain is one without event and cond.
@@ -180,12 +152,10 @@ fn enter(spots: &mut [u16], depth: usize, shape: u8, t: TurnCells) -> usize
     requires { EnterRoom spots.old depth t }
     ensures { Entered spots.old spots.new depth shape t result }
 {
-    let base = rest_depth(depth);
-    let around = t.around;
-    store_spot(spots, base, around);
+    let base = depth.saturating_sub(1);
+    store_spot(spots, base, t.around);
     if shape == 0 {
-        let inside = t.inside;
-        store_spot(spots, base + 1, inside);
+        store_spot(spots, base + 1, t.inside);
         return base + 2;
     }
     base + 1
@@ -210,7 +180,7 @@ fn tag_turn(
     if 2 <= shape {
         return Turning {
             walk: next,
-            depth: rest_depth(depth),
+            depth: depth.saturating_sub(1),
             rows,
             transitions,
             spot,
@@ -256,8 +226,7 @@ pub fn next_turn(
     let next = next_tag(text, levels, cells, walk);
     let m = next.mark;
     match m {
-        Mark::Nothing => stay(t, next),
-        Mark::Valued(e, w, a, b) => stay(t, next),
-        Mark::Tagged(a, s, e) => tag_turn(cells, spots, t, next, s, e),
+        Mark::Tagged(_, shape, element) => tag_turn(cells, spots, t, next, shape, element),
+        _ => stay(t, next),
     }
 }

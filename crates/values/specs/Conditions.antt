@@ -10,8 +10,9 @@ use borrow.Author.Tests.{not-true, not-false, lt-leb, le-leb}
 use Rattle.definition.specs.Rows.{same}
 use Rattle.grammar.specs.Grammar.{is_token}
 use Rattle.reading.specs.Faults.{apostrophe, name_bytes, spelt, condition_at, inner, behind_name, is_condition}
-use Rattle.values.specs.declared.conditions.Condition.{Condition}
-use Rattle.values.specs.declared.conditions.Condition.TheVariants.{Other, In}
+use Rattle.std.specs.declared.option.Option.{Option}
+use Rattle.std.specs.declared.option.Option.TheVariants.{Some, None}
+use Rattle.values.specs.declared.conditions.Span.{Span}
 
 -- ---- an apostrophe
 
@@ -84,11 +85,11 @@ module _ (v : List ℕ) (j : ℕ) (k : Spanning v j) where
       let so = k.so in
       record { inside = omega arith; so = omega arith }
 
-  pub span_end : length v ≤ j → j ≡ name_bytes v
+  pub span_end : length v ≤ j → length v ≡ name_bytes v
   unfolding name_bytes
   span_end h =
       let none : name_bytes (drop j v) ≡ 0 = ap name_bytes (drop_of_length-le v h) in
-      let so = k.so in
+      let so = k.so in let inside = k.inside in
       omega arith
 
 -- ---- tokens and dots
@@ -220,10 +221,14 @@ opened_fits v quote e =
 -- ---- the whole value
 
 -- the name begins behind the first apostrophe and ends before the second
-abbrev pub condition_of : List ℕ → Condition
-condition_of v = cond (is_condition v) (In (condition_at v) (condition_at v + name_bytes (drop (condition_at v) v))) Other
+-- between two offsets
+abbrev pub span : ℕ → ℕ → Span
+span from to = record { from = from; to = to }
 
-no_name : (v : List ℕ) → is_opened v ≡ false → Other ≡ condition_of v
+abbrev pub condition_of : List ℕ → Option Span
+condition_of v = cond (is_condition v) (Some (span (condition_at v) (condition_at v + name_bytes (drop (condition_at v) v)))) None
+
+no_name : (v : List ℕ) → is_opened v ≡ false → None ≡ condition_of v
 unfolding is_condition
 no_name v e = rw e refl
 
@@ -232,10 +237,10 @@ module _ (v : List ℕ) (from : ℕ) (f : from ≡ opened_at v) where
   unfolding opened_at
   opened_by z e = f ∙ ap (λ (y : Bool). cond y (condition_at v) 0) e
 
-  pub cond_unopened : from < 1 → Other ≡ condition_of v
+  pub cond_unopened : from < 1 → None ≡ condition_of v
   cond_unopened h = by (is_opened v) refl
     where
-      by : (z : Bool) → is_opened v ≡ z → Other ≡ condition_of v
+      by : (z : Bool) → is_opened v ≡ z → None ≡ condition_of v
       by true e = let o = opened_by true e in absurd (omega arith)
       by false e = no_name v e
 
@@ -294,10 +299,10 @@ module _ (v : List ℕ) (from : ℕ) (f : from ≡ opened_at v) where
           by true b d = refl
           by false b d = refl
 
-      pub cond_whole : (named && closed) ≡ true → In from (from + long) ≡ condition_of v
-      cond_whole q = rw (whole ∙ q) (ap (λ (k : ℕ). In from k) to_is ∙ ap (λ (k : ℕ). In k (condition_at v + name_bytes (drop (condition_at v) v))) at_is)
+      pub cond_whole : (named && closed) ≡ true → Some (span from (from + long)) ≡ condition_of v
+      cond_whole q = rw (whole ∙ q) (ap (λ (k : ℕ). Some (span from k)) to_is ∙ ap (λ (k : ℕ). Some (span k (condition_at v + name_bytes (drop (condition_at v) v)))) at_is)
 
-      pub cond_other : (named && closed) ≡ false → Other ≡ condition_of v
+      pub cond_other : (named && closed) ≡ false → None ≡ condition_of v
       cond_other q = rw (whole ∙ q) refl
 
 -- In's name stands in the value

@@ -10,12 +10,13 @@ use Rattle.std.proofs.Math.ListN.{get_or, drop}
 use Rattle.grammar.specs.Grammar.{is_space}
 use Rattle.definition.specs.Rows.{flat}
 use Rattle.reading.specs.Faults.{Item, goes_on, grown, items_at, fault_if, is_among, long_fault, reference_fault, smaller, least}
-use Rattle.values.specs.declared.Fault.{Fault}
-use Rattle.values.specs.declared.Fault.TheVariants.{Nothing, At}
+use Rattle.std.specs.declared.option.Option.{Option as program}
+use Rattle.std.specs.declared.option.Option.TheVariants.{Some, None}
 
-abbrev pub found_of : Option ℕ → Fault
-found_of none = Nothing
-found_of (some i) = At i
+-- where the fault stands, as the program says it
+abbrev pub found_of : Option ℕ → program ℕ
+found_of none = None
+found_of (some i) = Some i
 
 -- ---- how many bytes stand before the first white space
 
@@ -49,11 +50,11 @@ module _ (v : List ℕ) (i j : ℕ) (k : Spreading v i j) where
       let so = k.so in let past = k.past in
       record { past = omega arith; inside = omega arith; so = omega arith }
 
-  pub spread_end : length v ≤ j → j ≡ i + spread (drop i v)
+  pub spread_end : length v ≤ j → length v ≡ i + spread (drop i v)
   unfolding spread
   spread_end h =
       let none : spread (drop j v) ≡ 0 = ap spread (drop_of_length-le v h) in
-      let so = k.so in
+      let so = k.so in let inside = k.inside in
       omega arith
 
 -- ---- the first name of a value, and the others
@@ -251,7 +252,7 @@ module _ (refers : Bool) (ids : List (List ℕ)) where
       test : (b : Bool) → b ≡ is_bad refers ids (take (j - i) (drop i v)) → bad (first_item (from + i) (drop i v)) ≡ b
       test b e = let one : spread (drop i v) ≡ j - i = omega arith in ap (λ (n : ℕ). is_bad refers ids (take n (drop i v))) one ∙ sym e
 
-      found : bad (first_item (from + i) (drop i v)) ≡ true → At (from + i) ≡ found_of (item_faults refers ids from v)
+      found : bad (first_item (from + i) (drop i v)) ≡ true → Some (from + i) ≡ found_of (item_faults refers ids from v)
       found is-bad =
           let xs = other_items (from + i) (drop i v) in
           let later : all_above (from + i) (flat (fault_by bad) xs) ≡ true =
@@ -260,7 +261,7 @@ module _ (refers : Bool) (ids : List (List ℕ)) where
           split ∙ ap (λ (z : Bool). least (fault_if z (from + i) ++ flat (fault_by bad) xs)) is-bad ∙ least_first (from + i) (flat (fault_by bad) xs) later in
           sym (ap found_of is)
 
-      pub search_found : (b : Bool) → b ≡ is_bad refers ids (take (j - i) (drop i v)) → b ≡ true → At (from + i) ≡ found_of (item_faults refers ids from v)
+      pub search_found : (b : Bool) → b ≡ is_bad refers ids (take (j - i) (drop i v)) → b ≡ true → Some (from + i) ≡ found_of (item_faults refers ids from v)
       search_found b e t = found (test b e ∙ t)
 
       on_from_lem : bad (first_item (from + i) (drop i v)) ≡ false → Searching v from j
@@ -295,6 +296,6 @@ module _ (refers : Bool) (ids : List (List ℕ)) where
       pub search_less : length v - j < length v - i
       search_less = let l = search_further in omega arith
 
-    pub search_end : length v ≤ i → Nothing ≡ found_of (item_faults refers ids from v)
+    pub search_end : length v ≤ i → None ≡ found_of (item_faults refers ids from v)
     unfolding items_at flat least
     search_end h = sym (ap found_of (k.left ∙ ap (λ (l : List ℕ). least (flat (fault_by bad) (items_at (from + i) l))) (drop_of_length-le v h)))

@@ -1,5 +1,6 @@
 -- One name more among those noted.
-use Rattle.std.specs.Prelude.{◌≡◌, true, false, length, take, drop}
+use Rattle.std.specs.Prelude.{◌≡◌, true, false, length, take, drop, replicate}
+use Rattle.std.proofs.lemmas.List.{get_or-replicate, length-replicate, get_or-append_right, length-append, length-take}
 use Rattle.std.proofs.Math.Path.{refl, ap}
 use Rattle.std.proofs.Common.{sym, ◌∙◌, add-one, get_or-set_same, get_or-set_other}
 use mathlib.Core.List.{List, [], ◌∷◌, ◌++◌}
@@ -34,35 +35,18 @@ forgotten_index text ids ids' s r f =
       grown = grown_none (id_at text ids') (head_at ids') (next_at ids') (λ h l. ap (λ (m : ℕ). get_or ids' (m - 1024 + h) 0) e ∙ f.zeros h l) (λ s. refl);
     }
 
-pub record Forgetting (ids₀ ids : List ℕ) (end i : ℕ) : Type 0 where
-  pub room : 1024 ≤ length ids₀
-  pub end_is : end ≡ length ids₀ - 1024
-  pub below : i ≤ 1024
-  pub size : length ids ≡ length ids₀
-  pub so_far : (h : ℕ) → h < i → get_or ids (length ids₀ - 1024 + h) 0 ≡ 0
+-- zeros behind the numbers before the keys
+pub forget_done : (ids ids' : List ℕ) (end : ℕ) → 1024 ≤ length ids → end ≡ length ids - 1024 → ids' ≡ take end ids ++ replicate (length ids - end) 0 → Forgotten ids ids'
+forget_done ids ids' end r e q = record { size = size; zeros = zeros }
+  where
+    size : length ids' ≡ length ids
+    size = ap length q ∙ simp (length-append, length-take, length-replicate) (omega arith)
 
-pub forget_start : (ids : List ℕ) (end : ℕ) → 1024 ≤ length ids → end ≡ length ids - 1024 → Forgetting ids ids end 0
-forget_start ids end r e = record { room = r; end_is = e; below = omega arith; size = refl; so_far = λ h l. absurd (omega arith) }
-
-module _ (ids₀ ids : List ℕ) (end i : ℕ) (w : Forgetting ids₀ ids end i) where
-  pub forget_there : i < 1024 → end + i < length ids
-  forget_there h = let r = w.room in let e = w.end_is in let s = w.size in omega arith
-
-  pub forget_turn : i < 1024 → Forgetting ids₀ (set ids (end + i) 0) end (i + 1)
-  forget_turn l =
-      let r = w.room in let e = w.end_is in let s = w.size in
-      record {
-        room = r;
-        end_is = e;
-        below = omega arith;
-        size = length-set ids (end + i) 0 ∙ s;
-        so_far = λ h m. eq_case h i
-            (λ q. let z : length ids₀ - 1024 + h ≡ end + i = omega (arith, q, e) in ap (λ (k : ℕ). get_or (set ids (end + i) 0) k 0) z ∙ get_or-set_same ids (end + i) 0 0 (forget_there l))
-            (λ q. get_or-set_other ids (end + i) (length ids₀ - 1024 + h) 0 0 (λ z. q (omega (arith, z, e))) ∙ w.so_far h (omega (arith, q, m)));
-      }
-
-  pub forget_end : 1024 ≤ i → Forgotten ids₀ ids
-  forget_end h = let b = w.below in record { size = w.size; zeros = λ k l. w.so_far k (omega arith) }
+    zeros : (h : ℕ) → h < 1024 → get_or ids' (length ids - 1024 + h) 0 ≡ 0
+    zeros h l =
+        ap (λ (xs : List ℕ). get_or xs (length ids - 1024 + h) 0) q ∙
+        get_or-append_right (take end ids) (replicate (length ids - end) 0) end (length ids - 1024 + h) 0 (simp length-take (omega arith)) (omega arith) ∙
+        get_or-replicate (length ids - end) (length ids - 1024 + h - end) 0 0 (omega arith)
 
 -- ---- a name behind those that are there
 

@@ -1,5 +1,6 @@
 -- The place of a name among those noted: its way through a tree is followed.
-use Rattle.std.specs.Prelude.{◌≡◌, Bool, ◌||◌, List, [], ◌∷◌, ltb, length, take, drop}
+use Rattle.std.proofs.Math.Nat.{min-eq_left, min-eq_right}
+use Rattle.std.specs.Prelude.{◌≡◌, Bool, ◌||◌, min, List, [], ◌∷◌, ltb, length, take, drop}
 use Rattle.std.proofs.Math.Path.{refl, sym, ap}
 use Rattle.std.proofs.Common.{◌∙◌, lt-ltb, le-ltb}
 use Rattle.std.proofs.Math.Bool.{true, false, cond}
@@ -85,17 +86,6 @@ among_place v (m ∷ ms) = by (same v m) (among_place v ms)
 pub id_among : (text ids v : List ℕ) (n k : ℕ) → k ≡ place_of v (ids_from text ids n 0) → ltb k n ≡ is_among v (ids_from text ids n 0)
 id_among text ids v n k e =
     sym (among_place v (ids_from text ids n 0) ∙ ap (ltb (place_of v (ids_from text ids n 0))) (ids_length text ids n 0) ∙ ap (λ (p : ℕ). ltb p n) (sym e))
-
--- ---- the smaller of two numbers
-
-abbrev pub smaller_of : ℕ → ℕ → ℕ
-smaller_of a b = cond (ltb a b) a b
-
-pub smaller_first : (a b : ℕ) → a < b → a ≡ smaller_of a b
-smaller_first a b l = sym (ap (λ (z : Bool). cond z a b) (lt-ltb a b l))
-
-pub smaller_second : (a b : ℕ) → b ≤ a → b ≡ smaller_of a b
-smaller_second a b l = sym (ap (λ (z : Bool). cond z a b) (le-ltb a b l))
 
 -- ---- one name
 
@@ -217,8 +207,8 @@ module _ (text ids name : List ℕ) (n end hash tag x depth : ℕ) (w : Looking 
         }
 
   module _ (p : 0 < x) (here : Bool) (e : here ≡ same name (id_at text ids (x - 1))) where
-    pub look_found : here ≡ true → (r : ℕ) → r ≡ smaller_of (x - 1) n → r ≡ place_of name (ids_from text ids n 0)
-    look_found h r q = q ∙ lt_case (x - 1) n (λ l. sym (smaller_first (x - 1) n l) ∙ sym (first l)) (λ l. sym (smaller_second (x - 1) n l) ∙ sym (none l))
+    pub look_found : here ≡ true → (r : ℕ) → r ≡ min (x - 1) n → r ≡ place_of name (ids_from text ids n 0)
+    look_found h r q = q ∙ lt_case (x - 1) n (λ l. min-eq_left {n = x - 1} {m = n} (omega arith) ∙ sym (first l)) (λ l. min-eq_right {n = n} {m = x - 1} l ∙ sym (none l))
       where
         earlier : (j : ℕ) → suc j < x → same name (id_at text ids j) ≡ false
         earlier = asked_first (id_at text ids) (head_at ids) (next_at ids) w.noted.all w.noted.index.grown name x depth w.asked (sym e ∙ h)

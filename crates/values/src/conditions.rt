@@ -28,25 +28,22 @@ pub fn apostrophe_len(value: &[u8]) -> usize
     0
 }
 
-fn is_word(b: u8) -> bool
+fn is_name_byte(b: u8) -> bool
     ensures { result ≡ (is_token b || eqb b 46) }
 {
-    is_token(b) | (b == 46)
+    is_token(b) | (b == b'.')
 }
 
 // How many bytes of names the value begins with.
 pub fn name_len(value: &[u8]) -> usize
     ensures { result ≡ name_bytes value.now }
 {
-    let mut j = 0;
-    while j < value.len() {
-        let word = is_word(value[j]);
-        if !word {
+    for j in 0..value.len() {
+        if !is_name_byte(value[j]) {
             return j;
         }
-        j += 1;
     }
-    j
+    value.len()
 }
 
 // Tokens joined by single dots.
@@ -54,17 +51,15 @@ pub fn is_spelt(value: &[u8]) -> bool
     ensures { result ≡ spelt true value.now }
 {
     let mut fresh = true;
-    let mut i = 0;
-    while i < value.len() {
+    for i in 0..value.len() {
         let b = value[i];
         let token = is_token(b);
-        let dot = b == 46;
+        let dot = b == b'.';
         let joins = dot & !fresh;
         if !token & !joins {
             return false;
         }
         fresh = !token;
-        i += 1;
     }
     !fresh
 }
@@ -98,26 +93,27 @@ fn is_closed(value: &[u8]) -> bool
     equal(&value[quote..], b")")
 }
 
-// Not a condition; or where In's name begins in the value, and where it ends.
+// Where a part of a value begins, and where it ends.
 #[derive(Clone, Copy)]
-pub enum Condition {
-    Other,
-    In(usize, usize),
+pub struct Span {
+    pub from: usize,
+    pub to: usize,
 }
 
-pub fn condition_in(value: &[u8]) -> Condition
+// In's name, if the value is a condition.
+pub fn condition_in(value: &[u8]) -> Option<Span>
     requires { length value.now ≤ 32768 }
     ensures { result ≡ condition_of value.now }
 {
     let from = opened_at(value);
     if from < 1 {
-        return Condition::Other;
+        return None;
     }
     let to = from + name_len(&value[from..]);
     let named = is_spelt(&value[from..to]);
     let closed = is_closed(&value[to..]);
     if named & closed {
-        return Condition::In(from, to);
+        return Some(Span { from, to });
     }
-    Condition::Other
+    None
 }

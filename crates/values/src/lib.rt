@@ -30,11 +30,11 @@ pub fn is_version(value: &[u8]) -> bool
 }
 
 // The type of a history (element 4) or of a transition.
+// Kept: elements are the numbers of the definition (Rattle.grammar.specs.Tables), here and where the walks hand them on.
 pub fn is_type(element: u8, value: &[u8]) -> bool
     ensures { result ≡ is_among (plain value.now) (types_of element) }
 {
-    let history = element == 4;
-    if history {
+    if element == 4 {
         return equal(value, b"shallow") | equal(value, b"deep");
     }
     equal(value, b"external") | equal(value, b"internal")
@@ -43,7 +43,7 @@ pub fn is_type(element: u8, value: &[u8]) -> bool
 fn is_digit(b: u8) -> bool
     ensures { result ≡ is_decimal_digit b }
 {
-    (48 <= b) & (b <= 57)
+    (b'0' <= b) & (b <= b'9')
 }
 
 // The number n with one more digit.
@@ -51,7 +51,7 @@ fn with_digit(n: u64, b: u8) -> u64
     requires { (n ≤ 4294967295) × (is_decimal_digit b ≡ true) }
     ensures { result ≡ n * 10 + (b - 48) }
 {
-    n * 10 + ((b - 48) as u64)
+    n * 10 + u64::from(b - b'0')
 }
 
 // "a decimal host action from 0 to 65,535"; a delay has another limit. The number stops growing once it is too large.
@@ -63,8 +63,7 @@ pub fn is_decimal(value: &[u8], most: u64) -> bool
         return false;
     }
     let mut n: u64 = 0;
-    let mut i = 0;
-    while i < value.len() {
+    for i in 0..value.len() {
         let b = value[i];
         let digit = is_digit(b);
         if !digit {
@@ -75,7 +74,6 @@ pub fn is_decimal(value: &[u8], most: u64) -> bool
             return false;
         }
         n = m;
-        i += 1;
     }
     true
 }
@@ -85,22 +83,12 @@ pub fn item_end(value: &[u8], i: usize) -> usize
     requires { i ≤ length value.now }
     ensures { result ≡ i + spread (drop i value.now) }
 {
-    let mut j = i;
-    while j < value.len() {
-        let space = is_space(value[j]);
-        if space {
+    for j in i..value.len() {
+        if is_space(value[j]) {
             return j;
         }
-        j += 1;
     }
-    j
-}
-
-// Where a fault stands, if there is one.
-#[derive(Clone, Copy)]
-pub enum Fault {
-    Nothing,
-    At(usize),
+    value.len()
 }
 
 // "a name or descriptor over 63 bytes", or, if the name refers to a row, "A reference to an id .. that does not exist".
@@ -112,13 +100,12 @@ pub fn is_bad(text: &[u8], ids: &[u16], n: usize, refers: bool, name: &[u8]) -> 
         return true;
     }
     if refers {
-        let known = is_id(text, ids, n, name);
-        return !known;
+        return !is_id(text, ids, n, name);
     }
     false
 }
 
-// The first such name of a value whose first byte has the offset from.
+// Where the first such name of a value stands, if there is one; the value's first byte has the offset from.
 pub fn item_fault(
     text: &[u8],
     ids: &[u16],
@@ -126,10 +113,11 @@ pub fn item_fault(
     refers: bool,
     value: &[u8],
     from: usize,
-) -> Fault
+) -> Option<usize>
     requires { (from + length value.now ≤ 32768) × Noted text.now ids.now n }
     ensures { result ≡ found_of (item_faults refers (ids_from text.now ids.now n 0) from value.now) }
 {
+    // Kept: the index goes on by a whole name at a time, which no `for` over a range does.
     let mut i = 0;
     while i < value.len() {
         let space = is_space(value[i]);
@@ -140,9 +128,9 @@ pub fn item_fault(
         let j = item_end(value, i);
         let bad = is_bad(text, ids, n, refers, &value[i..j]);
         if bad {
-            return Fault::At(from + i);
+            return Some(from + i);
         }
         i = j;
     }
-    Fault::Nothing
+    None
 }

@@ -8,7 +8,7 @@ ghost use Rattle.reading.specs.Faults.{is_among};
 ghost use Rattle.reading.specs.Content.{place_of};
 ghost use Rattle.values.specs.Ids.{id_at, ids_from, Noted};
 ghost use Rattle.values.specs.Trees.{hash_from, side_of};
-ghost use Rattle.values.specs.Places.{smaller_of, IdRoom, NodeRoom};
+ghost use Rattle.values.specs.Places.{IdRoom, NodeRoom};
 ghost use Rattle.values.specs.Spots.{Planted, Free};
 ghost use Rattle.values.specs.Notes.{Forgotten, EnterRoom, entered, NoteRoom, NotedMore};
 
@@ -16,24 +16,11 @@ use names::equal;
 
 const KEYS: usize = 1024;
 
-fn wide(x: u16) -> usize
-    ensures { result ≡ x }
-{
-    x as usize
-}
-
-fn narrow(x: usize) -> u16
-    requires { x < 65536 }
-    ensures { result ≡ x }
-{
-    x as u16
-}
-
 pub fn number_at(numbers: &[u16], i: usize) -> usize
     requires { i < length numbers.now }
     ensures { result ≡ get_or numbers.now i 0 }
 {
-    wide(numbers[i])
+    usize::from(numbers[i])
 }
 
 // Any function of the bytes serves: names of different hashes differ. 48 bits, so that many names of one hash are not easily made.
@@ -41,10 +28,8 @@ fn hash_of(name: &[u8]) -> usize
     ensures { (result ≡ hash_from 0 name.now) × (result < 281474976710656) }
 {
     let mut hash = 0;
-    let mut i = 0;
-    while i < name.len() {
-        hash = (hash * 40503 + name[i] as usize) % 281474976710656;
-        i += 1;
+    for &b in name {
+        hash = (hash * 40503 + usize::from(b)) % 281474976710656;
     }
     hash
 }
@@ -53,10 +38,10 @@ fn hash_of(name: &[u8]) -> usize
 fn byte_at(name: &[u8], i: usize) -> usize
     ensures { result ≡ get_or name.now i 0 }
 {
-    if name.len() <= i {
-        return 0;
+    match name.get(i) {
+        Some(&b) => usize::from(b),
+        None => 0,
     }
-    name[i] as usize
 }
 
 // The way on from a name so deep in the name's tree, 0 or 1: by the 38 bits of the hash that are no key, then by those of the bytes.
@@ -109,15 +94,6 @@ fn is_root(text: &[u8], ids: &[u16], x: usize, name: &[u8], tag: usize) -> bool
     is_name(text, ids, x - 1, name)
 }
 
-fn smaller(a: usize, b: usize) -> usize
-    ensures { result ≡ smaller_of a b }
-{
-    if a < b {
-        return a;
-    }
-    b
-}
-
 // Which of n names the name is: the first of those that are the same; n where it is none of them.
 pub fn place_of(text: &[u8], ids: &[u16], n: usize, name: &[u8]) -> usize
     requires { Noted text.now ids.now n }
@@ -128,10 +104,10 @@ pub fn place_of(text: &[u8], ids: &[u16], n: usize, name: &[u8]) -> usize
     let tag = hash / 4294967296;
     let mut x = number_at(ids, end + hash % KEYS);
     let mut depth = 0;
+    // Kept: a way down a tree, here and in spot_of, which no `for` over a range goes.
     while 0 < x {
-        let here = is_root(text, ids, x, name, tag);
-        if here {
-            return smaller(x - 1, n);
+        if is_root(text, ids, x, name, tag) {
+            return (x - 1).min(n);
         }
         let side = side_of(name, hash, depth);
         x = number_at(ids, end - x * 3 + side);
@@ -154,11 +130,7 @@ pub fn forget(ids: &mut [u16])
     ensures { Forgotten ids.old ids.new }
 {
     let end = ids.len() - KEYS;
-    let mut i = 0;
-    while i < KEYS {
-        ids[end + i] = 0;
-        i += 1;
-    }
+    ids[end..].fill(0);
 }
 
 // Where the root of a new name is to be written: where the name's way ends.
@@ -185,11 +157,11 @@ fn enter(ids: &mut [u16], n: usize, at: usize, long: usize, tag: usize)
     ensures { ids.new ≡ entered ids.old n at long tag }
 {
     let own = ids.len() - KEYS - (n + 1) * 3;
-    ids[n * 2] = narrow(at);
-    ids[n * 2 + 1] = narrow(long);
+    ids[n * 2] = at as u16;
+    ids[n * 2 + 1] = long as u16;
     ids[own] = 0;
     ids[own + 1] = 0;
-    ids[own + 2] = narrow(tag);
+    ids[own + 2] = tag as u16;
 }
 
 // The name behind the n that are noted, of which `place` is the first that is the same.
@@ -203,6 +175,6 @@ pub fn note(text: &[u8], ids: &mut [u16], n: usize, at: usize, to: usize, place:
     if place < n {
         return n + 1;
     }
-    ids[spot] = narrow(n + 1);
+    ids[spot] = (n + 1) as u16;
     n + 1
 }

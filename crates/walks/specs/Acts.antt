@@ -21,6 +21,7 @@ use Rattle.walks.specs.declared.name_items.Filing.{Filing}
 use Rattle.walks.specs.declared.acts.ActCells.{ActCells}
 use Rattle.walks.specs.Filed.{one, Fileable, FiledBy, fileable_first, fileable_rest, filed_both}
 use Rattle.walks.specs.Told.{value_at, word_room, PlaceRoom, DecimalRoom, CondAtRoom, label_room, delay_room, condition_room}
+use Rattle.walks.specs.declared.plan.Pass.{Pass}
 
 abbrev pub with_first : ℕ → ℕ → ActCells
 with_first what first = record { what = what; first = first; second = 0; third = 0 }
@@ -133,9 +134,9 @@ module _ (text cells ids slots : List ℕ) (p : Plan) where
 -- ---- four items
 
 pub record FileActRoom (out next : List ℕ) (f : Filing) (a : ActCells) : Type 0 where
-  pub able : Fileable f.bins f.fill out next (under f.key (four_of a))
+  pub able : Fileable f.bins f.pass out next (under f.key (four_of a))
 
-module _ (bins : ℕ) (fill : Bool) (key : ℕ) (a : ActCells) where
+module _ (bins : ℕ) (pass : Pass) (key : ℕ) (a : ActCells) where
   abbrev fourth : List Item
   fourth = one key a.third
 
@@ -149,34 +150,34 @@ module _ (bins : ℕ) (fill : Bool) (key : ℕ) (a : ActCells) where
   unfolding under
   all_four = refl
 
-  module _ (out next : List ℕ) (h : Fileable bins fill out next (under key (four_of a))) where
-    first_able : Fileable bins fill out next (one key a.what ++ seconds)
-    first_able = subst (λ (l : List Item). Fileable bins fill out next l) all_four h
+  module _ (out next : List ℕ) (h : Fileable bins pass out next (under key (four_of a))) where
+    first_able : Fileable bins pass out next (one key a.what ++ seconds)
+    first_able = subst (λ (l : List Item). Fileable bins pass out next l) all_four h
 
-    pub act_first : Fileable bins fill out next (one key a.what)
-    act_first = fileable_first bins fill out next (one key a.what) seconds first_able
+    pub act_first : Fileable bins pass out next (one key a.what)
+    act_first = fileable_first bins pass out next (one key a.what) seconds first_able
 
-    module _ (out1 next1 : List ℕ) (b1 : FiledBy bins fill out out1 next next1 (one key a.what)) where
-      second_able : Fileable bins fill out1 next1 seconds
-      second_able = fileable_rest bins fill out next (one key a.what) seconds first_able out1 next1 b1
+    module _ (out1 next1 : List ℕ) (b1 : FiledBy bins pass out out1 next next1 (one key a.what)) where
+      second_able : Fileable bins pass out1 next1 seconds
+      second_able = fileable_rest bins pass out next (one key a.what) seconds first_able out1 next1 b1
 
-      pub act_second : Fileable bins fill out1 next1 (one key a.first)
-      act_second = fileable_first bins fill out1 next1 (one key a.first) thirds second_able
+      pub act_second : Fileable bins pass out1 next1 (one key a.first)
+      act_second = fileable_first bins pass out1 next1 (one key a.first) thirds second_able
 
-      module _ (out2 next2 : List ℕ) (b2 : FiledBy bins fill out1 out2 next1 next2 (one key a.first)) where
-        third_able : Fileable bins fill out2 next2 thirds
-        third_able = fileable_rest bins fill out1 next1 (one key a.first) thirds second_able out2 next2 b2
+      module _ (out2 next2 : List ℕ) (b2 : FiledBy bins pass out1 out2 next1 next2 (one key a.first)) where
+        third_able : Fileable bins pass out2 next2 thirds
+        third_able = fileable_rest bins pass out1 next1 (one key a.first) thirds second_able out2 next2 b2
 
-        pub act_third : Fileable bins fill out2 next2 (one key a.second)
-        act_third = fileable_first bins fill out2 next2 (one key a.second) fourth third_able
+        pub act_third : Fileable bins pass out2 next2 (one key a.second)
+        act_third = fileable_first bins pass out2 next2 (one key a.second) fourth third_able
 
-        module _ (out3 next3 : List ℕ) (b3 : FiledBy bins fill out2 out3 next2 next3 (one key a.second)) where
-          pub act_fourth : Fileable bins fill out3 next3 (one key a.third)
-          act_fourth = fileable_rest bins fill out2 next2 (one key a.second) fourth third_able out3 next3 b3
+        module _ (out3 next3 : List ℕ) (b3 : FiledBy bins pass out2 out3 next2 next3 (one key a.second)) where
+          pub act_fourth : Fileable bins pass out3 next3 (one key a.third)
+          act_fourth = fileable_rest bins pass out2 next2 (one key a.second) fourth third_able out3 next3 b3
 
-          pub act_filed : (out4 next4 : List ℕ) → FiledBy bins fill out3 out4 next3 next4 (one key a.third) → FiledBy bins fill out out4 next next4 (under key (four_of a))
+          pub act_filed : (out4 next4 : List ℕ) → FiledBy bins pass out3 out4 next3 next4 (one key a.third) → FiledBy bins pass out out4 next next4 (under key (four_of a))
           act_filed out4 next4 b4 =
-              subst (λ (l : List Item). FiledBy bins fill out out4 next next4 l) (sym all_four)
-              (filed_both bins fill out next out1 next1 out4 next4 (one key a.what) seconds b1
-              (filed_both bins fill out1 next1 out2 next2 out4 next4 (one key a.first) thirds b2
-              (filed_both bins fill out2 next2 out3 next3 out4 next4 (one key a.second) fourth b3 b4)))
+              subst (λ (l : List Item). FiledBy bins pass out out4 next next4 l) (sym all_four)
+              (filed_both bins pass out next out1 next1 out4 next4 (one key a.what) seconds b1
+              (filed_both bins pass out1 next1 out2 next2 out4 next4 (one key a.first) thirds b2
+              (filed_both bins pass out2 next2 out3 next3 out4 next4 (one key a.second) fourth b3 b4)))

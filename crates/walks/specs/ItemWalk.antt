@@ -123,7 +123,7 @@ module _ (text ids slots ranks : List ℕ) (p : Plan) where
     pub named : Named text ids slots p
     pub before : List Fact
     pub passed : Passed text ids_here levels cells spots t c before
-    pub filed : Filed (bin_count p.rows p.transitions) (lay_base p.rows p.transitions) p.fill (counts_of items_here) out next (items_after 0 0 before)
+    pub filed : Filed (bin_count p.rows p.transitions) (lay_base p.rows p.transitions) p.pass (counts_of items_here) out next (items_after 0 0 before)
     pub few : length (items_after 0 0 before) ≤ t.walk.index * 65544
 
   pub walked_start : (levels cells spots out next : List ℕ) (t : Turning) → FileRoom text levels spots ids slots ranks out next p → length cells ≡ 22 → t ≡ beginning_turn →
@@ -207,7 +207,7 @@ module _ (text ids slots ranks : List ℕ) (p : Plan) where
               (items_append slots_here p.rows p.transitions ranks c.rows c.transitions (here said) (facts_left ids_here text levels' spots' r)) ∙
               sym (append_assoc (items_after 0 0 k.before) (more said) rest)
 
-          awaits : Awaits (bin_count p.rows p.transitions) p.fill (counts_of items_here) (items_after 0 0 k.before) (more said)
+          awaits : Awaits (bin_count p.rows p.transitions) p.pass (counts_of items_here) (items_after 0 0 k.before) (more said)
           awaits =
               let f = further in let i = within in let u = k.passed.at.standing.short in let w = k.few in
               let m = tag_few text cells turned.parts turned.stated u ids_here slots_here p.rows p.transitions ranks d c.rows c.transitions r.spot s said in
@@ -257,7 +257,7 @@ module _ (text ids slots ranks : List ℕ) (p : Plan) where
               before = k.before ++ fs;
               passed = passed_more text ids_here levels cells₀ spots t c k.before k.passed levels' cells spots' r turned found e q s d si di f.said f.of c' f.counted;
               filed =
-                  subst (λ (xs : List Item). Filed (bin_count p.rows p.transitions) (lay_base p.rows p.transitions) p.fill (counts_of items_here) out' next' xs) (sym (behind fs))
+                  subst (λ (xs : List Item). Filed (bin_count p.rows p.transitions) (lay_base p.rows p.transitions) p.pass (counts_of items_here) out' next' xs) (sym (behind fs))
                   ((f.filed turned.parts turned.stated).is (lay_base p.rows p.transitions) (counts_of items_here) (items_after 0 0 k.before) k.filed (awaits f.said f.of));
               few = omega arith;
             }

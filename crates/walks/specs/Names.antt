@@ -85,7 +85,7 @@ place_few name text ids (suc n) k = by (same name (id_at text ids k)) (place_few
 pub record NameRoom (text names : List ℕ) (n : ℕ) (name out next : List ℕ) (f : Filing) : Type 0 where
   pub noted : Noted text names n
   pub small : f.shift ≤ 1
-  pub able : Fileable f.bins f.fill out next (one f.key (numbered (ids_from text names n 0) f.shift name))
+  pub able : Fileable f.bins f.pass out next (one f.key (numbered (ids_from text names n 0) f.shift name))
 
 module _ (text names : List ℕ) (n : ℕ) (name out next : List ℕ) (f : Filing) (h : NameRoom text names n name out next f) (place : ℕ) (is : place ≡ place_of name (ids_from text names n 0)) where
   pub name_fits : place + f.shift < 2 ^ 64
@@ -95,12 +95,12 @@ module _ (text names : List ℕ) (n : ℕ) (name out next : List ℕ) (f : Filin
     number_is : numbered (ids_from text names n 0) f.shift name ≡ number
     number_is = ap (λ (p : ℕ). p + f.shift) (sym is) ∙ sym so
 
-    pub name_able : Fileable f.bins f.fill out next (one f.key number)
-    name_able = subst (λ (m : ℕ). Fileable f.bins f.fill out next (one f.key m)) number_is h.able
+    pub name_able : Fileable f.bins f.pass out next (one f.key number)
+    name_able = subst (λ (m : ℕ). Fileable f.bins f.pass out next (one f.key m)) number_is h.able
 
-    pub name_filed : (out' next' : List ℕ) → FiledBy f.bins f.fill out out' next next' (one f.key number) →
-        FiledBy f.bins f.fill out out' next next' (one f.key (numbered (ids_from text names n 0) f.shift name))
-    name_filed out' next' b = subst (λ (m : ℕ). FiledBy f.bins f.fill out out' next next' (one f.key m)) (sym number_is) b
+    pub name_filed : (out' next' : List ℕ) → FiledBy f.bins f.pass out out' next next' (one f.key number) →
+        FiledBy f.bins f.pass out out' next next' (one f.key (numbered (ids_from text names n 0) f.shift name))
+    name_filed out' next' b = subst (λ (m : ℕ). FiledBy f.bins f.pass out out' next next' (one f.key m)) (sym number_is) b
 
 -- ---- the names of a value
 
@@ -119,7 +119,7 @@ names_items key shift names v = items_by key shift names (names_in v)
 pub record NamesRoom (text names : List ℕ) (n : ℕ) (v out next : List ℕ) (f : Filing) : Type 0 where
   pub noted : Noted text names n
   pub small : f.shift ≤ 1
-  pub able : Fileable f.bins f.fill out next (names_items f.key f.shift (ids_from text names n 0) v)
+  pub able : Fileable f.bins f.pass out next (names_items f.key f.shift (ids_from text names n 0) v)
 
 pub record Naming (text names : List ℕ) (n : ℕ) (v out₀ next₀ : List ℕ) (f : Filing) (out next : List ℕ) (i : ℕ) : Type 0 where
   pub noted : Noted text names n
@@ -127,23 +127,23 @@ pub record Naming (text names : List ℕ) (n : ℕ) (v out₀ next₀ : List ℕ
   pub inside : i ≤ length v
   pub before : List (List ℕ)
   pub left : names_in v ≡ before ++ names_at i (drop i v)
-  pub filed : FiledBy f.bins f.fill out₀ out next₀ next (items_by f.key f.shift (ids_from text names n 0) before)
-  pub able : Fileable f.bins f.fill out next (items_by f.key f.shift (ids_from text names n 0) (names_at i (drop i v)))
+  pub filed : FiledBy f.bins f.pass out₀ out next₀ next (items_by f.key f.shift (ids_from text names n 0) before)
+  pub able : Fileable f.bins f.pass out next (items_by f.key f.shift (ids_from text names n 0) (names_at i (drop i v)))
 
 pub naming_start : (text names : List ℕ) (n : ℕ) (v out next : List ℕ) (f : Filing) → NamesRoom text names n v out next f → Naming text names n v out next f out next 0
 unfolding items_by
 naming_start text names n v out next f h =
-    record { noted = h.noted; small = h.small; inside = omega arith; before = []; left = refl; filed = filed_none f.bins f.fill out next; able = h.able }
+    record { noted = h.noted; small = h.small; inside = omega arith; before = []; left = refl; filed = filed_none f.bins f.pass out next; able = h.able }
 
 module _ (text names : List ℕ) (n : ℕ) (v out₀ next₀ : List ℕ) (f : Filing) (out next : List ℕ) (i : ℕ) (k : Naming text names n v out₀ next₀ f out next i) where
   abbrev items_of : List (List ℕ) → List Item
   items_of ds = items_by f.key f.shift (ids_from text names n 0) ds
 
-  pub naming_end : length v ≤ i → FiledBy f.bins f.fill out₀ out next₀ next (names_items f.key f.shift (ids_from text names n 0) v)
+  pub naming_end : length v ≤ i → FiledBy f.bins f.pass out₀ out next₀ next (names_items f.key f.shift (ids_from text names n 0) v)
   unfolding items_at
   naming_end h =
       let none : drop i v ≡ [] = drop_of_length-le v {i = i} h in
-      subst (λ (ds : List (List ℕ)). FiledBy f.bins f.fill out₀ out next₀ next (items_of ds)) (sym (k.left ∙ ap (λ (l : List ℕ). k.before ++ names_at i l) none ∙ append-nil k.before)) k.filed
+      subst (λ (ds : List (List ℕ)). FiledBy f.bins f.pass out₀ out next₀ next (items_of ds)) (sym (k.left ∙ ap (λ (l : List ℕ). k.before ++ names_at i l) none ∙ append-nil k.before)) k.filed
 
   module _ (h : i < length v) (space : Bool) (is : space ≡ is_space (get_or v i 0)) where
     pub naming_space : space ≡ true → Naming text names n v out₀ next₀ f out next (i + 1)
@@ -156,7 +156,7 @@ module _ (text names : List ℕ) (n : ℕ) (v out₀ next₀ : List ℕ) (f : Fi
           before = k.before;
           left = k.left ∙ ap (λ (ds : List (List ℕ)). k.before ++ ds) e;
           filed = k.filed;
-          able = subst (λ (ds : List (List ℕ)). Fileable f.bins f.fill out next (items_of ds)) e k.able;
+          able = subst (λ (ds : List (List ℕ)). Fileable f.bins f.pass out next (items_of ds)) e k.able;
         }
 
     module _ (q : space ≡ false) (j : ℕ) (to : j ≡ i + spread (drop i v)) where
@@ -170,19 +170,19 @@ module _ (text names : List ℕ) (n : ℕ) (v out₀ next₀ : List ℕ) (f : Fi
       unfolding items_by
       parted = ap items_of (names_name v i h (sym is ∙ q) j to)
 
-      able : Fileable f.bins f.fill out next (one f.key (numbered (ids_from text names n 0) f.shift (take (j - i) (drop i v))) ++ items_of (names_at j (drop j v)))
-      able = subst (λ (xs : List Item). Fileable f.bins f.fill out next xs) parted k.able
+      able : Fileable f.bins f.pass out next (one f.key (numbered (ids_from text names n 0) f.shift (take (j - i) (drop i v))) ++ items_of (names_at j (drop j v)))
+      able = subst (λ (xs : List Item). Fileable f.bins f.pass out next xs) parted k.able
 
       pub naming_room : NameRoom text names n (take (j - i) (drop i v)) out next f
       naming_room =
           record {
             noted = k.noted;
             small = k.small;
-            able = fileable_first f.bins f.fill out next (one f.key (numbered (ids_from text names n 0) f.shift (take (j - i) (drop i v)))) (items_of (names_at j (drop j v))) able;
+            able = fileable_first f.bins f.pass out next (one f.key (numbered (ids_from text names n 0) f.shift (take (j - i) (drop i v)))) (items_of (names_at j (drop j v))) able;
           }
 
       pub naming_more : (out' next' : List ℕ) →
-          FiledBy f.bins f.fill out out' next next' (one f.key (numbered (ids_from text names n 0) f.shift (take (j - i) (drop i v)))) →
+          FiledBy f.bins f.pass out out' next next' (one f.key (numbered (ids_from text names n 0) f.shift (take (j - i) (drop i v)))) →
           Naming text names n v out₀ next₀ f out' next' j
       naming_more out' next' b =
           record {
@@ -192,9 +192,9 @@ module _ (text names : List ℕ) (n : ℕ) (v out₀ next₀ : List ℕ) (f : Fi
             before = k.before ++ name ∷ [];
             left = k.left ∙ ap (λ (ds : List (List ℕ)). k.before ++ ds) (names_name v i h (sym is ∙ q) j to) ∙ sym (append_snoc k.before name (names_at j (drop j v)));
             filed =
-                subst (λ (xs : List Item). FiledBy f.bins f.fill out₀ out' next₀ next' xs) (sym (by_snoc f.key f.shift (ids_from text names n 0) k.before name))
-                (filed_both f.bins f.fill out₀ next₀ out next out' next' (items_of k.before) (one f.key (numbered (ids_from text names n 0) f.shift name)) k.filed b);
-            able = fileable_rest f.bins f.fill out next (one f.key (numbered (ids_from text names n 0) f.shift name)) (items_of (names_at j (drop j v))) able out' next' b;
+                subst (λ (xs : List Item). FiledBy f.bins f.pass out₀ out' next₀ next' xs) (sym (by_snoc f.key f.shift (ids_from text names n 0) k.before name))
+                (filed_both f.bins f.pass out₀ next₀ out next out' next' (items_of k.before) (one f.key (numbered (ids_from text names n 0) f.shift name)) k.filed b);
+            able = fileable_rest f.bins f.pass out next (one f.key (numbered (ids_from text names n 0) f.shift name)) (items_of (names_at j (drop j v))) able out' next' b;
           }
         where
           name : List ℕ

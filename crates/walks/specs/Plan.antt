@@ -13,6 +13,7 @@ use Rattle.items.specs.Items.{bin_count, sources_of, Ranked, items_from, Tallied
 use Rattle.items.specs.Order.{transition_at}
 use Rattle.items.specs.Picked.{no_row}
 use Rattle.walks.specs.declared.plan.Plan.{Plan}
+use Rattle.walks.specs.declared.plan.Pass.TheVariants.{Count, Fill}
 
 -- ---- the facts of a text, and their items
 
@@ -49,16 +50,16 @@ pub record FileRoom (text levels spots ids slots ranks out next : List ℕ) (p :
   pub bins : bin_count p.rows p.transitions ≤ length next
   pub few : length out < 4294967296
   -- to count, all counts are 0
-  pub counting : p.fill ≡ false → (k : ℕ) → k < bin_count p.rows p.transitions → get_or next k 0 ≡ 0
+  pub counting : p.pass ≡ Count → (k : ℕ) → k < bin_count p.rows p.transitions → get_or next k 0 ≡ 0
   -- to lay out, the counts are the starts (binned-start)
-  pub filling : p.fill ≡ true →
+  pub filling : p.pass ≡ Fill →
       Binned (bin_count p.rows p.transitions) (lay_base p.rows p.transitions) (counts_of (text_items text ranks p.rows p.transitions)) out next []
 
 pub record FiledAll (text levels spots ranks out next : List ℕ) (p : Plan) : Type 0 where
   pub deep : length levels ≡ 32768
   pub spots_room : length spots ≡ 16388
-  pub tallied : p.fill ≡ false → Tallied p.rows p.transitions next (text_items text ranks p.rows p.transitions)
-  pub binned : p.fill ≡ true →
+  pub tallied : p.pass ≡ Count → Tallied p.rows p.transitions next (text_items text ranks p.rows p.transitions)
+  pub binned : p.pass ≡ Fill →
       Binned (bin_count p.rows p.transitions) (lay_base p.rows p.transitions) (counts_of (text_items text ranks p.rows p.transitions)) out next
       (text_items text ranks p.rows p.transitions)
 

@@ -105,13 +105,13 @@ pub record TagRoom (text cells ids slots ranks out next : List ℕ) (p : Plan) (
   pub few : Few p.rows p.transitions
   pub counts_fit_lem : CountRoom g.counts
   pub able : (said : Said) → TagSaid cells g.spot g.shape g.element said →
-      Fileable (bin_count p.rows p.transitions) p.fill out next (tag_items text ids slots ranks p g act.parts said)
+      Fileable (bin_count p.rows p.transitions) p.pass out next (tag_items text ids slots ranks p g act.parts said)
 
 pub record TagFiled (text cells ids slots ranks out out' next next' : List ℕ) (p : Plan) (g : TagAt) (r : Counts) : Type 0 where
   pub said : Said
   pub of : TagSaid cells g.spot g.shape g.element said
   pub counted : CountedBy g.counts said r
-  pub filed : (ps : List Part) → Stated text cells ps → FiledBy (bin_count p.rows p.transitions) p.fill out out' next next' (tag_items text ids slots ranks p g ps said)
+  pub filed : (ps : List Part) → Stated text cells ps → FiledBy (bin_count p.rows p.transitions) p.pass out out' next next' (tag_items text ids slots ranks p g ps said)
 
 module _ (text cells ids slots ranks out next : List ℕ) (p : Plan) (g : TagAt) (said : Said) (keys : Keys) (k : KeysAre p.rows p.transitions ranks g.counts said keys) where
   abbrev bins : ℕ
@@ -134,18 +134,18 @@ module _ (text cells ids slots ranks out next : List ℕ) (p : Plan) (g : TagAt)
       ap (λ (x : ℕ). said_items (ids_from text ids p.ids 0) (ids_from text slots p.slots 0) g.element ps said keys.key x ++ lasts) (sym k.other_is)
 
   module _ (h : TagRoom text cells ids slots ranks out next p g) (of : TagSaid cells g.spot g.shape g.element said) where
-    able : Fileable bins p.fill out next (firsts h.act.parts ++ lasts)
-    able = subst (λ (l : List Item). Fileable bins p.fill out next l) (parted h.act.parts) (h.able said of)
+    able : Fileable bins p.pass out next (firsts h.act.parts ++ lasts)
+    able = subst (λ (l : List Item). Fileable bins p.pass out next l) (parted h.act.parts) (h.able said of)
 
     pub tag_said_room : SaidRoom text cells ids slots out next p tag
-    tag_said_room = record { act = h.act; few = h.few; able = fileable_first bins p.fill out next (firsts h.act.parts) lasts able }
+    tag_said_room = record { act = h.act; few = h.few; able = fileable_first bins p.pass out next (firsts h.act.parts) lasts able }
 
     module _ (out1 next1 : List ℕ) (a : SaidFiled text cells ids slots out out1 next next1 p tag) where
       pub tag_end_room : EndRoom ranks out1 next1 p g.spot g.shape g.element
       tag_end_room =
-          record { few = h.few; able = fileable_rest bins p.fill out next (firsts h.act.parts) lasts able out1 next1 (a.is h.act.parts h.act.stated) }
+          record { few = h.few; able = fileable_rest bins p.pass out next (firsts h.act.parts) lasts able out1 next1 (a.is h.act.parts h.act.stated) }
 
-      pub tag_filed : (out2 next2 : List ℕ) (r : Counts) → FiledBy bins p.fill out1 out2 next1 next2 lasts → CountedBy g.counts said r →
+      pub tag_filed : (out2 next2 : List ℕ) (r : Counts) → FiledBy bins p.pass out1 out2 next1 next2 lasts → CountedBy g.counts said r →
           TagFiled text cells ids slots ranks out out2 next next2 p g r
       tag_filed out2 next2 r b c =
           record {
@@ -153,5 +153,5 @@ module _ (text cells ids slots ranks out next : List ℕ) (p : Plan) (g : TagAt)
             of = of;
             counted = c;
             filed = λ ps s.
-                subst (λ (l : List Item). FiledBy bins p.fill out out2 next next2 l) (sym (parted ps)) (filed_both bins p.fill out next out1 next1 out2 next2 (firsts ps) lasts (a.is ps s) b);
+                subst (λ (l : List Item). FiledBy bins p.pass out out2 next next2 l) (sym (parted ps)) (filed_both bins p.pass out next out1 next1 out2 next2 (firsts ps) lasts (a.is ps s) b);
           }

@@ -16,9 +16,10 @@ use Rattle.reading.specs.Content.{place_of, row_in}
 use Rattle.marks.specs.Grouped.{bytes_from}
 use Rattle.tags.specs.Cells.{stated_in, from_in, to_in, long_cell, Stated}
 use Rattle.attribute.specs.Laws.{value_at_lem}
-use Rattle.values.specs.declared.conditions.Condition.{Condition}
-use Rattle.values.specs.declared.conditions.Condition.TheVariants.{Other, In}
-use Rattle.values.specs.Conditions.{condition_of}
+use Rattle.std.specs.declared.option.Option.{Option as program}
+use Rattle.std.specs.declared.option.Option.TheVariants.{Some, None}
+use Rattle.values.specs.declared.conditions.Span.{Span}
+use Rattle.values.specs.Conditions.{span, condition_of}
 use Rattle.values.specs.Ids.{ids_from, Noted}
 use Rattle.walks.specs.Names.{place_few}
 
@@ -96,39 +97,42 @@ pub record CondRoom (text ids : List ℕ) (n : ℕ) (v : List ℕ) : Type 0 wher
 inner_none : inner [] ≡ []
 inner_none = ap (λ (l : List ℕ). take (name_bytes l) l) (drop-nil (condition_at [])) ∙ take-nil (name_bytes [])
 
-module _ (text ids : List ℕ) (n : ℕ) (v : List ℕ) (h : CondRoom text ids n v) (c : Condition) (is : c ≡ condition_of v) where
+module _ (text ids : List ℕ) (n : ℕ) (v : List ℕ) (h : CondRoom text ids n v) (c : program Span) (is : c ≡ condition_of v) where
   pub row_fits : (name : List ℕ) (place : ℕ) → place ≡ place_of name (ids_from text ids n 0) → place + 1 < 2 ^ 64
   row_fits name place q = let f = place_few name text ids n 0 in let w = h.noted.few in omega arith
 
   row_by : (name : List ℕ) (place r : ℕ) → name ≡ inner v → place ≡ place_of name (ids_from text ids n 0) → r ≡ place + 1 → r ≡ row_in (ids_from text ids n 0) v
   row_by name place r e p q = q ∙ add-one place ∙ ap suc (p ∙ ap (λ (m : List ℕ). place_of m (ids_from text ids n 0)) e)
 
-  pub row_none : (place r : ℕ) → c ≡ Other → place ≡ place_of (take (0 - 0) (drop 0 v)) (ids_from text ids n 0) → r ≡ place + 1 → r ≡ row_in (ids_from text ids n 0) v
+  pub row_none : (place r : ℕ) → c ≡ None → place ≡ place_of (take (0 - 0) (drop 0 v)) (ids_from text ids n 0) → r ≡ place + 1 → r ≡ row_in (ids_from text ids n 0) v
   row_none place r o p q = row_by [] place r (sym (ap inner (h.otherwise (by (is_condition v) refl)) ∙ inner_none)) p q
     where
       by : (z : Bool) → is_condition v ≡ z → is_condition v ≡ false
-      by true e = absurd (let x : Other ≡ In (condition_at v) (condition_at v + name_bytes (drop (condition_at v) v)) = sym o ∙ is ∙ rw e refl in let z2 : ◌≡◌ {A = ℕ} 0 1 = cc in omega arith)
+      by true e = absurd (let x : None ≡ Some (span (condition_at v) (condition_at v + name_bytes (drop (condition_at v) v))) = sym o ∙ is ∙ rw e refl in let z2 : ◌≡◌ {A = ℕ} 0 1 = cc in omega arith)
       by false e = e
 
-  module _ (a b : ℕ) (here : c ≡ In a b) where
-    so : In a b ≡ In (condition_at v) (condition_at v + name_bytes (drop (condition_at v) v))
+  module _ (s : Span) (here : c ≡ Some s) where
+    so : Some s ≡ Some (span (condition_at v) (condition_at v + name_bytes (drop (condition_at v) v)))
     so = by (is_condition v) refl
       where
-        by : (z : Bool) → is_condition v ≡ z → In a b ≡ In (condition_at v) (condition_at v + name_bytes (drop (condition_at v) v))
+        by : (z : Bool) → is_condition v ≡ z → Some s ≡ Some (span (condition_at v) (condition_at v + name_bytes (drop (condition_at v) v)))
         by true e = sym here ∙ is ∙ rw e refl
-        by false e = absurd (let x : Other ≡ In a b = sym (is ∙ rw e refl) ∙ here in let z2 : ◌≡◌ {A = ℕ} 0 1 = cc in omega arith)
+        by false e = absurd (let x : None ≡ Some s = sym (is ∙ rw e refl) ∙ here in let z2 : ◌≡◌ {A = ℕ} 0 1 = cc in omega arith)
 
-    a_is : a ≡ condition_at v
-    a_is = let x = so in cc
+    span_is : s ≡ span (condition_at v) (condition_at v + name_bytes (drop (condition_at v) v))
+    span_is = let x = so in cc
 
-    b_is : b ≡ condition_at v + name_bytes (drop (condition_at v) v)
-    b_is = let x = so in cc
+    a_is : s.from ≡ condition_at v
+    a_is = ap (λ (x : Span). x.from) span_is
 
-    pub row_named : (place r : ℕ) → place ≡ place_of (take (b - a) (drop a v)) (ids_from text ids n 0) → r ≡ place + 1 → r ≡ row_in (ids_from text ids n 0) v
+    b_is : s.to ≡ condition_at v + name_bytes (drop (condition_at v) v)
+    b_is = ap (λ (x : Span). x.to) span_is
+
+    pub row_named : (place r : ℕ) → place ≡ place_of (take (s.to - s.from) (drop s.from v)) (ids_from text ids n 0) → r ≡ place + 1 → r ≡ row_in (ids_from text ids n 0) v
     row_named place r p q =
-        let long : b - a ≡ name_bytes (drop (condition_at v) v) = let x = a_is in let y = b_is in omega arith in
-        let name : take (b - a) (drop a v) ≡ inner v = ap (λ (m : ℕ). take m (drop a v)) long ∙ ap (λ (m : ℕ). take (name_bytes (drop (condition_at v) v)) (drop m v)) a_is in
-        row_by (take (b - a) (drop a v)) place r name p q
+        let long : s.to - s.from ≡ name_bytes (drop (condition_at v) v) = let x = a_is in let y = b_is in omega arith in
+        let name : take (s.to - s.from) (drop s.from v) ≡ inner v = ap (λ (m : ℕ). take m (drop s.from v)) long ∙ ap (λ (m : ℕ). take (name_bytes (drop (condition_at v) v)) (drop m v)) a_is in
+        row_by (take (s.to - s.from) (drop s.from v)) place r name p q
 
 pub record CondAtRoom (text cells ids : List ℕ) (n : ℕ) : Type 0 where
   pub word : WordRoom text cells 30

@@ -75,17 +75,10 @@ pub fn act_cells(
 // The four cells as items under the key.
 pub fn file_act(out: &mut [u64], next: &mut [u32], f: Filing, a: ActCells)
     requires { FileActRoom out.old next.old f a }
-    ensures { FiledBy f.bins f.fill out.old out.new next.old next.new (under f.key (four_of a)) }
+    ensures { FiledBy f.bins f.pass out.old out.new next.old next.new (under f.key (four_of a)) }
 {
-    let bins = f.bins;
-    let fill = f.fill;
-    let key = f.key;
-    let what = a.what;
-    let first = a.first;
-    let second = a.second;
-    let third = a.third;
-    file_item(out, next, bins, fill, key, what);
-    file_item(out, next, bins, fill, key, first);
-    file_item(out, next, bins, fill, key, second);
-    file_item(out, next, bins, fill, key, third);
+    file_item(out, next, f.bins, f.pass, f.key, a.what);
+    file_item(out, next, f.bins, f.pass, f.key, a.first);
+    file_item(out, next, f.bins, f.pass, f.key, a.second);
+    file_item(out, next, f.bins, f.pass, f.key, a.third);
 }

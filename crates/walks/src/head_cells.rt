@@ -12,14 +12,9 @@ ghost use Rattle.walks.specs.Told.{value_at, WordRoom, PlaceRoom, CondAtRoom};
 
 use crate::told::{place_at, row_at};
 use attribute::{Default, attribute_value};
+use definition::Kind;
 use find::{is_deep, is_internal};
 use tags::{is_stated, value_from, value_to};
-
-fn wide(x: u8) -> u64
-    ensures { result ≡ x }
-{
-    x as u64
-}
 
 // Is a tag's type, or where it states none its default, the other of the two: internal of a transition, deep of a history.
 fn is_other(text: &[u8], cells: &[u16], d: Default) -> bool
@@ -40,13 +35,13 @@ pub fn kind_at(text: &[u8], cells: &[u16], element: u8) -> u64
 {
     let history = element == 4;
     if !history {
-        return wide(element);
+        return u64::from(element);
     }
     let deep = is_other(text, cells, Default::Shallow);
     if deep {
-        return kinds::DEEP;
+        return u64::from(Kind::Deep);
     }
-    kinds::SHALLOW
+    u64::from(Kind::Shallow)
 }
 
 // The slot of a row's id; 65,535 for one without an id.

@@ -9,7 +9,6 @@ use crate::keys::rank_of;
 use crate::plan::Plan;
 use crate::said::{begin_turn, said_in};
 use crate::sources::{Counts, counted};
-use crate::told::wide;
 use facts::Said;
 use marks::is_mark;
 use turns::next_turn;
@@ -45,7 +44,7 @@ fn lay_row(
     }
     let at = 6 + i * 11;
     out[at] = kind_at(text, cells, element);
-    out[at + 1] = wide(parent);
+    out[at + 1] = parent as u64;
     out[at + 2] = id_at(text, cells, slots, names);
 }
 
@@ -72,7 +71,7 @@ fn lay_transition(
         return;
     }
     let at = 6 + n * 11 + r * 9;
-    out[at] = wide(source);
+    out[at] = source as u64;
     out[at + 3] = condition_at(text, cells, ids, rows);
     out[at + 4] = internal_at(text, cells);
 }
@@ -152,6 +151,7 @@ pub fn lay_heads(
         rows: 0,
         transitions: 0,
     };
+    // Kept: each turn goes on from the one before and writes the places that it reads, which no `for` does.
     loop {
         let turn = next_turn(text, levels, &mut cells, spots, t);
         let walk = turn.walk;

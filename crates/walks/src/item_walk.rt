@@ -94,6 +94,7 @@ pub fn file_items(
         rows: 0,
         transitions: 0,
     };
+    // Kept: each turn goes on from the one before and writes the places that it reads, which no `for` does.
     loop {
         let turn = next_turn(text, levels, &mut cells, spots, t);
         let walk = turn.walk;

@@ -4,16 +4,16 @@ ghost use Rattle.walks.specs.Names.{numbered, NameRoom, names_items, NamesRoom};
 ghost use Rattle.values.specs.Ids.{ids_from};
 
 use crate::filed::file_item;
-use crate::told::wide;
+use crate::plan::Pass;
 use scan::is_space;
 use values::item_end;
 use values::noted::place_of;
 
-// The bins and whether they are filled; the key of the items; what is added to a place, 1 for rows, of which the first has no id.
+// The bins and the pass; the key of the items; what is added to a place, 1 for rows, of which the first has no id.
 #[derive(Clone, Copy)]
 pub struct Filing {
     pub bins: usize,
-    pub fill: bool,
+    pub pass: Pass,
     pub key: usize,
     pub shift: usize,
 }
@@ -28,14 +28,10 @@ fn file_name(
     f: Filing,
 )
     requires { NameRoom text.now names.now n name.now out.old next.old f }
-    ensures { FiledBy f.bins f.fill out.old out.new next.old next.new (one f.key (numbered (ids_from text.now names.now n 0) f.shift name.now)) }
+    ensures { FiledBy f.bins f.pass out.old out.new next.old next.new (one f.key (numbered (ids_from text.now names.now n 0) f.shift name.now)) }
 {
-    let bins = f.bins;
-    let fill = f.fill;
-    let key = f.key;
-    let shift = f.shift;
-    let number = place_of(text, names, n, name) + shift;
-    file_item(out, next, bins, fill, key, wide(number));
+    let number = place_of(text, names, n, name) + f.shift;
+    file_item(out, next, f.bins, f.pass, f.key, number as u64);
 }
 
 // All names of the value.
@@ -49,9 +45,10 @@ pub fn file_names(
     f: Filing,
 )
     requires { NamesRoom text.now names.now n value.now out.old next.old f }
-    ensures { FiledBy f.bins f.fill out.old out.new next.old next.new (names_items f.key f.shift (ids_from text.now names.now n 0) value.now) }
+    ensures { FiledBy f.bins f.pass out.old out.new next.old next.new (names_items f.key f.shift (ids_from text.now names.now n 0) value.now) }
 {
     let mut i = 0;
+    // Kept: no `for` is plainer, since a turn goes over a space or over a whole name.
     while i < value.len() {
         let space = is_space(value[i]);
         if space {

@@ -15,13 +15,6 @@ pub struct Counts {
     pub transitions: usize,
 }
 
-fn narrow(x: usize) -> u16
-    requires { x < 65536 }
-    ensures { result ≡ x }
-{
-    x as u16
-}
-
 // One row or transition more, if the tag says one.
 pub fn counted(c: Counts, said: Said) -> Counts
     requires { CountRoom c }
@@ -54,7 +47,7 @@ fn note_source(sources: &mut [u16], m: usize, said: Said)
         Said::Row(q) => {}
         Said::List(i) => {}
         Said::Transition(i) => {
-            sources[m] = narrow(i);
+            sources[m] = i as u16;
         }
         Said::Action(b, i) => {}
     }
@@ -93,6 +86,7 @@ pub fn sources(
         rows: 0,
         transitions: 0,
     };
+    // Kept: each turn goes on from the one before and writes the places that it reads, which no `for` does.
     loop {
         let next = next_turn(text, levels, cells, spots, t);
         let walk = next.walk;

@@ -29,12 +29,9 @@ fn filing(p: Plan, key: usize, shift: usize) -> Filing
     requires { Few p.rows p.transitions }
     ensures { result ≡ filing_of p key shift }
 {
-    let n = p.rows;
-    let t = p.transitions;
-    let fill = p.fill;
     Filing {
-        bins: bin_count(n, t),
-        fill,
+        bins: bin_count(p.rows, p.transitions),
+        pass: p.pass,
         key,
         shift,
     }
@@ -52,7 +49,7 @@ fn file_value(
     f: Filing,
 )
     requires { ValueRoom text.now cells.now names.now n word out.old next.old f }
-    ensures { FiledBy f.bins f.fill out.old out.new next.old next.new (names_items f.key f.shift (ids_from text.now names.now n 0) (value_at text.now cells.now word)) }
+    ensures { FiledBy f.bins f.pass out.old out.new next.old next.new (names_items f.key f.shift (ids_from text.now names.now n 0) (value_at text.now cells.now word)) }
 {
     let from = value_from(cells, word);
     let to = value_to(cells, word);
@@ -72,7 +69,7 @@ fn file_transition(
     other: usize,
 )
     requires { TransitionRoom text.now cells.now ids.now slots.now out.old next.old p key other }
-    ensures { FiledBy (bin_count p.rows p.transitions) p.fill out.old out.new next.old next.new (transition_items text.now cells.now ids.now slots.now p key other) }
+    ensures { FiledBy (bin_count p.rows p.transitions) p.pass out.old out.new next.old next.new (transition_items text.now cells.now ids.now slots.now p key other) }
 {
     let rows = p.ids;
     let names = p.slots;
@@ -125,7 +122,7 @@ pub fn file_end(
     element: u8,
 )
     requires { EndRoom ranks.now out.old next.old p spot shape element }
-    ensures { FiledBy (bin_count p.rows p.transitions) p.fill out.old out.new next.old next.new (end_items p.rows p.transitions ranks.now spot shape element) }
+    ensures { FiledBy (bin_count p.rows p.transitions) p.pass out.old out.new next.old next.new (end_items p.rows p.transitions ranks.now spot shape element) }
 {
     let ended = ends_if(shape, element);
     if ended {

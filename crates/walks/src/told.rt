@@ -8,14 +8,8 @@ ghost use Rattle.walks.specs.Told.{value_at, PlaceRoom, DecimalRoom, CondRoom, C
 
 use find::decimal_of;
 use tags::{is_stated, value_from, value_to};
-use values::conditions::{Condition, condition_in};
+use values::conditions::condition_in;
 use values::noted::place_of;
-
-pub fn wide(x: usize) -> u64
-    ensures { result ≡ x }
-{
-    x as u64
-}
 
 // The place of the value among the names.
 pub fn place_at(text: &[u8], cells: &[u16], names: &[u16], n: usize, word: usize) -> u64
@@ -24,7 +18,7 @@ pub fn place_at(text: &[u8], cells: &[u16], names: &[u16], n: usize, word: usize
 {
     let from = value_from(cells, word);
     let to = value_to(cells, word);
-    wide(place_of(text, names, n, &text[from..to]))
+    place_of(text, names, n, &text[from..to]) as u64
 }
 
 // The same, or 65,535 for an attribute that is not stated.
@@ -58,10 +52,9 @@ fn row_in(text: &[u8], ids: &[u16], n: usize, value: &[u8]) -> u64
     requires { CondRoom text.now ids.now n value.now }
     ensures { result ≡ row_in (ids_from text.now ids.now n 0) value.now }
 {
-    let condition = condition_in(value);
-    match condition {
-        Condition::Other => wide(place_of(text, ids, n, &value[0..0]) + 1),
-        Condition::In(a, b) => wide(place_of(text, ids, n, &value[a..b]) + 1),
+    match condition_in(value) {
+        None => (place_of(text, ids, n, &value[0..0]) + 1) as u64,
+        Some(name) => (place_of(text, ids, n, &value[name.from..name.to]) + 1) as u64,
     }
 }
 

@@ -6,8 +6,9 @@ use mathlib.Core.List.{List, [], ◌∷◌, ◌++◌, map, append_assoc}
 use Prim.Native.Nat.{ℕ, zero, suc, ◌≤◌, ◌<◌}
 use borrow.Author.Tests.{eqb-true, eqb-false, eq-eqb, ne_eqb, lt-ltb, le-ltb}
 use Rattle.definition.specs.Rows.{mem}
-use Rattle.definition.specs.Chart.{kind, parent, is_root}
-use Rattle.definition.specs.Tables.{no_number, row_count, row_cell, parent_at, chart_of}
+use Rattle.definition.specs.declared.Kind.{Kind}
+use Rattle.definition.specs.Chart.{kind_no, kind, parent, is_root}
+use Rattle.definition.specs.Tables.{no_number, row_count, kind_at, row_cell, parent_at, chart_of}
 use Rattle.definition.specs.Tree.{ancestors}
 use Rattle.definition.specs.Rules.{parent_fits, may_stand}
 use Rattle.laws.specs.Bools.{no, and_right, and3, bool_case}
@@ -16,6 +17,7 @@ use Rattle.accepted.specs.Tree.{Tree, parent_fits_lem, climb_one, low}
 use Rattle.accepted.specs.Sound.{accepted_sound}
 use Rattle.tables.specs.Ranges.{InTables}
 use Rattle.reading.specs.Print.{kind_name, Around, close_text, close_to}
+use Rattle.elements.specs.Starts.{kind_name_of}
 use Rattle.spell.specs.Laid.{Laid, laid_as, laid_then, Left, left_begin, left_turn, left_end}
 use Rattle.spell.specs.Ready.{Ready}
 
@@ -41,9 +43,10 @@ path_of numbers i = cond (ltb i (row_count numbers)) (map (tag_of numbers) (i �
 abbrev pub end_text : List ℕ → ℕ → List ℕ
 end_text numbers i = (60 ∷ 47 ∷ []) ++ kind_name (row_cell numbers i 0) ++ (62 ∷ [])
 
-pub end_laid : (numbers : List ℕ) (i k : ℕ) → k ≡ row_cell numbers i 0 → {place o1 o2 out : List ℕ} {from a1 a2 at : ℕ} → Laid (60 ∷ 47 ∷ []) place from o1 a1 → Laid (kind_name k) o1 a1 o2 a2 → Laid (62 ∷ []) o2 a2 out at →
+pub end_laid : (numbers : List ℕ) (i : ℕ) (k : Kind) → k ≡ kind_at numbers i → {place o1 o2 out : List ℕ} {from a1 a2 at : ℕ} → Laid (60 ∷ 47 ∷ []) place from o1 a1 → Laid (kind_name (kind_no k)) o1 a1 o2 a2 → Laid (62 ∷ []) o2 a2 out at →
     Laid (end_text numbers i) place from out at
-end_laid numbers i k e p q r = laid_then (laid_then p (laid_as (ap kind_name (sym e)) q)) r
+unfolding kind_at
+end_laid numbers i k e p q r = laid_then (laid_then p (laid_as (sym (kind_name_of (row_cell numbers i 0)) ∙ ap (λ (x : Kind). kind_name (kind_no x)) (sym e)) q)) r
 
 -- ---- the path
 

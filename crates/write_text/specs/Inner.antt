@@ -7,8 +7,10 @@ use mathlib.Core.List.{List, [], ◌∷◌, ◌++◌, map}
 use Prim.Native.Nat.{ℕ, zero, suc, ◌+◌, ◌-◌, ◌≤◌, ◌<◌}
 use Rattle.std.proofs.Math.Dec.{eqb}
 use borrow.Author.Tests.{eq-eqb, ne_eqb, le-leb, lt-leb, le-ltb, lt-ltb, not-true, not-false}
+use Rattle.definition.specs.declared.Kind.{Kind}
+use Rattle.definition.specs.Chart.{is_history}
 use Rattle.definition.specs.Rows.{flat, from, is_empty}
-use Rattle.definition.specs.Tables.{row_count, action_count, row_cell, parent_at}
+use Rattle.definition.specs.Tables.{row_count, action_count, kind_at, row_cell, parent_at}
 use Rattle.tables.specs.Ranges.{row_fits}
 use Rattle.reading.specs.Content.{Act, Row, Transition, of_source}
 use Rattle.reading.specs.Layout.{content, acts_at, row_back, transition_back}
@@ -16,7 +18,7 @@ use Rattle.reading.specs.Print.{block_element, is_history_kind, list_text, trans
 use Rattle.spell.specs.Laid.{Laid, laid_as, laid_then}
 use Rattle.spell.specs.Ready.{RowReady}
 use Rattle.spell.specs.Blocks.{BlockReady}
-use Rattle.elements.specs.Lists.{list_empty, block_empty}
+use Rattle.elements.specs.Lists.{history_kind, list_empty, block_empty}
 use Rattle.write_text.specs.Runs.{TransitionsReady, run_text}
 
 -- no blocks, no transitions, no list that stands as an element
@@ -34,7 +36,11 @@ and_no : (b : Bool) → false ≡ (b && false)
 and_no true = refl
 and_no false = refl
 
-module _ (numbers : List ℕ) (i t end entered exited listed kind held : ℕ) where
+kind_past : (numbers : List ℕ) (i : ℕ) (kind : Kind) (past : Bool) → kind ≡ kind_at numbers i → past ≡ is_history kind → leb 4 (row_cell numbers i 0) ≡ past
+unfolding kind_at
+kind_past numbers i kind past e g = sym (history_kind (row_cell numbers i 0)) ∙ ap is_history (sym e) ∙ sym g
+
+module _ (numbers : List ℕ) (i t end entered exited listed held : ℕ) where
   pub blank_entry : entered ≡ row_cell numbers i 4 → (entered ≡ 0 → ⊥) → false ≡ is_blank numbers i t end
   unfolding is_blank
   blank_entry e d = rw (ne_eqb (row_cell numbers i 4) 0 (λ q. d (e ∙ q)))
@@ -55,15 +61,15 @@ module _ (numbers : List ℕ) (i t end entered exited listed kind held : ℕ) wh
         blank_list e z = rw (eq-eqb (row_cell numbers i 4) 0 (sym e4 ∙ n4), eq-eqb (row_cell numbers i 6) 0 (sym e6 ∙ n6), eq-eqb t end q, eq-eqb (row_cell numbers i 8) 0 (sym e ∙ z))
 
         module _ (e8 : listed ≡ row_cell numbers i 8) (n8 : listed ≡ 0 → ⊥) where
-          pub blank_history : kind ≡ row_cell numbers i 0 → 4 ≤ kind → false ≡ is_blank numbers i t end
+          pub blank_history : (kind : Kind) (past : Bool) → kind ≡ kind_at numbers i → past ≡ is_history kind → past ≡ true → false ≡ is_blank numbers i t end
           unfolding is_blank
-          blank_history e l =
-              rw (eq-eqb (row_cell numbers i 4) 0 (sym e4 ∙ n4), eq-eqb (row_cell numbers i 6) 0 (sym e6 ∙ n6), eq-eqb t end q, ne_eqb (row_cell numbers i 8) 0 (λ z. n8 (e8 ∙ z)), le-leb 4 (row_cell numbers i 0) (omega arith))
+          blank_history kind past e g l =
+              rw (eq-eqb (row_cell numbers i 4) 0 (sym e4 ∙ n4), eq-eqb (row_cell numbers i 6) 0 (sym e6 ∙ n6), eq-eqb t end q, ne_eqb (row_cell numbers i 8) 0 (λ z. n8 (e8 ∙ z)), kind_past numbers i kind past e g ∙ l)
 
-          pub blank_block : kind ≡ row_cell numbers i 0 → kind < 4 → held ≡ row_cell numbers i 10 → eqb held 0 ≡ is_blank numbers i t end
+          pub blank_block : (kind : Kind) (past : Bool) → kind ≡ kind_at numbers i → past ≡ is_history kind → past ≡ false → held ≡ row_cell numbers i 10 → eqb held 0 ≡ is_blank numbers i t end
           unfolding is_blank
-          blank_block e l f =
-              rw (eq-eqb (row_cell numbers i 4) 0 (sym e4 ∙ n4), eq-eqb (row_cell numbers i 6) 0 (sym e6 ∙ n6), eq-eqb t end q, ne_eqb (row_cell numbers i 8) 0 (λ z. n8 (e8 ∙ z)), lt-leb 4 (row_cell numbers i 0) (omega arith), f)
+          blank_block kind past e g l f =
+              rw (eq-eqb (row_cell numbers i 4) 0 (sym e4 ∙ n4), eq-eqb (row_cell numbers i 6) 0 (sym e6 ∙ n6), eq-eqb t end q, ne_eqb (row_cell numbers i 8) 0 (λ z. n8 (e8 ∙ z)), kind_past numbers i kind past e g ∙ l, f)
 
 module _ (numbers : List ℕ) (i t end : ℕ) (blank : Bool) (e : blank ≡ is_blank numbers i t end) where
   pub bare_full : not blank ≡ true → false ≡ is_bare numbers i t end

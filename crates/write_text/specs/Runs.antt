@@ -1,7 +1,7 @@
 -- The transitions of a row stand one behind the other: the run from the first that is not of an earlier row.
 use Rattle.std.specs.Prelude.{◌≡◌, Bool, true, false, ◌&&◌, cond, eqb, leb}
 use Rattle.std.proofs.Math.Path.{refl, ap}
-use Rattle.std.proofs.Common.{sym, ◌∙◌, add-one}
+use Rattle.std.proofs.Common.{sym, subst, ◌∙◌, add-one}
 use Rattle.std.proofs.Math.Bool.{not}
 use mathlib.Core.List.{List, [], ◌∷◌, ◌++◌, map, append-nil}
 use Prim.Native.Nat.{ℕ, zero, suc, ◌+◌, ◌-◌, ◌≤◌, ◌<◌}
@@ -62,8 +62,11 @@ module _ (numbers : List ℕ) (i t n : ℕ) where
       pub run_leave : e < n → (x ≡ i → ⊥) → Run numbers i t e
       run_leave l d = let b = h.inside in let c = h.count in record { above = h.above; inside = omega arith; own = h.own; other = λ _ z. d (s ∙ z) }
 
-    pub run_done : n ≤ e → Run numbers i t e
-    run_done l = let b = h.inside in let c = h.count in record { above = h.above; inside = omega arith; own = h.own; other = λ m _. absurd (omega arith) }
+    pub run_done : n ≤ e → Run numbers i t n
+    run_done l =
+        let b = h.inside in let c = h.count in let q : e ≡ n = omega arith in
+        let so : Run numbers i t e = record { above = h.above; inside = omega arith; own = h.own; other = λ m _. absurd (omega arith) } in
+        subst (Run numbers i t) q so
 
 -- ---- in an accepted chart the runs follow each other
 

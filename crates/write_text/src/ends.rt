@@ -4,6 +4,7 @@ ghost use Rattle.spell.specs.Laid.{Laid};
 ghost use Rattle.write_text.specs.Ends.{TreeReady, TreeRow, end_text, path_of};
 
 use elements::starts::lay_kind;
+use numbers::Row;
 use spell::parts::{lay_byte, lay_part};
 use spell::values::row_number;
 use tables::columns;
@@ -13,7 +14,8 @@ fn lay_end(numbers: &[u64], i: u64, out: &mut [u8], at: usize) -> usize
     ensures { Laid (end_text numbers.now i) out.old at out.new result }
 {
     let begun = lay_part(b"</", out, at);
-    let named = lay_kind(row_number(numbers, i, columns::KIND), out, begun);
+    let kind = tables::kind_of(numbers, Row(i as u8));
+    let named = lay_kind(kind, out, begun);
     lay_byte(b'>', out, named)
 }
 
@@ -25,6 +27,7 @@ pub fn lay_ends(numbers: &[u64], i: u64, to: u64, out: &mut [u8], at: usize) -> 
     let n = tables::row_count(numbers);
     let mut next = at;
     let mut j = i;
+    // Kept: no `for` is plainer, since a row's parent stands in its own cells.
     while j < n {
         if j == to {
             return next;

@@ -29,7 +29,7 @@ fn is_blank(numbers: &[u64], r: Row, t: u64, end: u64) -> bool
     if tables::row_cell(numbers, r, columns::LIST + 1) == 0 {
         return true;
     }
-    if kinds::SHALLOW <= tables::row_cell(numbers, r, columns::KIND) {
+    if kinds::is_history(tables::kind_of(numbers, r)) {
         return false;
     }
     tables::row_cell(numbers, r, columns::LIST_BLOCK + 1) == 0

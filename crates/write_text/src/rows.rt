@@ -87,13 +87,11 @@ pub fn lay_rows(numbers: &[u64], names: &[u8], out: &mut [u8]) -> usize
     let mut at = 0;
     let mut inmost = limits::NO_NUMBER;
     let mut t = 0;
-    let mut i = 0;
-    while i < n {
+    for i in 0..n {
         let next = lay_next(numbers, names, i, inmost, t, out, at);
         at = next.at;
         inmost = next.inmost;
         t = next.t;
-        i += 1;
     }
     lay_ends(numbers, inmost, limits::NO_NUMBER, out, at)
 }

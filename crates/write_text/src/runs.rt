@@ -25,15 +25,13 @@ pub fn run_end(numbers: &[u64], i: u64, t: u64) -> u64
     ensures { Run numbers.now i t result }
 {
     let n = tables::transition_count(numbers);
-    let mut e = t;
-    while e < n {
+    for e in t..n {
         let source = source_of(numbers, e);
         if source != i {
             return e;
         }
-        e += 1;
     }
-    e
+    n
 }
 
 // The transitions from t on, before transition `end`.
@@ -49,10 +47,8 @@ pub fn lay_transitions(
     ensures { Laid (flat (transition_text (content numbers.now names.now).rows) (map (transition_back numbers.now names.now) (from (end - t) t))) out.old at out.new result }
 {
     let mut next = at;
-    let mut k = t;
-    while k < end {
+    for k in t..end {
         next = lay_transition(numbers, names, Transition(k as u16), out, next);
-        k += 1;
     }
     next
 }

@@ -1,15 +1,15 @@
 use borrow.Author.Rules.{rules}
-use Rattle.find.specs.Digits.{read_start, read_digit, read_more, read_end}
+use Rattle.find.specs.Digits.{read_start, read_low, read_more, read_end}
 use Rattle.find.proofs.decimal_of.Goals as goal
 
-pub loop-i-init : goal.loop-i-init
-loop-i-init c = search (rules, read_start)
+pub loop-b-init : goal.loop-b-init
+loop-b-init c = search (rules, read_start)
 
-pub with_digit-n-requires : goal.with_digit-n-requires
-with_digit-n-requires c = search (rules, read_digit)
+pub overflow_sub-b : goal.overflow_sub-b
+overflow_sub-b c = search (rules, read_low)
 
-pub loop-i-preserved : goal.loop-i-preserved
-loop-i-preserved c = search (rules, read_more)
+pub loop-b-preserved : goal.loop-b-preserved
+loop-b-preserved c = search (rules, read_more)
 
 pub returns : goal.returns
 returns c = search (rules, read_end)

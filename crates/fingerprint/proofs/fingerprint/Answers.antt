@@ -1,5 +1,6 @@
-use Rattle.fingerprint.specs.Fingerprint.{both}
+use Rattle.std.proofs.Common.{rules}
+use Rattle.fingerprint.specs.Fingerprint.{fingerprint_of_folds}
 use Rattle.fingerprint.proofs.fingerprint.Goals as goal
 
 pub returns : goal.returns
-returns c = both _ _ _ _ c.mix_cells-sum.ensures c.mix_bytes.ensures
+returns c = fingerprint_of_folds _ _ _ (search rules)

@@ -15,7 +15,7 @@ pub returns-then-not-mark_all : goal.returns-then-not-mark_all
 returns-then-not-mark_all c = bad_places _ _ (sym c.if-not-mark_all.true ∙ c.mark_all.ensures.told)
 
 pub loop-i-init : goal.loop-i-init
-loop-i-init c = let few = c.requires.0.tables.sized.counts.rows in let p = c.mark_all.ensures.done c.if-not-mark_all.false in (p.good, rw c.row_count-i.ensures (judge_begin _ _ c.requires.0.sound (omega arith) _ p))
+loop-i-init c = let few = c.requires.0.tables.sized.counts.rows in let p = c.mark_all.ensures.done c.if-not-mark_all.false in (p.good, rw c.row_count-n.ensures (judge_begin _ _ c.requires.0.sound (omega arith) _ p))
 
 pub judge_row-requires : goal.judge_row-requires
 judge_row-requires c = let m = c.loop-i.invariant.1.most in (record { ready = c.requires.0; inside = omega arith }, c.loop-i.invariant.1.size)
@@ -25,9 +25,6 @@ shape_of-marks-then-not-judge_row c = c.judge_row.ensures.size ∙ sym c.require
 
 pub returns-then-not-judge_row : goal.returns-then-not-judge_row
 returns-then-not-judge_row c = let few = c.requires.0.tables.sized.counts.rows in judge_stop _ _ c.requires.0.sound (omega arith) c.loop-i.invariant.0 _ _ c.loop-i.i (c.loop-i.i - 1) _ (omega arith) c.loop-i.invariant.1 c.judge_row.ensures c.if-not-judge_row.true
-
-pub loop-i-smaller : goal.loop-i-smaller
-loop-i-smaller c = omega arith
 
 pub loop-i-preserved : goal.loop-i-preserved
 loop-i-preserved c = let few = c.requires.0.tables.sized.counts.rows in (c.loop-i.invariant.0, judge_turn _ _ c.requires.0.sound (omega arith) c.loop-i.invariant.0 _ _ c.loop-i.i (c.loop-i.i - 1) _ (omega arith) c.loop-i.invariant.1 c.judge_row.ensures c.if-not-judge_row.false)

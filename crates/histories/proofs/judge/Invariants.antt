@@ -8,6 +8,3 @@ use Rattle.histories.proofs.judge.Given as goal
 
 abbrev pub invariant-loop-i : goal.invariant-loop-i
 invariant-loop-i l = (all (is_good (chart_of l.chart) l.history) (from (row_count l.chart) 0) ≡ true) × Judging l.chart l.history l.marks l.i
-
-abbrev pub decreases-loop-i : goal.decreases-loop-i
-decreases-loop-i l = l.i

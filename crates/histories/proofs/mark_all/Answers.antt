@@ -17,9 +17,6 @@ shape_of-marks-then-not-mark_place c = c.mark_place.ensures.size ∙ sym c.requi
 pub returns-then-not-mark_place : goal.returns-then-not-mark_place
 returns-then-not-mark_place c = put_stop _ _ _ _ c.loop-i.i _ c.mark_place.ensures (ap not c.if-not-mark_place.true) (let e = c.row_count-n.ensures in omega arith)
 
-pub loop-i-smaller : goal.loop-i-smaller
-loop-i-smaller c = omega arith
-
 pub loop-i-preserved : goal.loop-i-preserved
 loop-i-preserved c = (omega arith, put_turn _ _ _ _ c.loop-i.i _ c.loop-i.invariant.1 c.mark_place.ensures c.if-not-mark_place.false)
 

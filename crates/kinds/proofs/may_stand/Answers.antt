@@ -2,4 +2,4 @@ use Rattle.kinds.specs.Stands.{table_says}
 use Rattle.kinds.proofs.may_stand.Goals as goal
 
 pub returns : goal.returns
-returns c = rw (c.kind_number-p.ensures.0, c.kind_number-c.ensures.0) (table_says _ _)
+returns c = rw (c.from-p.ensures, c.from-c.ensures) (table_says _ _)

@@ -1,4 +1,4 @@
-use Prim.Native.Nat.{◌-◌}
+use Rattle.rowset.specs.Iterating.{Passing}
 use Rattle.rowset.specs.Visits.{Remains}
 use Rattle.definition.specs.Rows.{any}
 use Rattle.follower.specs.Follower.{is_final_under_root}
@@ -6,7 +6,4 @@ use Rattle.definition.specs.Tables.{chart_of}
 use Rattle.legality.proofs.has_final.Given as goal
 
 abbrev pub invariant-loop-r : goal.invariant-loop-r
-invariant-loop-r l = Remains (any (is_final_under_root (chart_of l.chart))) l.top l.k
-
-abbrev pub decreases-loop-r : goal.decreases-loop-r
-decreases-loop-r l = 256 - l.k
+invariant-loop-r l = Passing (λ k. Remains (any (is_final_under_root (chart_of l.chart))) l.initial.r-iterator.set k) l.initial.r-iterator.set l.r-iterator

@@ -1,6 +1,6 @@
 use mathlib.Core.Path.{◌≡◌}
 use mathlib.Core.Bool.{true}
-use Prim.Native.Nat.{◌-◌}
+use Rattle.rowset.specs.Iterating.{Passing}
 use Rattle.rowset.specs.Visits.{Remains}
 use Rattle.rowset.specs.Member.{rows_of}
 use Rattle.definition.specs.Rows.{all, is_set}
@@ -9,7 +9,4 @@ use Rattle.definition.specs.Tables.{row_count, chart_of}
 use Rattle.legality.proofs.is_legal.Given as goal
 
 abbrev pub invariant-loop-r : goal.invariant-loop-r
-invariant-loop-r l = (is_set (row_count l.chart) (rows_of l.conf) ≡ true) × Remains (all (fits_row (chart_of l.chart) (rows_of l.conf))) l.conf l.k
-
-abbrev pub decreases-loop-r : goal.decreases-loop-r
-decreases-loop-r l = 256 - l.k
+invariant-loop-r l = Passing (λ k. (is_set (row_count l.chart) (rows_of l.conf) ≡ true) × Remains (all (fits_row (chart_of l.chart) (rows_of l.conf))) l.conf k) l.conf l.r-iterator

@@ -7,6 +7,3 @@ use Rattle.match_bench.proofs.any_one_by_one.Given as goal
 
 abbrev pub invariant-loop-k : goal.invariant-loop-k
 invariant-loop-k l = (l.k ≤ 4) × (any (slot_matches l.slots l.event) (from l.k 0) ≡ false)
-
-abbrev pub decreases-loop-k : goal.decreases-loop-k
-decreases-loop-k l = 4 - l.k

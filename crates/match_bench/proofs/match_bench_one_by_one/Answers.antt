@@ -1,8 +1,8 @@
-use Rattle.match_bench.specs.Ways.{answer_other, answer_four}
+use Rattle.match_bench.specs.Ways.{answer_other, answer_four, one_or_none}
 use Rattle.match_bench.proofs.match_bench_one_by_one.Goals as goal
 
 pub returns-then-slots : goal.returns-then-slots
 returns-then-slots c = answer_other _ _ c.if-slots.true
 
 pub returns : goal.returns
-returns c = answer_four _ _ _ _ c.if-slots.false c.any_one_by_one.ensures c.number.ensures
+returns c = answer_four _ _ _ _ c.if-slots.false c.any_one_by_one.ensures (one_or_none _ _ c.from.ensures)

@@ -3,13 +3,14 @@ use borrow.Author.Rules.{rules}
 use Rattle.follower.specs.Selection.{is_true}
 use Rattle.rowset.specs.Member.{rows_of}
 use Rattle.tables.specs.Parts.{condition_of}
-use Rattle.tables.specs.declared.Condition.{Condition}
+use Rattle.numbers.specs.declared.Row.{Row}
+use Rattle.std.specs.declared.option.Option.{Option}
 use Rattle.matching.proofs.is_true.Goals as goal
 
-pub returns-in-Always : goal.returns-in-Always
+pub returns-in-None : goal.returns-in-None
 unfolding is_true
-returns-in-Always c = search rules
+returns-in-None c = search rules
 
-pub returns-in-In : goal.returns-in-In
+pub returns-in-Some : goal.returns-in-Some
 unfolding is_true
-returns-in-In c = c.has.ensures ∙ ap (λ (x : Condition). is_true (rows_of c.args.conf) (condition_of x)) (sym c.in-In.is)
+returns-in-Some c = c.has.ensures ∙ ap (λ (x : Option Row). is_true (rows_of c.args.conf) (condition_of x)) (sym c.in-Some.is)

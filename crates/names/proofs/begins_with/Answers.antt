@@ -45,16 +45,19 @@ loop-i-init c = (omega arith, omega arith, refl)
 pub returns-then-event-i : goal.returns-then-event-i
 returns-then-event-i c = let l = c.loop-i in too_short _ _ l.i l.invariant.2 (omega arith) (omega arith)
 
-pub returns-then-descriptor-i : goal.returns-then-descriptor-i
-returns-then-descriptor-i c = let l = c.loop-i in differs _ _ l.i l.invariant.2 (omega arith) (omega arith) c.if-descriptor-i.true
+pub returns-then-b-event : goal.returns-then-b-event
+returns-then-b-event c = let l = c.loop-i in differs _ _ l.i l.invariant.2 (omega arith) (omega arith) c.if-b-event.true
 
 pub loop-i-preserved : goal.loop-i-preserved
 loop-i-preserved c =
     let l = c.loop-i in
-    (omega arith, omega arith, further _ _ l.i l.invariant.2 (omega arith) (omega arith) c.if-descriptor-i.false)
+    (omega arith, omega arith, further _ _ l.i l.invariant.2 (omega arith) (omega arith) c.if-b-event.false)
 
-pub returns-then-event-i-2 : goal.returns-then-event-i-2
-returns-then-event-i-2 c = let l = c.loop-i in whole _ _ l.i l.invariant.2 (omega arith) (omega arith)
+pub returns-then-event-n : goal.returns-then-event-n
+returns-then-event-n c = let l = c.loop-i in whole _ _ l.i l.invariant.2 (omega arith) (omega arith)
 
 pub returns : goal.returns
-returns c = let l = c.loop-i in at_dot _ _ l.i l.invariant.2 (omega arith) (omega arith)
+returns c =
+    let l = c.loop-i in
+    let e : l.i ≡ length c.args.descriptor.now = omega arith in
+    rw (← e) (at_dot _ _ l.i l.invariant.2 (omega arith) (omega arith))

@@ -7,6 +7,3 @@ use Rattle.names.proofs.begins_with.Given as goal
 
 abbrev pub invariant-loop-i : goal.invariant-loop-i
 invariant-loop-i l = (l.i ≤ length l.descriptor) × (l.i ≤ length l.event) × (stops l.descriptor l.event ≡ stops (drop l.i l.descriptor) (drop l.i l.event))
-
-abbrev pub decreases-loop-i : goal.decreases-loop-i
-decreases-loop-i l = length l.descriptor - l.i

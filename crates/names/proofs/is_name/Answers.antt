@@ -37,26 +37,26 @@ module _ (s : List ℕ) (i : ℕ) (fresh : Bool) (short : length s ≤ 63) (pass
 pub returns-then-s-gt-MOST_BYTES : goal.returns-then-s-gt-MOST_BYTES
 returns-then-s-gt-MOST_BYTES c = too_long _ (omega arith)
 
-pub loop-i-init : goal.loop-i-init
-loop-i-init c = (omega arith, omega arith, refl)
+pub loop-b-init : goal.loop-b-init
+loop-b-init c = (omega arith, omega arith, refl)
 
 pub returns-then-not-is_name_byte : goal.returns-then-not-is_name_byte
 returns-then-not-is_name_byte c =
-    let l = c.loop-i in
-    other_byte _ l.i (eqb l.last 46) l.invariant.1 l.invariant.2 (omega arith) (sym c.is_name_byte.ensures ∙ c.if-not-is_name_byte.true)
+    let l = c.loop-b in
+    other_byte _ l.b-index (eqb l.last 46) l.invariant.1 l.invariant.2 (omega arith) (sym c.is_name_byte.ensures ∙ c.if-not-is_name_byte.true)
 
 pub returns-then-b-last : goal.returns-then-b-last
 returns-then-b-last c =
-    let l = c.loop-i in
-    empty_token _ l.i (eqb l.last 46) l.invariant.1 l.invariant.2 (omega arith) (sym c.is_name_byte.ensures ∙ c.if-not-is_name_byte.false) c.if-b-last.true
+    let l = c.loop-b in
+    empty_token _ l.b-index (eqb l.last 46) l.invariant.1 l.invariant.2 (omega arith) (sym c.is_name_byte.ensures ∙ c.if-not-is_name_byte.false) c.if-b-last.true
 
-pub loop-i-preserved : goal.loop-i-preserved
-loop-i-preserved c =
-    let l = c.loop-i in (
+pub loop-b-preserved : goal.loop-b-preserved
+loop-b-preserved c =
+    let l = c.loop-b in (
       omega arith,
       l.invariant.1,
-      further _ l.i (eqb l.last 46) l.invariant.1 l.invariant.2 (omega arith) (sym c.is_name_byte.ensures ∙ c.if-not-is_name_byte.false) c.if-b-last.false,
+      further _ l.b-index (eqb l.last 46) l.invariant.1 l.invariant.2 (omega arith) (sym c.is_name_byte.ensures ∙ c.if-not-is_name_byte.false) c.if-b-last.false,
     )
 
 pub returns : goal.returns
-returns c = let l = c.loop-i in ended _ l.i (eqb l.last 46) l.invariant.1 l.invariant.2 (omega arith)
+returns c = let l = c.loop-b in ended _ l.b-index (eqb l.last 46) l.invariant.1 l.invariant.2 (omega arith)

@@ -1,13 +1,15 @@
-use mathlib.Core.Path.{sym}
-use borrow.Author.Tests.{eq-eqb, ne_eqb}
+use Rattle.std.proofs.Common.{◌∙◌, sym, rules}
+use borrow.Author.Tests.{eq-eqb}
 use Rattle.onepass.specs.Pass.{is_byte}
-use Rattle.onepass.specs.Four.{each_byte}
+use Rattle.onepass.specs.Four.{each_byte, every_byte}
 use Rattle.onepass.proofs.agree.Goals as goal
 
-pub returns-then-i-eq-SLOT : goal.returns-then-i-eq-SLOT
-unfolding each_byte is_byte
-returns-then-i-eq-SLOT c = sym (rw (eq-eqb _ _ c.if-i-eq-SLOT.true))
+pub returns-then-i-ne-SLOT : goal.returns-then-i-ne-SLOT
+unfolding is_byte
+returns-then-i-ne-SLOT c =
+    let m = c.map.result in
+    c.all.ensures ∙ every_byte (is_byte c.args.x) c.args.names.now c.args.q c.args.i m.first m.second m.third m.fourth c.if-i-ne-SLOT.true (search rules) (search rules) (search rules) (search rules)
 
-pub returns : goal.returns
-unfolding each_byte is_byte
-returns c = sym (rw (ne_eqb _ _ c.if-i-eq-SLOT.false))
+pub returns-else-i-ne-SLOT : goal.returns-else-i-ne-SLOT
+unfolding each_byte
+returns-else-i-ne-SLOT c = rw (eq-eqb _ _ c.if-i-ne-SLOT.false)

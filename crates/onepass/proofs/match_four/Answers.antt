@@ -1,4 +1,5 @@
-use mathlib.Core.Path.{refl, sym, ap, ◌∙◌}
+use mathlib.Core.Path.{◌≡◌, refl, sym, ap, ◌∙◌}
+use lib.ListN.{length}
 use mathlib.Core.Bool.{not}
 use native.Mathlib.Omega.{arith}
 use Rattle.onepass.specs.Four.{lives_own, live_inside, heads_begin, heads_turn, heads_end, heads_parted, heads_settled, again_followed, again_on}
@@ -43,7 +44,9 @@ loop-i-preserved c =
     ]
 
 pub finish-requires : goal.finish-requires
-finish-requires c = (c.requires, c.loop-i.invariant.0)
+finish-requires c = let l = c.loop-i.invariant.0 in (c.requires, omega arith)
 
 pub returns : goal.returns
-returns c = heads_end _ _ _ c.requires _ _ _ c.loop-i-test.false c.loop-i.invariant.1 c.finish.ensures
+returns c =
+    let e : c.loop-i.i ≡ length c.args.event.now = omega arith in
+    heads_end _ _ _ c.requires _ _ _ (omega arith) (rw e at c.loop-i.invariant.1) c.finish.ensures

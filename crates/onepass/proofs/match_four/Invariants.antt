@@ -5,6 +5,3 @@ use Rattle.onepass.proofs.match_four.Given as goal
 
 abbrev pub invariant-loop-i : goal.invariant-loop-i
 invariant-loop-i l = (l.i ≤ 64) × Heads l.names l.at l.event l.i l.p × Lives l.at l.p l.q
-
-abbrev pub decreases-loop-i : goal.decreases-loop-i
-decreases-loop-i l = length l.event - l.i

@@ -7,6 +7,3 @@ use Rattle.room.proofs.rows_room.Given as goal
 
 abbrev pub invariant-loop-i : goal.invariant-loop-i
 invariant-loop-i l = (l.rows ≡ row_count l.chart) × Added (add_row (chart_of l.chart)) most_row_room l.rows l.i l.sum
-
-abbrev pub decreases-loop-i : goal.decreases-loop-i
-decreases-loop-i l = l.rows - l.i

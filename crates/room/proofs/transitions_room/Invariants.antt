@@ -7,6 +7,3 @@ use Rattle.room.proofs.transitions_room.Given as goal
 
 abbrev pub invariant-loop-t : goal.invariant-loop-t
 invariant-loop-t l = (l.n ≡ transition_count l.chart) × Added (add_transition (chart_of l.chart)) most_transition_room l.n l.t l.sum
-
-abbrev pub decreases-loop-t : goal.decreases-loop-t
-decreases-loop-t l = l.n - l.t

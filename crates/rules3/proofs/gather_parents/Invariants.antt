@@ -7,6 +7,3 @@ use Rattle.rules3.proofs.gather_parents.Given as goal
 
 abbrev pub invariant-loop-i : goal.invariant-loop-i
 invariant-loop-i l = (1 ≤ l.i) × (l.i ≤ l.n) × Marks (is_child (chart_of l.numbers)) l.i l.children × Marks (is_history_of (chart_of l.numbers)) l.i l.histories
-
-abbrev pub decreases-loop-i : goal.decreases-loop-i
-decreases-loop-i l = l.n - l.i

@@ -8,6 +8,3 @@ use Rattle.rules3.proofs.parents_fit.Given as goal
 
 abbrev pub invariant-loop-i : goal.invariant-loop-i
 invariant-loop-i l = (l.i ≤ l.n) × (all (parent_fits (chart_of l.numbers)) (from l.i 0) ≡ true)
-
-abbrev pub decreases-loop-i : goal.decreases-loop-i
-decreases-loop-i l = l.n - l.i

@@ -3,4 +3,4 @@ use Rattle.rules3.proofs.set_of.Goals as goal
 
 pub returns : goal.returns
 unfolding set_of
-returns c = c.set_at.ensures
+returns c = rw c.from.ensures at c.set_at.ensures

@@ -24,9 +24,6 @@ set_of-above-requires c = let l = c.parent_row-p.ensures.row.below in let r = c.
 pub put_set-requires-in-loop-i : goal.put_set-requires-in-loop-i
 put_set-requires-in-loop-i c = let n = c.loop-i.invariant.1 in let r = c.loop-i.invariant.2.room in let s = c.loop-i.invariant.2.size in omega arith
 
-pub loop-i-smaller : goal.loop-i-smaller
-loop-i-smaller c = omega arith
-
 pub loop-i-preserved : goal.loop-i-preserved
 loop-i-preserved c = (
   omega arith,

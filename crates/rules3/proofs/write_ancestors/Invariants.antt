@@ -7,6 +7,3 @@ use Rattle.rules3.proofs.write_ancestors.Given as goal
 
 abbrev pub invariant-loop-i : goal.invariant-loop-i
 invariant-loop-i l = (1 ≤ l.i) × (l.n ≡ row_count l.numbers) × Filling (ancestors (chart_of l.numbers)) (row_count l.numbers) l.i l.initial.sets l.sets
-
-abbrev pub decreases-loop-i : goal.decreases-loop-i
-decreases-loop-i l = l.n - l.i

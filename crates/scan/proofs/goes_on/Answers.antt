@@ -3,10 +3,10 @@ use Rattle.std.proofs.lemmas.Bool.Decides.{nat_tests}
 use Rattle.grammar.specs.Grammar.{follows}
 use Rattle.scan.proofs.goes_on.Goals as goal
 
-pub returns-then-here : goal.returns-then-here
+pub returns-then-word_byte-b : goal.returns-then-word_byte-b
 unfolding follows
-returns-then-here c = grind (arith, nat_tests)
+returns-then-word_byte-b c = grind (arith, nat_tests)
 
-pub returns : goal.returns
+pub returns-else-word_byte-b : goal.returns-else-word_byte-b
 unfolding follows
-returns c = grind (arith, nat_tests)
+returns-else-word_byte-b c = grind (arith, nat_tests)

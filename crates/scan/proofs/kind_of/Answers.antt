@@ -1,6 +1,7 @@
+use Rattle.grammar.specs.Tables.{kinds}
 use Rattle.grammar.specs.Grammar.{kind_of}
 use Rattle.scan.proofs.kind_of.Goals as goal
 
 pub returns : goal.returns
-unfolding kind_of
-returns c = c.kind_cell.ensures
+unfolding kinds kind_of
+returns c = rw c.from.ensures at c.cell_of.ensures

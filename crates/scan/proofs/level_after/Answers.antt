@@ -3,18 +3,18 @@ use Rattle.std.proofs.lemmas.Bool.Decides.{nat_tests}
 use Rattle.grammar.specs.Grammar.{after}
 use Rattle.scan.proofs.level_after.Goals as goal
 
-pub returns-then-root : goal.returns-then-root
+pub returns-in-0 : goal.returns-in-0
 unfolding after
-returns-then-root c = grind (arith, nat_tests)
+returns-in-0 c = grind (arith, nat_tests)
 
-pub returns-then-initial : goal.returns-then-initial
+pub returns-in-5 : goal.returns-in-5
 unfolding after
-returns-then-initial c = grind (arith, nat_tests)
+returns-in-5 c = grind (arith, nat_tests)
 
-pub returns-then-within : goal.returns-then-within
+pub returns-in-11 : goal.returns-in-11
 unfolding after
-returns-then-within c = grind (arith, nat_tests)
+returns-in-11 c = grind (arith, nat_tests)
 
-pub returns : goal.returns
+pub returns-in_default : goal.returns-in_default
 unfolding after
-returns c = grind (arith, nat_tests)
+returns-in_default c = grind (arith, nat_tests)

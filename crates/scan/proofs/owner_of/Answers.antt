@@ -1,6 +1,7 @@
+use Rattle.grammar.specs.Tables.{owners}
 use Rattle.grammar.specs.Grammar.{owner}
 use Rattle.scan.proofs.owner_of.Goals as goal
 
 pub returns : goal.returns
-unfolding owner
-returns c = c.owner_cell.ensures
+unfolding owners owner
+returns c = rw c.from.ensures at c.cell.ensures

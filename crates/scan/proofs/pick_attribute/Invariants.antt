@@ -5,6 +5,3 @@ use Rattle.scan.proofs.pick_attribute.Given as goal
 
 abbrev pub invariant-loop-j : goal.invariant-loop-j
 invariant-loop-j l = (l.j ≤ 4) × (pick_attribute 4 0 l.e l.x l.w l.k l.b ≡ pick_attribute (4 - l.j) l.j l.e l.x l.w l.k l.b)
-
-abbrev pub decreases-loop-j : goal.decreases-loop-j
-decreases-loop-j l = 4 - l.j

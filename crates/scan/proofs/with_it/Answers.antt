@@ -1,6 +1,7 @@
+use Rattle.grammar.specs.Tables.{adds}
 use Rattle.grammar.specs.Grammar.{added}
 use Rattle.scan.proofs.with_it.Goals as goal
 
 pub returns : goal.returns
-unfolding added
-returns c = c.add_cell.ensures
+unfolding adds added
+returns c = rw c.from.ensures at c.cell_of.ensures

@@ -11,8 +11,8 @@ overflow_add-from c = search (rules, adding_sum)
 pub bounds-text-from : goal.bounds-text-from
 bounds-text-from c = search (rules, adding_at)
 
-pub loop-i-preserved-then-space : goal.loop-i-preserved-then-space
-loop-i-preserved-then-space c = search (rules, adding_space)
+pub loop-i-preserved-then-is_space : goal.loop-i-preserved-then-is_space
+loop-i-preserved-then-is_space c = search (rules, adding_space)
 
 pub item_end-j-requires : goal.item_end-j-requires
 item_end-j-requires c = search (rules, adding_inside)

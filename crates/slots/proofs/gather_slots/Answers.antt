@@ -8,11 +8,12 @@ forget-requires c = search (rules, begun_keys)
 pub loop-next-init : goal.loop-next-init
 loop-next-init c = search (rules, slots_start)
 
-pub returns-then-not-found : goal.returns-then-not-found
-returns-then-not-found c = search (rules, slots_end)
+pub returns-then-not-is_mark : goal.returns-then-not-is_mark
+returns-then-not-is_mark c = search (rules, slots_end)
 
 pub returns-then-ends-n : goal.returns-then-ends-n
-returns-then-ends-n c = search (rules, slots_many)
+returns-then-ends-n c =
+    slots_many _ _ _ _ _ _ c.loop-next.invariant _ _ c.next_mark-next.ensures _ c.is_mark.ensures c.if-not-is_mark.false _ c.ends_tag-ends.ensures _ c.if-ends-n.true
 
 pub add_mark-n-requires : goal.add_mark-n-requires
 add_mark-n-requires c =

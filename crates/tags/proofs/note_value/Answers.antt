@@ -20,5 +20,5 @@ returns-then-cells-i-eq0 c = search (rules, note_first)
 pub returns-else-cells-i-eq0 : goal.returns-else-cells-i-eq0
 returns-else-cells-i-eq0 c = search (rules, note_again, note_other)
 
-pub returns-else-known : goal.returns-else-known
-returns-else-known c = search (rules, note_again, note_other)
+pub returns-else-is_word : goal.returns-else-is_word
+returns-else-is_word c = search (rules, note_again, note_other)

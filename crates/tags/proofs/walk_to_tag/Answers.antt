@@ -5,8 +5,8 @@ use Rattle.tags.proofs.walk_to_tag.Goals as goal
 pub loop-m-init : goal.loop-m-init
 loop-m-init c = search (rules, walk_start)
 
-pub returns-then-not-value : goal.returns-then-not-value
-returns-then-not-value c = search (rules, walk_end)
+pub returns-then-not-is_value_mark : goal.returns-then-not-is_value_mark
+returns-then-not-is_value_mark c = search (rules, walk_end)
 
 pub note_mark-requires : goal.note_mark-requires
 note_mark-requires c = search (rules, walk_in)

@@ -2,14 +2,14 @@ use borrow.Author.Rules.{rules}
 use Rattle.turns.specs.Spots.{part_initial, part_entry, part_exit, part_none}
 use Rattle.turns.proofs.block_part.Goals as goal
 
-pub returns-then-element-eq5 : goal.returns-then-element-eq5
-returns-then-element-eq5 c = search (rules, part_initial)
+pub returns-in-5 : goal.returns-in-5
+returns-in-5 c = search (rules, part_initial)
 
-pub returns-then-element-eq7 : goal.returns-then-element-eq7
-returns-then-element-eq7 c = search (rules, part_entry)
+pub returns-in-7 : goal.returns-in-7
+returns-in-7 c = search (rules, part_entry)
 
-pub returns-then-element-eq8 : goal.returns-then-element-eq8
-returns-then-element-eq8 c = search (rules, part_exit)
+pub returns-in-8 : goal.returns-in-8
+returns-in-8 c = search (rules, part_exit)
 
-pub returns : goal.returns
-returns c = search (rules, part_none)
+pub returns-in_default : goal.returns-in_default
+returns-in_default c = search (rules, part_none)

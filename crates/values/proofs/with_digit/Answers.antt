@@ -2,5 +2,5 @@ use borrow.Author.Rules.{rules}
 use Rattle.values.specs.Decimals.{digit_low}
 use Rattle.values.proofs.with_digit.Goals as goal
 
-pub overflow_sub-result : goal.overflow_sub-result
-overflow_sub-result c = search (rules, digit_low)
+pub overflow_sub-b : goal.overflow_sub-b
+overflow_sub-b c = search (rules, digit_low)

@@ -1,5 +1,5 @@
 use mathlib.Core.Path.{◌≡◌}
-use Prim.Native.Nat.{◌-◌, ◌≤◌}
+use Prim.Native.Nat.{◌≤◌}
 use lib.ListN.{length}
 use Prim.Native.Nat.{◌/◌}
 use Rattle.clock.specs.Applying.{Applies}
@@ -7,6 +7,3 @@ use Rattle.clock.proofs.applying.apply.Given as goal
 
 abbrev pub invariant-loop-i : goal.invariant-loop-i
 invariant-loop-i l = Applies l.names l.timers l.initial.clock l.clock l.i × (l.n ≡ length l.timers / 2) × (l.i ≤ l.n) × (length l.clock ≡ length l.initial.clock)
-
-abbrev pub decreases-loop-i : goal.decreases-loop-i
-decreases-loop-i l = l.n - l.i

@@ -2,4 +2,4 @@ use Rattle.clock.specs.Cancelling.{name_part}
 use Rattle.clock.proofs.cancelling.name_in.Goals as goal
 
 pub returns : goal.returns
-returns c = let a = c in name_part a.args.slots.now a.args.i _ c.name_of.ensures
+returns c = name_part c.args.slots.now _ c.args.i _ c.slot.ensures c.name_of.ensures

@@ -26,5 +26,5 @@ returns-then-not-slots_fit c = let a = c in events_wrong a.args.mode a.args.cloc
 pub returns : goal.returns
 returns c =
     let a = c in
-    ids_said a.args.mode a.args.clock.now (λ k. omega (arith, c.shared_slice_known-1.given k)) (search rules) _ _ _ _ _ _ c.count_of-n.ensures c.ticks_of-ticks.ensures (omega arith) (omega arith)
+    ids_said a.args.mode a.args.clock.now (λ k. omega (arith, c.type_inv.clock k)) (search rules) _ _ _ _ _ _ c.count_of-n.ensures c.ticks_of-ticks.ensures (omega arith) (omega arith)
     c.may_pend.ensures (ap not c.if-not-may_pend.false) c.dues_fit.ensures (ap not c.if-not-dues_fit.false) c.slots_fit.ensures (ap not c.if-not-slots_fit.false) c.slots_fit-2.ensures

@@ -17,9 +17,6 @@ row_at-requires c = record { rows = c.targets_of-targets.ensures.within; below =
 pub anchor_of-a-requires : goal.anchor_of-a-requires
 anchor_of-a-requires c = (tree_in _ c.requires.numbers_keep, c.row_at.ensures.row)
 
-pub loop-k-smaller : goal.loop-k-smaller
-loop-k-smaller c = omega arith
-
 pub loop-k-preserved : goal.loop-k-preserved
 loop-k-preserved c =
     let l = c.loop-k in

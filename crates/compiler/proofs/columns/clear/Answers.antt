@@ -11,9 +11,6 @@ loop-i-init c = filling_begin nothing_at _ _ c.requires
 pub put_set-requires : goal.put_set-requires
 put_set-requires c = omega arith
 
-pub loop-i-smaller : goal.loop-i-smaller
-loop-i-smaller c = omega arith
-
 pub loop-i-preserved : goal.loop-i-preserved
 loop-i-preserved c = let l = c.loop-i in filling_turn nothing_at _ l.i _ _ _ _ l.invariant (omega arith) (ap words c.empty.ensures) c.put_set.ensures
 

@@ -1,10 +1,6 @@
 use Rattle.chart.specs.Writing.{Filling}
 use Rattle.definition.specs.Rows.{nothing_at}
-use Prim.Native.Nat.{◌-◌}
 use Rattle.compiler.proofs.columns.clear.Given as goal
 
 abbrev pub invariant-loop-i : goal.invariant-loop-i
 invariant-loop-i l = Filling nothing_at l.n l.i l.initial.sets l.sets
-
-abbrev pub decreases-loop-i : goal.decreases-loop-i
-decreases-loop-i l = l.n - l.i

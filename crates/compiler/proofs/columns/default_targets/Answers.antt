@@ -17,7 +17,7 @@ returns-in_default c =
 pub returns-then-list-eq0 : goal.returns-then-list-eq0
 returns-then-list-eq0 c =
     default_first _ _ _ _ _ _ (sym c.has_initial.ensures ∙ c.if-not-has_initial.false) c.list_of-list.ensures.is c.if-list-eq0.true c.requires.are
-    (first_of_lem _ _ c.first.ensures _ c.in-At.is) c.single.ensures
+    (first_of_lem _ _ c.first.ensures _ c.in-Some.is) c.single.ensures
 
 pub returns : goal.returns
 returns c = default_listed _ _ _ _ _ (sym c.has_initial.ensures ∙ c.if-not-has_initial.false) c.list_of-list.ensures.is c.if-list-eq0.false c.empty-2.ensures c.with_rows.ensures

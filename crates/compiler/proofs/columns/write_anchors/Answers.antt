@@ -13,9 +13,6 @@ anchors-requires c = record { numbers_keep = c.requires.numbers_keep; inside = o
 pub put_set-requires : goal.put_set-requires
 put_set-requires c = omega arith
 
-pub loop-t-smaller : goal.loop-t-smaller
-loop-t-smaller c = omega arith
-
 pub loop-t-preserved : goal.loop-t-preserved
 loop-t-preserved c = let l = c.loop-t in (l.invariant.0, filling_turn _ _ l.t _ _ _ _ l.invariant.1 (omega arith) (ap words c.anchors.ensures) c.put_set.ensures)
 

@@ -34,31 +34,25 @@ put_set-requires c =
     let b = parent_low _ c.requires.numbers_keep c.loop-i.i (omega arith) in
     omega arith
 
-pub loop-i-smaller-then-not-is_history : goal.loop-i-smaller-then-not-is_history
-loop-i-smaller-then-not-is_history c = omega arith
-
-pub loop-i-preserved-then-not-is_history : goal.loop-i-preserved-then-not-is_history
-loop-i-preserved-then-not-is_history c =
-    let l = c.loop-i in (
-      omega arith,
-      omega arith,
-      l.invariant.2,
-      children_turn _ c.requires.numbers_keep l.i _ _ _ _ _ _ l.invariant.3 (omega arith) (omega arith) c.parent_row.ensures.is
-          (told is_history _ _ _ _ c.kind_of.ensures c.is_history.ensures c.if-not-is_history.true)
-          c.set_at-siblings.ensures c.with.ensures c.put_set.ensures,
-    )
-
-pub loop-i-smaller : goal.loop-i-smaller
-loop-i-smaller c = omega arith
-
 pub loop-i-preserved : goal.loop-i-preserved
 loop-i-preserved c =
     let l = c.loop-i in (
       omega arith,
       omega arith,
       l.invariant.2,
+      children_turn _ c.requires.numbers_keep l.i _ _ _ _ _ _ l.invariant.3 (omega arith) (omega arith) c.parent_row.ensures.is
+          (told is_history _ _ _ _ c.kind_of.ensures c.is_history.ensures c.if-is_history.false)
+          c.set_at-siblings.ensures c.with.ensures c.put_set.ensures,
+    )
+
+pub loop-i-preserved-then-is_history : goal.loop-i-preserved-then-is_history
+loop-i-preserved-then-is_history c =
+    let l = c.loop-i in (
+      omega arith,
+      omega arith,
+      l.invariant.2,
       children_next _ c.requires.numbers_keep l.i _ _ l.invariant.3
-          (told is_history _ _ _ _ c.kind_of.ensures c.is_history.ensures c.if-not-is_history.false),
+          (told is_history _ _ _ _ c.kind_of.ensures c.is_history.ensures c.if-is_history.true),
     )
 
 pub shape_of-sets : goal.shape_of-sets

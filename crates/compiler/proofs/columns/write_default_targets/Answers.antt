@@ -16,9 +16,6 @@ default_targets-requires c =
 pub put_set-requires : goal.put_set-requires
 put_set-requires c = omega arith
 
-pub loop-i-smaller : goal.loop-i-smaller
-loop-i-smaller c = omega arith
-
 pub loop-i-preserved : goal.loop-i-preserved
 loop-i-preserved c =
     let l = c.loop-i in

@@ -1,11 +1,7 @@
 use Rattle.compiler.specs.Turns.{Following}
 use Rattle.definition.specs.Tables.{row_count}
 use mathlib.Core.Path.{◌≡◌}
-use Prim.Native.Nat.{◌-◌}
 use Rattle.compiler.proofs.columns.write_default_targets.Given as goal
 
 abbrev pub invariant-loop-i : goal.invariant-loop-i
 invariant-loop-i l = (l.rows ≡ row_count l.numbers) × Following l.numbers l.i l.initial.sets l.sets
-
-abbrev pub decreases-loop-i : goal.decreases-loop-i
-decreases-loop-i l = l.rows - l.i

@@ -43,9 +43,6 @@ put_set-requires c =
     let b = parent_low _ c.requires.numbers_keep (l.i - 1) (omega arith) in
     omega arith
 
-pub loop-i-smaller-then-not-is_history : goal.loop-i-smaller-then-not-is_history
-loop-i-smaller-then-not-is_history c = let t = c.loop-i-test.true in omega arith
-
 pub loop-i-preserved-then-not-is_history : goal.loop-i-preserved-then-not-is_history
 loop-i-preserved-then-not-is_history c =
     let l = c.loop-i in
@@ -59,9 +56,6 @@ loop-i-preserved-then-not-is_history c =
           (told is_history _ _ _ _ c.kind_of.ensures c.is_history.ensures c.if-not-is_history.true)
           c.set_at.ensures c.with-own.ensures c.set_at-others.ensures c.union.ensures c.put_set.ensures,
     )
-
-pub loop-i-smaller : goal.loop-i-smaller
-loop-i-smaller c = omega arith
 
 pub loop-i-preserved : goal.loop-i-preserved
 loop-i-preserved c =

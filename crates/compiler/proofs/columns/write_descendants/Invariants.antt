@@ -7,6 +7,3 @@ use Rattle.compiler.proofs.columns.write_descendants.Given as goal
 
 abbrev pub invariant-loop-i : goal.invariant-loop-i
 invariant-loop-i l = (1 ≤ l.i) × (l.i ≤ l.rows) × (l.rows ≡ row_count l.numbers) × Changing (gathered (chart_of l.numbers) l.i) (row_count l.numbers) l.initial.sets l.sets
-
-abbrev pub decreases-loop-i : goal.decreases-loop-i
-decreases-loop-i l = l.i

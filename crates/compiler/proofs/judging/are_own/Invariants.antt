@@ -1,5 +1,6 @@
 use mathlib.Core.List.{[]}
-use Prim.Native.Nat.{◌-◌}
+use Rattle.std.specs.Prelude.{ℕ}
+use Rattle.rowset.specs.Iterating.{Passing}
 use Rattle.definition.specs.Rows.{all}
 use Rattle.definition.specs.Tables.{chart_of}
 use Rattle.rowset.specs.Member.{rows_of}
@@ -9,7 +10,4 @@ use Rattle.compiler.specs.Judged.{is_child_row, with_below}
 use Rattle.compiler.proofs.judging.are_own.Given as goal
 
 abbrev pub invariant-loop-x : goal.invariant-loop-x
-invariant-loop-x l = RowRoom l.numbers l.below × Remains (all (is_child_row (chart_of l.numbers) l.p.0)) l.set l.k × Visited (with_below l.below) [] (rows_of l.all) l.set l.k
-
-abbrev pub decreases-loop-x : goal.decreases-loop-x
-decreases-loop-x l = 256 - l.k
+invariant-loop-x l = RowRoom l.numbers l.below × Passing (λ (k : ℕ). Remains (all (is_child_row (chart_of l.numbers) l.p.0)) l.fn.set k × Visited (with_below l.below) [] (rows_of l.all) l.fn.set k) l.fn.set l.x-iterator

@@ -1,6 +1,5 @@
-use mathlib.Core.Path.{sym, ◌∙◌}
 use native.Mathlib.Omega.{arith}
-use borrow.Author.Rules.{rules}
+use mathlib.Core.Path.{sym, ◌∙◌}
 use Rattle.effects.specs.Blocks.{plainly_begin, plainly_inside, plainly_fits, plainly_room, plainly_turn, plainly_stop, plainly_end, plainly_length, plainly_joins}
 use Rattle.effects.proofs.blocks.perform_plain.Goals as goal
 
@@ -26,12 +25,6 @@ perform_action-sum-requires c =
     let b = sym c.is_branch.ensures ∙ c.if-is_branch.false in
     (plainly_fits _ _ _ _ _ _ _ i l _ c.action_of-action.ensures b, plainly_room _ _ _ _ _ _ _ i l _ c.action_of-action.ensures b)
 
-pub overflow_add-k : goal.overflow_add-k
-overflow_add-k c = let t = c.loop-k-test.true in search rules
-
-pub loop-k-smaller : goal.loop-k-smaller
-loop-k-smaller c = let t = c.loop-k-test.true in omega arith
-
 pub loop-k-preserved : goal.loop-k-preserved
 loop-k-preserved c = plainly_turn _ _ _ _ _ _ _ c.loop-k.invariant c.loop-k-test.true _ c.action_of-action.ensures (sym c.is_branch.ensures ∙ c.if-is_branch.false) _ _ c.perform_action-sum.ensures
 
@@ -42,4 +35,4 @@ pub shape_of-joins : goal.shape_of-joins
 shape_of-joins c = plainly_joins _ _ _ _ _ _ _ c.loop-k.invariant
 
 pub returns : goal.returns
-returns c = plainly_end _ _ _ _ _ _ _ c.loop-k.invariant c.loop-k-test.false
+returns c = let l = c.loop-k-test.false in let q = plainly_end _ _ _ _ _ _ _ c.loop-k.invariant l in (q.0, omega arith)

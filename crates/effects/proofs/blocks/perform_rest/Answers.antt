@@ -1,5 +1,3 @@
-use native.Mathlib.Omega.{arith}
-use borrow.Author.Rules.{rules}
 use Rattle.effects.specs.Blocks.{branching_begin, branching_inside, branching_fits, branching_low, branching_room, branching_turn, branching_end, branching_length, branching_joins}
 use Rattle.effects.proofs.blocks.perform_rest.Goals as goal
 
@@ -20,12 +18,6 @@ reach_after-reach-requires c =
     let l = c.loop-k-test.true in
     let i = c.loop-k.invariant in
     (branching_fits _ _ _ _ _ _ _ _ _ _ i l _ c.action_of-action.ensures, branching_low _ _ _ _ _ _ _ _ _ _ i l _ c.action_of-action.ensures)
-
-pub overflow_add-k : goal.overflow_add-k
-overflow_add-k c = let t = c.loop-k-test.true in search rules
-
-pub loop-k-smaller : goal.loop-k-smaller
-loop-k-smaller c = let t = c.loop-k-test.true in omega arith
 
 pub loop-k-preserved : goal.loop-k-preserved
 loop-k-preserved c = branching_turn _ _ _ _ _ _ _ _ _ _ c.loop-k.invariant c.loop-k-test.true _ c.action_of-action.ensures _ _ _ c.perform_in-sum.ensures c.reach_after-reach.ensures

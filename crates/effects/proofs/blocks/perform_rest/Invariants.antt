@@ -1,4 +1,3 @@
-use Prim.Native.Nat.{◌-◌}
 use Rattle.rowset.specs.Member.{rows_of}
 use Rattle.effects.specs.Blocks.{Branching}
 use Rattle.effects.specs.Trace.{places}
@@ -6,6 +5,3 @@ use Rattle.effects.proofs.blocks.perform_rest.Given as goal
 
 abbrev pub invariant-loop-k : goal.invariant-loop-k
 invariant-loop-k l = Branching (rows_of l.active) l.block l.start (places l.initial.trace l.initial.joins) (places l.trace l.joins) l.initial.sum l.sum l.reach l.n l.k
-
-abbrev pub decreases-loop-k : goal.decreases-loop-k
-decreases-loop-k l = l.n - l.k

@@ -1,3 +1,5 @@
+use Rattle.std.specs.Prelude.{ℕ}
+use Rattle.rowset.specs.Iterating.{PassingDown}
 use Rattle.follower.specs.Microstep.{exit_effects}
 use Rattle.definition.specs.Rows.{backwards}
 use Rattle.definition.specs.Tables.{chart_of}
@@ -8,7 +10,4 @@ use Rattle.effects.specs.Emitting.{Emitting}
 use Rattle.effects.proofs.exits.exit_effects.Given as goal
 
 abbrev pub invariant-loop-r : goal.invariant-loop-r
-invariant-loop-r l = Emitting (exit_effects (chart_of l.chart) (rows_of l.conf) (rows_of l.out)) (places l.initial.trace l.initial.joins) (places l.trace l.joins) l.initial.sum l.sum (backwards (rows_of l.out)) (rest_below (rows_of l.out) l.k)
-
-abbrev pub decreases-loop-r : goal.decreases-loop-r
-decreases-loop-r l = l.k
+invariant-loop-r l = PassingDown (λ (k : ℕ). Emitting (exit_effects (chart_of l.chart) (rows_of l.conf) (rows_of l.out)) (places l.initial.trace l.initial.joins) (places l.trace l.joins) l.initial.sum l.sum (backwards (rows_of l.out)) (rest_below (rows_of l.out) k)) l.out l.r-iterator

@@ -5,8 +5,8 @@ use Rattle.elements.proofs.lists.lay_initial.Goals as goal
 pub returns-then-row_cell-eq0 : goal.returns-then-row_cell-eq0
 returns-then-row_cell-eq0 c = search (rules, initial_none)
 
-pub returns-then-row_cell-ge-SHALLOW : goal.returns-then-row_cell-ge-SHALLOW
-returns-then-row_cell-ge-SHALLOW c = search (rules, initial_history)
+pub returns-then-is_history : goal.returns-then-is_history
+returns-then-is_history c = search (rules, initial_history)
 
 pub returns-then-row_cell-ne0 : goal.returns-then-row_cell-ne0
 returns-then-row_cell-ne0 c = search (rules, initial_element)

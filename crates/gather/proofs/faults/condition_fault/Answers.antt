@@ -11,8 +11,8 @@ slice_bounds-is_bad-count c = search (rules, name_first)
 pub overflow_add-from : goal.overflow_add-from
 overflow_add-from c = search (rules, name_fits)
 
-pub returns-in-Other : goal.returns-in-Other
-returns-in-Other c = search (rules, condition_none)
+pub returns-in-None : goal.returns-in-None
+returns-in-None c = search (rules, condition_none)
 
-pub returns-in-In : goal.returns-in-In
-returns-in-In c = search (rules, condition_named)
+pub returns-in-Some : goal.returns-in-Some
+returns-in-Some c = search (rules, condition_named)

@@ -2,11 +2,11 @@ use borrow.Author.Rules.{rules}
 use Rattle.gather.specs.Ended.{ended_dead, ended_live, ended_index}
 use Rattle.gather.proofs.ids.ended.Goals as goal
 
-pub overflow_sub-at : goal.overflow_sub-at
-overflow_sub-at c = search (rules, ended_index)
+pub overflow_sub-result : goal.overflow_sub-result
+overflow_sub-result c = search (rules, ended_index)
 
-pub returns-then-not-live : goal.returns-then-not-live
-returns-then-not-live c = search (rules, ended_dead)
+pub returns-in-None : goal.returns-in-None
+returns-in-None c = search (rules, ended_dead)
 
-pub returns : goal.returns
-returns c = search (rules, ended_live)
+pub returns-in-Some : goal.returns-in-Some
+returns-in-Some c = search (rules, ended_live)

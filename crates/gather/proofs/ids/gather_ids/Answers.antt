@@ -1,5 +1,6 @@
 use borrow.Author.Rules.{rules}
-use Rattle.gather.specs.Ids.{begun_keys, ids_start, ids_stopped, ids_over, ids_room, ids_fits, ids_less, ids_more}
+use Rattle.std.proofs.lemmas.Result.{err_from_is_err_and}
+use Rattle.gather.specs.Ids.{begun_keys, ids_start, ids_stopped, ids_text, ids_fault, ids_room, ids_less, ids_more}
 use Rattle.gather.proofs.ids.gather_ids.Goals as goal
 
 pub forget-requires : goal.forget-requires
@@ -8,26 +9,23 @@ forget-requires c = search (rules, begun_keys)
 pub loop-id-init : goal.loop-id-init
 loop-id-init c = search (rules, ids_start)
 
-pub ended-s-requires : goal.ended-s-requires
-ended-s-requires c = search (rules, ids_stopped)
-
-pub shape_of-levels-then-not-found : goal.shape_of-levels-then-not-found
-shape_of-levels-then-not-found c = let p = c.requires in let d = p.deep in let r = p.room in search rules
-
-pub shape_of-ids-then-not-found : goal.shape_of-ids-then-not-found
-shape_of-ids-then-not-found c = let p = c.requires in let d = p.deep in let r = p.room in search rules
-
-pub returns-then-not-found : goal.returns-then-not-found
-returns-then-not-found c = search (rules, ids_over)
-
-pub overflow_add-at : goal.overflow_add-at
-overflow_add-at c = search (rules, ids_fits)
-
-pub note_row-n-requires : goal.note_row-n-requires
-note_row-n-requires c = ids_room _ _ _ _ _ _ c.loop-id.invariant
+pub ended-requires : goal.ended-requires
+ended-requires c = search (rules, ids_stopped)
 
 pub loop-id-smaller : goal.loop-id-smaller
 loop-id-smaller c = search (rules, ids_less)
 
 pub loop-id-preserved : goal.loop-id-preserved
 loop-id-preserved c = search (rules, ids_more)
+
+pub note_row-n-requires : goal.note_row-n-requires
+note_row-n-requires c = ids_room _ _ _ _ _ _ c.loop-id.invariant _ c.unwrap_or-span.ensures
+
+pub returns-then-not-is_mark : goal.returns-then-not-is_mark
+returns-then-not-is_mark c =
+    ids_text _ _ _ _ _ _ c.loop-id.invariant _ _ c.next_mark-next.ensures _ c.is_mark.ensures c.if-not-is_mark.true _ c.ended.ensures _ c.in_ok-ended.was
+
+pub returns-in_err-ended : goal.returns-in_err-ended
+returns-in_err-ended c =
+    let p = err_from_is_err_and c.from_residual.result c.from_residual.ensures.1 in
+    rw (p.1, p.2) (ids_fault _ _ _ _ _ _ c.loop-id.invariant _ _ c.next_mark-next.ensures _ c.is_mark.ensures c.if-not-is_mark.true _ c.ended.ensures _ c.in_err-ended.was)

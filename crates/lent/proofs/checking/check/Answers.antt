@@ -16,7 +16,7 @@ pub returns-then-not-holds : goal.returns-then-not-holds
 returns-then-not-holds c = checks_neither _ _ _ _ (said_not_no _ _ c.check.ensures (ap not c.if-not-check.false)) (said_not_yes _ _ c.holds.ensures (ap not c.if-not-holds.true))
 
 pub returns : goal.returns
-returns c = checks_made _ _ _ _ (said_not_no _ _ c.check.ensures (ap not c.if-not-check.false)) (said_not_no _ _ c.holds.ensures (ap not c.if-not-holds.false)) _ _ (checks_mode _ _ _ _ _ (said_not_no _ _ c.check.ensures (ap not c.if-not-check.false)) (said_not_no _ _ c.holds.ensures (ap not c.if-not-holds.false)) _ c.mode_from-mode.ensures) c.is_clock.ensures
+returns c = checks_made _ _ _ _ (said_not_no _ _ c.check.ensures (ap not c.if-not-check.false)) (said_not_no _ _ c.holds.ensures (ap not c.if-not-holds.false)) _ _ (checks_mode _ _ _ _ _ (said_not_no _ _ c.check.ensures (ap not c.if-not-check.false)) (said_not_no _ _ c.holds.ensures (ap not c.if-not-holds.false)) _ c.from-mode.ensures) c.is_clock.ensures
 
 pub bounds-numbers-1030 : goal.bounds-numbers-1030
 bounds-numbers-1030 c = let l = (known_lengths _ _ _ _ _ (said_not_no _ _ c.check.ensures (ap not c.if-not-check.false)) (said_not_no _ _ c.holds.ensures (ap not c.if-not-holds.false))).numbers in omega arith

@@ -3,9 +3,9 @@ use Rattle.std.proofs.lemmas.Bool.Decides.{nat_tests}
 use Rattle.grammar.specs.Grammar.{only}
 use Rattle.markup.proofs.comments.dashes_step.Goals as goal
 
-pub returns-then-closes : goal.returns-then-closes
+pub returns-then-b-eq62 : goal.returns-then-b-eq62
 unfolding only
-returns-then-closes c = simp c.if-closes.true
+returns-then-b-eq62 c = simp c.if-b-eq62.true
 
 pub returns : goal.returns
 unfolding only

@@ -1,10 +1,6 @@
-use Prim.Native.Nat.{◌-◌}
 use Rattle.grammar.specs.Grammar.{is_space}
 use Rattle.markup.specs.Runs.{Ran}
 use Rattle.markup.proofs.runs.spaces_end.Given as goal
 
 abbrev pub invariant-loop-j : goal.invariant-loop-j
 invariant-loop-j l = Ran is_space l.text l.end l.i l.j
-
-abbrev pub decreases-loop-j : goal.decreases-loop-j
-decreases-loop-j l = l.end - l.j

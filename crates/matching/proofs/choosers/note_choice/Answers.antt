@@ -10,7 +10,7 @@ pub bounds-items-len : goal.bounds-items-len
 bounds-items-len c = c.requires.room
 
 pub bounds-items-at : goal.bounds-items-at
-bounds-items-at c = note_place _ _ _ _ c.requires (ap choice_of c.in-Of.is)
+bounds-items-at c = note_place _ _ _ _ c.requires (ap choice_of c.in-Some.is)
 
 pub returns : goal.returns
-returns c = note_one _ _ _ _ _ (ap choice_of c.in-Of.is)
+returns c = note_one _ _ _ _ _ (ap choice_of c.in-Some.is)

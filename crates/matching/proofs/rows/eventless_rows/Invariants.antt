@@ -9,6 +9,3 @@ use Rattle.matching.proofs.rows.eventless_rows.Given as goal
 
 abbrev pub invariant-loop-t : goal.invariant-loop-t
 invariant-loop-t l = (l.n ≡ transition_count l.chart) × Counted (add_eventless (chart_of l.chart)) [] (rows_of l.set) l.n l.t
-
-abbrev pub decreases-loop-t : goal.decreases-loop-t
-decreases-loop-t l = l.n - l.t

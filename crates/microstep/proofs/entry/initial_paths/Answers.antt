@@ -8,4 +8,4 @@ pub paths_below-requires : goal.paths_below-requires
 paths_below-requires c = (record { ready = c.requires.0.store.ready; inside = c.requires.1 }, initial_within _ _ _ _ _ c.requires.0 _ _ c.initial_targets.ensures)
 
 pub returns : goal.returns
-returns c = c.paths_below.ensures ∙ ap (paths_below (chart_of c.args.chart.now) c.args.r.0) c.initial_targets.ensures
+returns c = c.paths_below.ensures ∙ ap (paths_below (chart_of c.args.round.now.chart.now) c.args.r.0) c.initial_targets.ensures

@@ -1,4 +1,5 @@
-use Prim.Native.Nat.{◌-◌}
+use Rattle.std.specs.Prelude.{ℕ}
+use Rattle.rowset.specs.Iterating.{Passing}
 use Rattle.definition.specs.Rows.{nothing_at}
 use Rattle.definition.specs.Tables.{chart_of}
 use Rattle.follower.specs.Microstep.{add_fallen_initial}
@@ -7,7 +8,4 @@ use Rattle.rowset.specs.Member.{rows_of}
 use Rattle.microstep.proofs.initial.first_fallen.Given as goal
 
 abbrev pub invariant-loop-r : goal.invariant-loop-r
-invariant-loop-r l = Visited (add_fallen_initial (chart_of l.chart) nothing_at) (rows_of l.initial.set) (rows_of l.set) l.by_default l.k
-
-abbrev pub decreases-loop-r : goal.decreases-loop-r
-decreases-loop-r l = 256 - l.k
+invariant-loop-r l = Passing (λ (k : ℕ). Visited (add_fallen_initial (chart_of l.chart) nothing_at) (rows_of l.initial.set) (rows_of l.set) l.fn.by_default k) l.fn.by_default l.r-iterator

@@ -1,19 +1,17 @@
 use mathlib.Core.Path.{refl}
-use Rattle.rowset.specs.Visits.{visit_begin, visit_turn, visit_end, found_next, next_less}
+use Rattle.rowset.specs.Visits.{visit_begin, visit_turn, visit_end, found_next}
+use Rattle.rowset.specs.Iterating.{passing, gives, on}
 use Rattle.microstep.specs.Initial.{with_initial_pass}
 use Rattle.microstep.proofs.initial.with_initial.Goals as goal
 
 pub loop-r-init : goal.loop-r-init
-loop-r-init c = visit_begin _ _ _ _ refl
+loop-r-init c = passing _ _ _ _ c.into_iter-r-iterator.ensures.into_iter_gives c.iter-r-items.ensures.set c.iter-r-items.ensures.at (visit_begin _ _ _ _ refl)
 
 pub add_fallen_initial-set-requires : goal.add_fallen_initial-set-requires
-add_fallen_initial-set-requires c = (c.requires.0, c.requires.1.at _ (found_next _ _ _ c.next_from.ensures _ c.in-At.is).here)
-
-pub loop-r-smaller : goal.loop-r-smaller
-loop-r-smaller c = rw c.row_after-k.ensures (next_less _ _ _ c.next_from.ensures _ c.in-At.is)
+add_fallen_initial-set-requires c = (c.requires.0, c.requires.1.at _ (found_next _ _ _ (gives c.loop-r.invariant c.next.ensures.steps) _ c.in-Some.is).here)
 
 pub loop-r-preserved : goal.loop-r-preserved
-loop-r-preserved c = rw c.row_after-k.ensures (visit_turn _ _ _ _ _ _ _ _ c.loop-r.invariant c.next_from.ensures c.in-At.is c.add_fallen_initial-set.ensures)
+loop-r-preserved c = on c.loop-r.invariant c.next.ensures.steps _ c.in-Some.is (visit_turn _ _ _ _ _ _ _ _ c.loop-r.invariant.holds (gives c.loop-r.invariant c.next.ensures.steps) c.in-Some.is c.add_fallen_initial-set.ensures)
 
-pub returns-in-Nothing : goal.returns-in-Nothing
-returns-in-Nothing c = with_initial_pass _ _ _ _ _ (visit_end _ _ _ _ _ _ c.loop-r.invariant c.next_from.ensures c.in-Nothing.is)
+pub returns : goal.returns
+returns c = with_initial_pass _ _ _ _ _ (visit_end _ _ _ _ _ _ c.loop-r.invariant.holds (gives c.loop-r.invariant c.next.ensures.steps) c.in-None.is)

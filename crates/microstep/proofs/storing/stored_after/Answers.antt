@@ -7,7 +7,7 @@ use Rattle.microstep.proofs.storing.stored_after.Goals as goal
 use Rattle.microstep.proofs.storing.stored_after.Goals.{Else-not-is_history}
 
 -- row h is a history of the chart
-history : (c : Else-not-is_history) → HistoryRow c.args.chart.now c.args.h.0
+history : (c : Else-not-is_history) → HistoryRow c.args.round.now.chart.now c.args.h.0
 history c = record { row = record { ready = c.requires.0.store.ready; inside = c.requires.1 }; history = (told is_history _ _ _ _ c.kind_of.ensures c.is_history.ensures c.if-not-is_history.false) }
 
 pub returns-then-not-is_history : goal.returns-then-not-is_history

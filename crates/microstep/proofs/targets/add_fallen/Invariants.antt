@@ -1,5 +1,3 @@
-use Prim.Native.Nat.{◌-◌}
-use lib.ListN.{length}
 use Rattle.follower.specs.Microstep.{stored}
 use Rattle.definition.specs.Tables.{chart_of}
 use Rattle.laws.specs.Passes.{Passed}
@@ -9,7 +7,4 @@ use Rattle.microstep.specs.Targets.{add_fell}
 use Rattle.microstep.proofs.targets.add_fallen.Given as goal
 
 abbrev pub invariant-loop-i : goal.invariant-loop-i
-invariant-loop-i l = Passed (add_fell (chart_of l.chart) (stored (chart_of l.chart) (rows_of l.conf) (stored_at l.history) (rows_of l.out))) (rows_of l.initial.set) (rows_of l.set) l.targets l.i
-
-abbrev pub decreases-loop-i : goal.decreases-loop-i
-decreases-loop-i l = length l.targets - l.i
+invariant-loop-i l = Passed (add_fell (chart_of l.round.chart.now) (stored (chart_of l.round.chart.now) (rows_of l.round.conf) (stored_at l.round.history.now) (rows_of l.round.out))) (rows_of l.initial.set) (rows_of l.set) l.targets l.i

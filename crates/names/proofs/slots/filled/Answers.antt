@@ -1,38 +1,19 @@
 -- `filled`: those counted, and those filled in the rest.
-use borrow.Author.Rules.{rules}
-use mathlib.Core.Path.{◌≡◌}
-use mathlib.Core.Bool.{Bool, true, false, cond}
-use Prim.Native.Nat.{ℕ, ◌≤◌}
-use native.Mathlib.Omega.{arith}
-use lib.Dec.{eqb}
-use lib.ListN.{get_or}
+use Rattle.std.proofs.Common.{◌≡◌, ◌≤◌, ℕ, Bool, true, false, not, cond, eqb, get_or, arith}
+use Rattle.std.specs.Int.{from_bool}
 use Rattle.names.specs.Blank.{filled_turn, filled_end}
 use Rattle.names.proofs.slots.filled.Goals as goal
 
-one_at_most : (z : Bool) (k : ℕ) → k ≡ cond z 0 1 → k ≤ 1
-one_at_most true k e = omega arith
-one_at_most false k e = omega arith
+counted : (z : Bool) (k : ℕ) → k ≡ from_bool (not z) → (k ≡ cond z 0 1) × (k ≤ 1)
+counted true k e = (e, omega arith)
+counted false k e = (e, omega arith)
 
-pub loop-i-init : goal.loop-i-init
-loop-i-init c = (search rules, omega arith, omega arith, omega arith)
-
-pub overflow_add-n : goal.overflow_add-n
-overflow_add-n c =
+pub loop-b-preserved : goal.loop-b-preserved
+loop-b-preserved c =
     let s = c.args.slot.now in
-    let u = one_at_most (eqb (get_or s c.loop-i.i 0) 0) _ c.counted-n.ensures in
-    omega arith
-
-pub loop-i-preserved : goal.loop-i-preserved
-loop-i-preserved c =
-    let s = c.args.slot.now in
-    let l = c.loop-i in
-    let u = one_at_most (eqb (get_or s l.i 0) 0) _ c.counted-n.ensures in
-    let e = l.invariant.3 in
-    (l.invariant.0, omega arith, omega arith, omega (arith, filled_turn s l.i (omega arith), c.counted-n.ensures))
+    let l = c.loop-b in
+    let u = counted (eqb (get_or s l.b-index 0) 0) _ c.from-n.ensures in
+    (l.invariant.0, omega arith, omega arith, omega (arith, filled_turn s l.b-index c.loop-b-test.true))
 
 pub returns : goal.returns
-returns c =
-    let s = c.args.slot.now in
-    let l = c.loop-i in
-    let e = l.invariant.3 in
-    omega (arith, filled_end s l.i (omega arith))
+returns c = let e = c.from.ensures in omega (arith, filled_end c.args.slot.now c.loop-b.b-index c.loop-b-test.false)

@@ -1,14 +1,10 @@
--- `starts_token`: the tests of the first byte.
-use mathlib.Core.Path.{sym}
-use native.Mathlib.Omega.{arith}
+-- `starts_token`: by the first byte.
+use Rattle.std.proofs.Common.{sym, arith}
 use Rattle.names.specs.Matching.{token_none, token_at}
 use Rattle.names.proofs.slots.starts_token.Goals as goal
 
-pub returns-then-slot-eq0 : goal.returns-then-slot-eq0
-returns-then-slot-eq0 c = token_none _ c.if-slot-eq0.true
+pub returns-in-empty : goal.returns-in-empty
+returns-in-empty c = token_none _ (omega arith)
 
-pub bounds-slot-0 : goal.bounds-slot-0
-bounds-slot-0 c = omega arith
-
-pub returns : goal.returns
-returns c = sym (token_at _ (omega arith))
+pub returns-in-len1-up : goal.returns-in-len1-up
+returns-in-len1-up c = sym (token_at _ (omega arith))

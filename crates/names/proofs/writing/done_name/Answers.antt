@@ -1,7 +1,7 @@
--- `done_name`: "done.state." and the id laid over zeros.
-use mathlib.Core.Path.{refl}
-use Rattle.names.specs.Slots.{done_laid, in_slot}
+-- `done_name`: a slot of 64 bytes is a table's.
+use Rattle.std.proofs.Common.{sym, ◌∙◌}
+use Rattle.names.specs.Slots.{slot_padded}
 use Rattle.names.proofs.writing.done_name.Goals as goal
 
-pub returns : goal.returns
-returns c = let h = in_slot _ _ (done_laid 64 _ _ _ _ refl c.lay.ensures c.lay-2.ensures) in record { value = h.0; value_2 = h.1 }
+pub returns-clause-value : goal.returns-clause-value
+returns-clause-value c = c.put_done_name.ensures ∙ sym (slot_padded _)

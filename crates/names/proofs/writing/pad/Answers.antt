@@ -1,7 +1,7 @@
--- `pad`: the name laid over zeros.
-use mathlib.Core.Path.{refl}
-use Rattle.names.specs.Slots.{name_laid, in_slot}
+-- `pad`: a slot of 64 bytes is a table's.
+use Rattle.std.proofs.Common.{sym, ◌∙◌}
+use Rattle.names.specs.Slots.{slot_padded}
 use Rattle.names.proofs.writing.pad.Goals as goal
 
-pub returns : goal.returns
-returns c = let h = in_slot _ _ (name_laid 64 _ _ _ refl c.lay.ensures) in record { value = h.0; value_2 = h.1 }
+pub returns-clause-value : goal.returns-clause-value
+returns-clause-value c = c.put_name.ensures ∙ sym (slot_padded _)

@@ -39,12 +39,6 @@ overflow_add-count c = let n = count_few _ _ c.requires.0 _ _ _ _ _ _ _ _ _ _ _ 
 pub returns-in_default : goal.returns-in_default
 returns-in_default c = run_stops _ _ c.requires.0 _ _ _ _ _ _ _ _ _ _ _ _ _ _ _ c.loop-done.invariant.1 c.loop-done-test.true (let m = c.ranges.rounds.fits in omega arith) _ (c.put_index.ensures.1 ∙ marked c.mark_of.result _ c.mark_of.ensures) _ _ _ _ _ _ c.round-turn.ensures c.in_default.not-Did _ c.stopped.ensures
 
-pub overflow_add-done : goal.overflow_add-done
-overflow_add-done c = let l = c.loop-done-test.true in let m = c.ranges.rounds.fits in record { fits = omega arith }
-
-pub loop-done-smaller : goal.loop-done-smaller
-loop-done-smaller c = let l = c.loop-done-test.true in omega arith
-
 pub loop-done-preserved : goal.loop-done-preserved
 loop-done-preserved c = (c.round-turn.auto.items ∙ c.loop-done.invariant.0, runs_again _ _ c.requires.0 _ _ _ _ _ _ _ _ _ _ _ _ _ _ _ c.loop-done.invariant.1 c.loop-done-test.true (let m = c.ranges.rounds.fits in omega arith) _ (c.put_index.ensures.1 ∙ marked c.mark_of.result _ c.mark_of.ensures) _ _ _ _ _ _ c.round-turn.ensures c.in-Did.is)
 
@@ -70,7 +64,9 @@ pub shape_of-external : goal.shape_of-external
 shape_of-external c = (same_sizes _ _ c.requires.0 _ _ _ _ _ _ _ _ _ _ _ _ _ _ _ c.loop-done.invariant.1 c.requires.1 c.requires.2).2
 
 pub returns : goal.returns
-returns c = run_ended _ _ c.requires.0 _ _ _ _ _ _ _ _ _ _ _ _ _ _ _ c.loop-done.invariant.1 c.loop-done-test.false _ (rest_is _ _ c.requires.0 _ _ _ c.loop-done.invariant.1.holds _ c.rest_status.ensures)
+returns c =
+    run_ended _ _ c.requires.0 _ _ _ _ _ _ _ _ _ _ _ _ _ _ _ c.loop-done.invariant.1 (let l = c.loop-done-test.false in let m = c.loop-done.auto.done-end in omega arith) _
+    (rest_is _ _ c.requires.0 _ _ _ c.loop-done.invariant.1.holds _ c.rest_status.ensures)
 
 pub shape_of-clock : goal.shape_of-clock
 shape_of-clock c = (same_sizes _ _ c.requires.0 _ _ _ _ _ _ _ _ _ _ _ _ _ _ _ c.loop-done.invariant.1 c.requires.1 c.requires.2).3

@@ -76,14 +76,14 @@ step_effects-requires c = (c.requires.0, c.requires.1)
 pub returns-then-n : goal.returns-then-n
 returns-then-n c = shows_did _ _ _ (quiet_in c.args.index.now) _ _ c.args.trace.now _ _ _ c.requires.3 c.step_effects-tally.ensures _ (judges (goal.at.returns-then-n c).Joined-tally-gt0) c.in-Did.is c.requires.7 _ (filled_again _ _ _ _ _ c.step_effects.ensures c.step_effects-tally.ensures.entries)
 
-pub slice_bounds-copy_u32-end : goal.slice_bounds-copy_u32-end
-slice_bounds-copy_u32-end c = sym (length-take-le _ _ (search rules))
+pub slice_bounds-copy-end : goal.slice_bounds-copy-end
+slice_bounds-copy-end c = sym (length-take-le _ _ (search rules))
 
-pub copy_u32-requires : goal.copy_u32-requires
-copy_u32-requires c = part_fits _ _ _ (quiet_in c.args.index.now) _ _ c.args.trace.now _ _ _ c.requires.3 c.step_effects-tally.ensures _ (judges (goal.at.copy_u32-requires c).Joined-tally-gt0) c.in-Did.is c.requires.7 c.if-n.false
+pub copy-requires : goal.copy-requires
+copy-requires c = part_fits _ _ _ (quiet_in c.args.index.now) _ _ c.args.trace.now _ _ _ c.requires.3 c.step_effects-tally.ensures _ (judges (goal.at.copy-requires c).Joined-tally-gt0) c.in-Did.is c.requires.7 c.if-n.false
 
 pub returns : goal.returns
-returns c = shows_drafted _ _ _ (quiet_in c.args.index.now) _ _ c.args.trace.now _ _ _ c.requires.3 c.step_effects-tally.ensures _ (judges (goal.at.returns c).Joined-tally-gt0) c.in-Did.is c.requires.7 c.if-n.false _ c.copy_u32.ensures
+returns c = shows_drafted _ _ _ (quiet_in c.args.index.now) _ _ c.args.trace.now _ _ _ c.requires.3 c.step_effects-tally.ensures _ (judges (goal.at.returns c).Joined-tally-gt0) c.in-Did.is c.requires.7 c.if-n.false _ c.copy.ensures
 
 pub slice_bounds-draft-end : goal.slice_bounds-draft-end
 slice_bounds-draft-end c = let l = c.if-n.false in search rules

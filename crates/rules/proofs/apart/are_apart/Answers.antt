@@ -22,9 +22,6 @@ returns-then-not-is_beside c =
     let beside = beside_rows _ _ l.k _ _ (omega arith) row.is anchor.is _ own l.anchors l.above l.invariant.1 l.invariant.2 l.invariant.3 in
     apart_leave (chart_of _) _ l.k _ (omega arith) row.is (sym beside ∙ sym c.is_beside.ensures ∙ c.if-not-is_beside.true)
 
-pub overflow_add-k : goal.overflow_add-k
-overflow_add-k c = let good = c.well_formed in let more = c.loop-k-test.true in omega (arith, good, more)
-
 pub loop-k-preserved : goal.loop-k-preserved
 loop-k-preserved c =
     let l = c.loop-k in

@@ -1,7 +1,6 @@
 use mathlib.Core.Path.{ap}
 use mathlib.Core.Bool.{not}
 use native.Mathlib.Omega.{arith}
-use borrow.Author.Rules.{rules}
 use Rattle.laws.specs.Loops.{said_not_yes, said_not_no}
 use Rattle.rules.specs.Branches.{judging_begin, judging_inside, judging_fits, judging_leave, judging_turn, judging_end}
 use Rattle.rules.proofs.branches.branches_fit.Goals as goal
@@ -20,12 +19,6 @@ returns-then-not-test_fits c = judging_leave _ _ _ _ _ c.loop-k.invariant c.loop
 
 pub step-ifs-requires : goal.step-ifs-requires
 step-ifs-requires c = let l = c.loop-k.invariant.low in omega arith
-
-pub overflow_add-k : goal.overflow_add-k
-overflow_add-k c = let t = c.loop-k-test.true in search rules
-
-pub loop-k-smaller : goal.loop-k-smaller
-loop-k-smaller c = let t = c.loop-k-test.true in omega arith
 
 pub loop-k-preserved : goal.loop-k-preserved
 loop-k-preserved c = judging_turn _ _ _ _ _ c.loop-k.invariant c.loop-k-test.true _ c.action_of-action.ensures _ (said_not_no _ _ c.test_fits.ensures (ap not c.if-not-test_fits.false)) c.step-ifs.ensures

@@ -1,15 +1,11 @@
-use borrow.Author.Rules.{rules}
-use Rattle.laws.specs.Loops.{passing-laws, said-laws}
+use Rattle.std.proofs.Common.{rules}
+use borrow.Author.Tests.{tests}
+use Rattle.std.proofs.iter.Serving.{serving}
+use Rattle.rules.proofs.Chains.{all_in, each_of}
 use Rattle.rules.proofs.lists.all_children.Goals as goal
 
-pub loop-k-init : goal.loop-k-init
-loop-k-init c = search (rules, passing-laws)
-
-pub returns-then-not-is_child : goal.returns-then-not-is_child
-returns-then-not-is_child c = search (rules, passing-laws, said-laws)
-
-pub loop-k-preserved : goal.loop-k-preserved
-loop-k-preserved c = search (rules, passing-laws, said-laws)
+pub all-requires-clause-callable : goal.all-requires-clause-callable
+all-requires-clause-callable c = grind (serving, each_of _ _ c.requires.low)
 
 pub returns : goal.returns
-returns c = search (rules, passing-laws)
+returns c = all_in _ _ _ _ _ c.all.ensures.ran (cc) (λ x b q k. search (rules, tests))

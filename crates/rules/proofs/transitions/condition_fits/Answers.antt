@@ -1,13 +1,13 @@
-use mathlib.Core.Path.{ap}
+use mathlib.Core.Path.{ap, ◌∙◌}
 use Rattle.rules.specs.Transitions.{condition_none, condition_some}
 use Rattle.tables.specs.Parts.{condition_of}
 use Rattle.rules.proofs.transitions.condition_fits.Goals as goal
 
-pub kind_of-kind-requires : goal.kind_of-kind-requires
-kind_of-kind-requires c = c.condition_of.ensures.row _ (ap condition_of c.in-In.is)
+pub may_be_asked-requires : goal.may_be_asked-requires
+may_be_asked-requires c = c.condition_of.ensures.row _ (ap condition_of c.in-Some.is)
 
-pub returns-in-Always : goal.returns-in-Always
-returns-in-Always c = condition_none _ _ _ c.condition_of.ensures c.in-Always.is
+pub returns-in-None : goal.returns-in-None
+returns-in-None c = condition_none _ _ _ c.condition_of.ensures c.in-None.is
 
-pub returns-in-In : goal.returns-in-In
-returns-in-In c = rw (c.is_final.ensures, c.is_parallel.ensures, c.is_state.ensures, c.kind_of-kind.ensures) (condition_some _ _ _ c.condition_of.ensures _ c.in-In.is)
+pub returns-in-Some : goal.returns-in-Some
+returns-in-Some c = c.may_be_asked.ensures ∙ condition_some _ _ _ c.condition_of.ensures _ c.in-Some.is

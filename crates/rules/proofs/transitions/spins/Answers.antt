@@ -7,14 +7,14 @@ returns-then-descriptors-ne0 c = spins_events _ _ _ c.descriptors_of-descriptors
 pub returns-then-targets-eq0 : goal.returns-then-targets-eq0
 returns-then-targets-eq0 c = spins_nowhere _ _ _ c.descriptors_of-descriptors.ensures.is c.if-descriptors-ne0.false _ c.targets_of-targets.ensures.is c.if-targets-eq0.true
 
-pub returns-in-Always : goal.returns-in-Always
-returns-in-Always c =
+pub returns-in-None : goal.returns-in-None
+returns-in-None c =
     let events = c.descriptors_of-descriptors.ensures.is in
     let targets = c.targets_of-targets.ensures.is in
-    spins_source _ _ _ events c.if-descriptors-ne0.false _ targets c.if-targets-eq0.false _ c.condition_of.ensures _ _ c.in-Always.is c.source_of.ensures.is c.has_row.ensures
+    spins_source _ _ _ events c.if-descriptors-ne0.false _ targets c.if-targets-eq0.false _ c.condition_of.ensures _ _ c.in-None.is c.source_of.ensures.is c.has_row.ensures
 
-pub returns-in-In : goal.returns-in-In
-returns-in-In c =
+pub returns-in-Some : goal.returns-in-Some
+returns-in-Some c =
     let events = c.descriptors_of-descriptors.ensures.is in
     let targets = c.targets_of-targets.ensures.is in
-    spins_condition _ _ _ events c.if-descriptors-ne0.false _ targets c.if-targets-eq0.false _ c.condition_of.ensures _ c.in-In.is
+    spins_condition _ _ _ events c.if-descriptors-ne0.false _ targets c.if-targets-eq0.false _ c.condition_of.ensures _ c.in-Some.is

@@ -1,15 +1,7 @@
-use borrow.Author.Rules.{rules}
-use Rattle.laws.specs.Loops.{below_laws, said-laws}
+use Rattle.std.proofs.Common.{rules}
+use borrow.Author.Tests.{tests}
+use Rattle.rules.proofs.Chains.{all_below}
 use Rattle.rules.proofs.transitions.transitions_fit.Goals as goal
 
-pub loop-i-init : goal.loop-i-init
-loop-i-init c = search (rules, below_laws)
-
-pub returns-then-not-transition_fits : goal.returns-then-not-transition_fits
-returns-then-not-transition_fits c = search (rules, below_laws, said-laws)
-
-pub loop-i-preserved : goal.loop-i-preserved
-loop-i-preserved c = search (rules, below_laws, said-laws)
-
 pub returns : goal.returns
-returns c = search (rules, below_laws)
+returns c = all_below _ _ _ _ _ c.all.ensures.ran (cc) (λ x b q k. search (rules, tests))

@@ -9,9 +9,6 @@ loop-p-init c = (omega arith, classes_begin _ _ c.requires.slots.tables.sized.co
 pub next_classes-class-requires : goal.next_classes-class-requires
 next_classes-class-requires c = (c.requires, omega arith, c.loop-p.invariant.1)
 
-pub loop-p-smaller : goal.loop-p-smaller
-loop-p-smaller c = omega arith
-
 pub loop-p-preserved : goal.loop-p-preserved
 loop-p-preserved c = (omega arith, c.next_classes-class.ensures)
 

@@ -20,9 +20,6 @@ bounds-firsts-cell c = let a = c in let o = c.loop-i in cell_low a.args.class.no
 pub bounds-firsts-cell-in-loop-i : goal.bounds-firsts-cell-in-loop-i
 bounds-firsts-cell-in-loop-i c = let a = c in let o = c.loop-i in cell_low a.args.class.now a.args.bytes.now a.args.shift a.args.n a.requires.4 o.i (omega arith) (omega arith) (omega arith)
 
-pub loop-i-smaller : goal.loop-i-smaller
-loop-i-smaller c = omega arith
-
 pub loop-i-preserved : goal.loop-i-preserved
 loop-i-preserved c = let a = c in
     let o = c.loop-i in

@@ -1,11 +1,9 @@
-use mathlib.Core.Path.{ap}
+use mathlib.Core.Path.{ap, refl, sym}
 use mathlib.Core.Bool.{not}
-use mathlib.Core.Path.{◌≡◌, refl, sym}
 use Prim.Native.Nat.{◌<◌}
 use native.Mathlib.Omega.{arith}
 use Rattle.laws.specs.Loops.{all_begin, all_turn, said_not_yes, said_not_no}
 use Rattle.rules1.specs.Ids.{id_turn, ids_leave, ids_done, new_no, new_root}
-use Rattle.rules1.specs.Keys.{key_found}
 use Rattle.rules1.specs.Chains.{Turn, seen_begin, seen_turn}
 use Rattle.rules1.proofs.ids.ids_fit.Goals as goal
 
@@ -18,38 +16,20 @@ returns-then-not-is_id_of c = let n = c.row_count-n.result in let q = c.row_coun
 pub loop-i-init : goal.loop-i-init
 loop-i-init c = let n = c.row_count-n.result in let q = c.row_count-n.ensures in let some = c.requires.tables.sized.counts.some in (omega arith, omega (arith, q, some), all_turn _ 0 (all_begin _) (sym (new_root _ _ 0 refl (said_not_no _ _ c.is_id_of.ensures (ap not c.if-not-is_id_of.false)))), seen_begin _ _)
 
-pub id_key-key-requires : goal.id_key-key-requires
-id_key-key-requires c = let n = c.row_count-n.result in let q = c.row_count-n.ensures in let some = c.requires.tables.sized.counts.some in let i = c.loop-i.i in let l : i < n = omega arith in (c.requires, omega (arith, q, l), omega arith)
+pub id_key-requires : goal.id_key-requires
+id_key-requires c = let n = c.row_count-n.result in let q = c.row_count-n.ensures in let some = c.requires.tables.sized.counts.some in let i = c.loop-i.i in let l : i < n = omega arith in (c.requires, omega (arith, q, l), omega arith)
 
-pub returns-then-key-eq-KEYS : goal.returns-then-key-eq-KEYS
-returns-then-key-eq-KEYS c = let n = c.row_count-n.result in let q = c.row_count-n.ensures in let some = c.requires.tables.sized.counts.some in let i = c.loop-i.i in let l : i < n = omega arith in ids_leave _ _ i n l q (sym (new_no _ _ i (c.id_key-key.ensures.none c.if-key-eq-KEYS.true)))
+pub returns-in_default : goal.returns-in_default
+returns-in_default c = let n = c.row_count-n.result in let q = c.row_count-n.ensures in let i = c.loop-i.i in let l : i < n = omega arith in ids_leave _ _ i n l q (sym (new_no _ _ i (c.id_key.ensures.none c.in_default.is)))
 
-pub met-found-requires : goal.met-found-requires
-met-found-requires c = let n = c.row_count-n.result in let q = c.row_count-n.ensures in let some = c.requires.tables.sized.counts.some in let i = c.loop-i.i in let l : i < n = omega arith in let f = key_found _ _ _ _ c.id_key-key.ensures c.if-key-eq-KEYS.false in record { turn = id_turn _ _ i n c.requires l q c.loop-i.invariant.2; positive = omega arith; own = f.1; is = f.2; low = f.0; so_far = c.loop-i.invariant.3 }
+pub met-requires : goal.met-requires
+met-requires c = let n = c.row_count-n.result in let q = c.row_count-n.ensures in let some = c.requires.tables.sized.counts.some in let i = c.loop-i.i in let l : i < n = omega arith in let f = c.id_key.ensures.some _ c.in-Some.is in record { turn = id_turn _ _ i n c.requires l q c.loop-i.invariant.2; positive = omega arith; own = f.1; is = f.2; low = f.0; so_far = c.loop-i.invariant.3 }
 
-pub returns-then-found-eq-TWICE : goal.returns-then-found-eq-TWICE
-returns-then-found-eq-TWICE c = let n = c.row_count-n.result in let q = c.row_count-n.ensures in let some = c.requires.tables.sized.counts.some in let i = c.loop-i.i in let l : i < n = omega arith in ids_leave _ _ i n l q (c.met-found.ensures.twice c.if-found-eq-TWICE.true)
-
-pub ids_differ-requires : goal.ids_differ-requires
-ids_differ-requires c = c.requires
-
-pub returns-then-found-eq-MANY : goal.returns-then-found-eq-MANY
-returns-then-found-eq-MANY c = c.ids_differ.ensures
-
-pub bounds-heads-key : goal.bounds-heads-key
-bounds-heads-key c = let n = c.row_count-n.result in let q = c.row_count-n.ensures in let some = c.requires.tables.sized.counts.some in let i = c.loop-i.i in let l : i < n = omega arith in let f = key_found _ _ _ _ c.id_key-key.ensures c.if-key-eq-KEYS.false in let k = f.0 in let s = c.loop-i.invariant.3.room in omega (arith, k, s)
-
-pub bounds-links-i : goal.bounds-links-i
-bounds-links-i c = let n = c.row_count-n.result in let q = c.row_count-n.ensures in let some = c.requires.tables.sized.counts.some in let i = c.loop-i.i in let l : i < n = omega arith in let f = key_found _ _ _ _ c.id_key-key.ensures c.if-key-eq-KEYS.false in let m = c.met-found.ensures in let z : c.met-found.result ≡ 0 = let h = m.low in omega (arith, h, c.if-found-eq-TWICE.false, c.if-found-eq-MANY.false) in let few = c.requires.tables.sized.counts.rows in let s = c.loop-i.invariant.3.size in omega (arith, q, few, l, s)
-
-pub bounds-heads-key-in-loop-i : goal.bounds-heads-key-in-loop-i
-bounds-heads-key-in-loop-i c = let n = c.row_count-n.result in let q = c.row_count-n.ensures in let some = c.requires.tables.sized.counts.some in let i = c.loop-i.i in let l : i < n = omega arith in let f = key_found _ _ _ _ c.id_key-key.ensures c.if-key-eq-KEYS.false in let k = f.0 in let s = c.loop-i.invariant.3.room in omega (arith, k, s)
-
-pub loop-i-smaller : goal.loop-i-smaller
-loop-i-smaller c = omega arith
+pub returns-in-Twice : goal.returns-in-Twice
+returns-in-Twice c = let n = c.row_count-n.result in let q = c.row_count-n.ensures in let i = c.loop-i.i in let l : i < n = omega arith in ids_leave _ _ i n l q (c.met.ensures.twice c.in-Twice.is)
 
 pub loop-i-preserved : goal.loop-i-preserved
-loop-i-preserved c = let n = c.row_count-n.result in let q = c.row_count-n.ensures in let some = c.requires.tables.sized.counts.some in let i = c.loop-i.i in let l : i < n = omega arith in let f = key_found _ _ _ _ c.id_key-key.ensures c.if-key-eq-KEYS.false in let m = c.met-found.ensures in let z : c.met-found.result ≡ 0 = let h = m.low in omega (arith, h, c.if-found-eq-TWICE.false, c.if-found-eq-MANY.false) in let few = c.requires.tables.sized.counts.rows in let t : Turn _ _ _ _ i _ = record { turn = id_turn _ _ i n c.requires l q c.loop-i.invariant.2; positive = omega arith; own = f.1; is = f.2; low = f.0; so_far = c.loop-i.invariant.3 } in (omega arith, omega arith, all_turn _ i c.loop-i.invariant.2 (m.new z), seen_turn _ _ _ _ i _ t (omega (arith, q, few, l)))
+loop-i-preserved c = let n = c.row_count-n.result in let q = c.row_count-n.ensures in let i = c.loop-i.i in let l : i < n = omega arith in let f = c.id_key.ensures.some _ c.in-Some.is in let few = c.requires.tables.sized.counts.rows in let t : Turn _ _ _ _ i _ = record { turn = id_turn _ _ i n c.requires l q c.loop-i.invariant.2; positive = omega arith; own = f.1; is = f.2; low = f.0; so_far = c.loop-i.invariant.3 } in (omega arith, omega arith, all_turn _ i c.loop-i.invariant.2 (c.met.ensures.new c.in-New.is), seen_turn _ _ _ _ i _ t (omega (arith, q, few, l)))
 
 pub returns : goal.returns
-returns c = let n = c.row_count-n.result in let q = c.row_count-n.ensures in let some = c.requires.tables.sized.counts.some in ids_done _ _ c.loop-i.i n c.loop-i.invariant.1 (omega arith) q c.loop-i.invariant.2
+returns c = let n = c.row_count-n.result in let q = c.row_count-n.ensures in ids_done _ _ c.loop-i.i n c.loop-i.invariant.1 (omega arith) q c.loop-i.invariant.2

@@ -35,9 +35,6 @@ overflow_cast-x c = let pre = c.requires in let x = c.loop-e.x in let b = asked_
 pub bounds-links-x : goal.bounds-links-x
 bounds-links-x c = let pre = c.requires in let x = c.loop-e.x in let b = asked_low _ _ _ _ _ _ pre x _ c.loop-e.invariant.1 in let s = pre.so_far.size in let l = pre.turn.below in let k = pre.turn.slots.tables.sized.counts.rows in omega (arith, s, l, k, b)
 
-pub loop-e-smaller : goal.loop-e-smaller
-loop-e-smaller c = omega arith
-
 pub loop-e-preserved : goal.loop-e-preserved
 loop-e-preserved c = let pre = c.requires in let x = c.loop-e.x in let b = asked_low _ _ _ _ _ _ pre x _ c.loop-e.invariant.1 in let d = c.if-x-eq0.false in let p : 0 < x = omega (arith, d) in (omega arith, asked_turn _ _ _ _ _ _ pre x _ c.loop-e.invariant.1 (compared _ _ _ pre.turn x _ _ _ _ _ false pre.own p b c.id_of.ensures c.id_of-in-loop-e.ensures c.slot_of-own.ensures c.slot_of.ensures c.equal.ensures c.if-equal.false))
 

@@ -1,10 +1,7 @@
-use Prim.Native.Nat.{◌-◌, ◌≤◌}
+use Prim.Native.Nat.{◌≤◌}
 use lib.ListN.{get_or}
-use Rattle.rules1.specs.Chains.{Asked}
+use Rattle.rules1.specs.Chains.{Passed}
 use Rattle.rules1.proofs.ids.met.Given as goal
 
 abbrev pub invariant-loop-e : goal.invariant-loop-e
-invariant-loop-e l = (l.e ≤ 32) × Asked l.numbers l.names l.links l.r.0 (get_or l.heads l.key 0) l.x l.e
-
-abbrev pub decreases-loop-e : goal.decreases-loop-e
-decreases-loop-e l = 32 - l.e
+invariant-loop-e l = (l.e ≤ 32) × Passed l.numbers l.names l.links l.r.0 (get_or l.heads l.key 0) l.x l.e

@@ -1,16 +1,9 @@
-use borrow.Author.Rules.{rules}
-use Rattle.laws.specs.Loops.{below_laws, all_turn}
-use Rattle.rules1.specs.Inside.{reference_in, reference_out}
+use Rattle.std.proofs.Common.{refl, rules}
+use borrow.Author.Tests.{tests}
+use Rattle.definition.specs.Rules.{reference_in_range}
+use Rattle.rules1.specs.Ranged.{all_below}
 use Rattle.rules1.proofs.sizes.references_in_range.Goals as goal
 
-pub loop-i-init : goal.loop-i-init
-loop-i-init c = search (rules, below_laws)
-
-pub returns-then-rows-reference_cell : goal.returns-then-rows-reference_cell
-returns-then-rows-reference_cell c = search (rules, below_laws, reference_out)
-
-pub loop-i-preserved : goal.loop-i-preserved
-loop-i-preserved c = (search rules, all_turn _ _ c.loop-i.invariant.1 (reference_in _ _ _ _ c.reference_cell.ensures c.row_count-rows.ensures (search rules)))
-
 pub returns : goal.returns
-returns c = search (rules, below_laws)
+unfolding reference_in_range
+returns c = all_below (reference_in_range c.args.numbers.now) _ _ _ _ _ _ c.all.ensures.ran refl c.reference_count.ensures (λ x q k. search (rules, tests)) (λ x q k. search (rules, tests))

@@ -13,6 +13,7 @@ returns-then-has_no_parts c =
       c.row_cell-id.ensures,
       c.row_cell-parent.ensures,
       c.row_cell-kind.ensures,
+      c.from.ensures,
     ))
 
 pub returns : goal.returns
@@ -32,4 +33,5 @@ returns c = rw (
   c.row_cell-id.ensures,
   c.row_cell-parent.ensures,
   c.row_cell-kind.ensures,
+  c.from.ensures,
 )

@@ -1,15 +1,7 @@
-use borrow.Author.Rules.{rules}
-use Rattle.laws.specs.Loops.{below_laws, said-laws}
+use Rattle.std.proofs.Common.{refl, rules}
+use Rattle.rules1.specs.Ids.{is_id_of}
+use Rattle.rules1.specs.Ranged.{all_below}
 use Rattle.rules1.proofs.spelling.are_ids.Goals as goal
 
-pub loop-i-init : goal.loop-i-init
-loop-i-init c = search (rules, below_laws, said-laws)
-
-pub returns-then-not-is_id_of : goal.returns-then-not-is_id_of
-returns-then-not-is_id_of c = search (rules, below_laws, said-laws)
-
-pub loop-i-preserved : goal.loop-i-preserved
-loop-i-preserved c = search (rules, below_laws, said-laws)
-
 pub returns : goal.returns
-returns c = search (rules, below_laws)
+returns c = all_below (is_id_of c.args.numbers.now c.args.names.now) _ _ _ _ _ _ c.all.ensures.ran refl c.row_count.ensures (λ x q k. search rules) (λ x q k. search rules)

@@ -8,6 +8,3 @@ use Rattle.selection.proofs.conflicts.beside.Given as goal
 
 abbrev pub invariant-loop-i : goal.invariant-loop-i
 invariant-loop-i l = Sifted (chart_of l.chart) (rows_of l.conf) (stored_at l.history) (keep_beside (chart_of l.chart) (rows_of l.conf) (stored_at l.history) l.t.0) l.initial.items l.n l.items l.rest l.i
-
-abbrev pub decreases-loop-i : goal.decreases-loop-i
-decreases-loop-i l = l.n - l.i

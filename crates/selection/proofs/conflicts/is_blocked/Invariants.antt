@@ -9,6 +9,3 @@ use Rattle.selection.proofs.conflicts.is_blocked.Given as goal
 
 abbrev pub invariant-loop-i : goal.invariant-loop-i
 invariant-loop-i l = Failing (is_in_the_way (chart_of l.chart) (rows_of l.conf) (stored_at l.history) l.t.0) l.kept (length l.kept) l.i
-
-abbrev pub decreases-loop-i : goal.decreases-loop-i
-decreases-loop-i l = length l.kept - l.i

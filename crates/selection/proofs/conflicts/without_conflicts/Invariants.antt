@@ -8,6 +8,3 @@ use Rattle.selection.proofs.conflicts.without_conflicts.Given as goal
 
 abbrev pub invariant-loop-i : goal.invariant-loop-i
 invariant-loop-i l = Sifted (chart_of l.chart) (rows_of l.conf) (stored_at l.history) (admit (chart_of l.chart) (rows_of l.conf) (stored_at l.history)) l.initial.items l.n l.items l.kept l.i
-
-abbrev pub decreases-loop-i : goal.decreases-loop-i
-decreases-loop-i l = l.n - l.i

@@ -6,6 +6,3 @@ use Rattle.selection.proofs.domains.fixed_domains.Given as goal
 
 abbrev pub invariant-loop-t : goal.invariant-loop-t
 invariant-loop-t l = (l.n ≡ transition_count l.chart) × (l.n ≤ 512) × Fixing (chart_of l.chart) l.domains l.t
-
-abbrev pub decreases-loop-t : goal.decreases-loop-t
-decreases-loop-t l = l.n - l.t

@@ -1,4 +1,3 @@
-use Prim.Native.Nat.{◌-◌}
 use lib.ListN.{length}
 use Rattle.definition.specs.Tables.{chart_of}
 use Rattle.laws.specs.Loops.{Failing}
@@ -7,6 +6,3 @@ use Rattle.selection.proofs.domains.has_fixed_targets.Given as goal
 
 abbrev pub invariant-loop-i : goal.invariant-loop-i
 invariant-loop-i l = Failing (is_history_row (chart_of l.chart)) l.targets (length l.targets) l.i
-
-abbrev pub decreases-loop-i : goal.decreases-loop-i
-decreases-loop-i l = length l.targets - l.i

@@ -10,6 +10,3 @@ use Rattle.selection.proofs.targets.effective_targets.Given as goal
 
 abbrev pub invariant-loop-i : goal.invariant-loop-i
 invariant-loop-i l = Passed (add_stand_ins (chart_of l.chart) (stored_at l.history)) [] (rows_of l.set) l.targets l.i
-
-abbrev pub decreases-loop-i : goal.decreases-loop-i
-decreases-loop-i l = length l.targets - l.i

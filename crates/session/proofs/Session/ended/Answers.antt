@@ -1,7 +1,7 @@
-use mathlib.Core.Path.{refl}
+use Rattle.definition.specs.Answers.{mode_no}
 use Rattle.session.specs.Sessions.{ended_session}
 use Rattle.session.proofs.Session.ended.Goals as goal
 
 pub returns : goal.returns
-unfolding ended_session
-returns c = refl
+unfolding ended_session mode_no
+returns c = rw c.from.ensures

@@ -8,4 +8,4 @@ pub returns-then-not-is_session : goal.returns-then-not-is_session
 returns-then-not-is_session c = timed_neither _ _ _ (said_not_yes _ _ c.is_session.ensures (ap not c.if-not-is_session.true))
 
 pub returns : goal.returns
-returns c = timed_judged _ _ _ (said_not_no _ _ c.is_session.ensures (ap not c.if-not-is_session.false)) _ _ c.mode_from.ensures c.is_clock.ensures
+returns c = timed_judged _ _ _ (said_not_no _ _ c.is_session.ensures (ap not c.if-not-is_session.false)) _ _ c.from.ensures c.is_clock.ensures

@@ -8,10 +8,10 @@ use Rattle.session.specs.Calling.{numbers_put}
 use Rattle.session.proofs.Session.numbers.Goals as goal
 
 pub put_state-requires : goal.put_state-requires
-put_state-requires c = back_length (replicate 1031 0) c.copy_u64.new.place refl c.copy_u64.auto.place
+put_state-requires c = back_length (replicate 1031 0) c.copy.new.place refl c.copy.auto.place
 
 pub returns : goal.returns
-returns c = numbers_put _ _ _ _ c.state-state.ensures (c.copy_u64.ensures ∙ copy_whole c.args.self.history (history_in (replicate 1031 0)) (search rules)) c.put_state.ensures (search rules)
+returns c = numbers_put _ _ _ _ c.state-state.ensures (c.copy.ensures ∙ copy_whole c.args.self.history (history_in (replicate 1031 0)) (search rules)) c.put_state.ensures (search rules)
 
 pub slice_bounds-put_state-end : goal.slice_bounds-put_state-end
-slice_bounds-put_state-end c = sym (back_length (replicate 1031 0) c.copy_u64.new.place refl c.copy_u64.auto.place)
+slice_bounds-put_state-end c = sym (back_length (replicate 1031 0) c.copy.new.place refl c.copy.auto.place)

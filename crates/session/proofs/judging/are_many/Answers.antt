@@ -10,8 +10,5 @@ overflow_mul-h c = omega arith
 pub set_at-requires : goal.set_at-requires
 set_at-requires c = record { inside = omega arith }
 
-pub loop-h-smaller : goal.loop-h-smaller
-loop-h-smaller c = omega arith
-
 pub loop-h-preserved : goal.loop-h-preserved
 loop-h-preserved c = let v = c.loop-h.invariant in (omega arith, v.1, v.2)

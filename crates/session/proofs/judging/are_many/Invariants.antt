@@ -5,6 +5,3 @@ use Rattle.session.proofs.judging.are_many.Given as goal
 
 abbrev pub invariant-loop-h : goal.invariant-loop-h
 invariant-loop-h l = (l.h ≤ l.rows) × (l.rows ≤ 256) × (length l.history ≡ 1024)
-
-abbrev pub decreases-loop-h : goal.decreases-loop-h
-decreases-loop-h l = l.rows - l.h

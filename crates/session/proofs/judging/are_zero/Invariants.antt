@@ -9,6 +9,3 @@ use Rattle.session.proofs.judging.are_zero.Given as goal
 
 abbrev pub invariant-loop-i : goal.invariant-loop-i
 invariant-loop-i l = (l.i ≤ length l.words) × (all (eqb 0) l.words ≡ (eqb l.any 0 && all (eqb 0) (drop l.i l.words)))
-
-abbrev pub decreases-loop-i : goal.decreases-loop-i
-decreases-loop-i l = length l.words - l.i

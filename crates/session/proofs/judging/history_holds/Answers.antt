@@ -69,9 +69,6 @@ returns-then-not-place_holds c =
     let few = c.requires.0.tables.sized.counts.rows in
     all_leave _ l.h 256 256 (omega arith) refl (said_not_yes _ _ c.place_holds.ensures (ap not c.if-not-place_holds.true))
 
-pub loop-h-smaller : goal.loop-h-smaller
-loop-h-smaller c = omega arith
-
 pub loop-h-preserved : goal.loop-h-preserved
 loop-h-preserved c = let l = c.loop-h in (omega arith, all_turn _ l.h l.invariant.1 (said_not_no _ _ c.place_holds.ensures (ap not c.if-not-place_holds.false)))
 

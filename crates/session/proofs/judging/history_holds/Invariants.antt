@@ -8,6 +8,3 @@ use Rattle.session.proofs.judging.history_holds.Given as goal
 
 abbrev pub invariant-loop-h : goal.invariant-loop-h
 invariant-loop-h l = (l.h ≤ l.rows) × (all (holds_place (chart_of l.chart) l.history) (from l.h 0) ≡ true)
-
-abbrev pub decreases-loop-h : goal.decreases-loop-h
-decreases-loop-h l = l.rows - l.h

@@ -2,11 +2,11 @@ use borrow.Author.Rules.{rules}
 use Rattle.spell.specs.Laid.{left_begin, part_turn, part_end}
 use Rattle.spell.proofs.parts.lay_part.Goals as goal
 
-pub loop-i-init : goal.loop-i-init
-loop-i-init c = search (rules, left_begin)
+pub loop-b-init : goal.loop-b-init
+loop-b-init c = search (rules, left_begin)
 
-pub loop-i-preserved : goal.loop-i-preserved
-loop-i-preserved c = search (rules, part_turn)
+pub loop-b-preserved : goal.loop-b-preserved
+loop-b-preserved c = search (rules, part_turn)
 
 pub returns : goal.returns
 returns c = search (rules, part_end)

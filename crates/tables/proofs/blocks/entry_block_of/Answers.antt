@@ -1,12 +1,11 @@
-use borrow.Author.Rules.{rules}
+use Rattle.std.proofs.Common.{rules}
 use Rattle.definition.specs.Tables.{entry_at}
-use Rattle.tables.specs.Parts.{block_as}
 use Rattle.tables.specs.Ranges.{row_fits}
 use Rattle.tables.proofs.blocks.entry_block_of.Goals as goal
 
-pub actions_part-requires : goal.actions_part-requires
-actions_part-requires c = let f = (row_fits _ _ c.requires).entry in search rules
+pub row_block-requires-clause-block : goal.row_block-requires-clause-block
+row_block-requires-clause-block c = let f = (row_fits _ _ c.requires).entry in search rules
 
 pub returns : goal.returns
 unfolding entry_at
-returns c = block_as _ _ _ _ _ _ c.row_cell-start.ensures c.row_cell-count.ensures c.actions_part.ensures
+returns c = c.row_block.ensures

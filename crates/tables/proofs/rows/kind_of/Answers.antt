@@ -4,4 +4,4 @@ use Rattle.tables.proofs.rows.kind_of.Goals as goal
 
 pub returns : goal.returns
 unfolding kind_at
-returns c = c.kind_from.ensures ∙ ap kind_of c.row_cell.ensures
+returns c = c.from.ensures ∙ ap kind_of c.row_cell.ensures

@@ -7,6 +7,3 @@ use Rattle.tables.proofs.rows.with_rows.Given as goal
 
 abbrev pub invariant-loop-k : goal.invariant-loop-k
 invariant-loop-k l = Passed with (rows_of l.initial.all) (rows_of l.all) l.list l.k
-
-abbrev pub decreases-loop-k : goal.decreases-loop-k
-decreases-loop-k l = length l.list - l.k

@@ -5,8 +5,8 @@ use Rattle.values.proofs.conditions.name_len.Goals as goal
 pub loop-j-init : goal.loop-j-init
 loop-j-init c = search (rules, span_start)
 
-pub returns-then-not-word : goal.returns-then-not-word
-returns-then-not-word c = search (rules, span_stop)
+pub returns-then-not-is_name_byte : goal.returns-then-not-is_name_byte
+returns-then-not-is_name_byte c = search (rules, span_stop)
 
 pub loop-j-preserved : goal.loop-j-preserved
 loop-j-preserved c = search (rules, span_more)

@@ -5,6 +5,3 @@ use Rattle.values.proofs.conditions.name_len.Given as goal
 
 abbrev pub invariant-loop-j : goal.invariant-loop-j
 invariant-loop-j l = Spanning l.value l.j
-
-abbrev pub decreases-loop-j : goal.decreases-loop-j
-decreases-loop-j l = length l.value - l.j

@@ -11,11 +11,11 @@ number_at-x-requires c = search (rules, look_head)
 pub loop-x-init : goal.loop-x-init
 loop-x-init c = search (rules, look_start)
 
-pub is_root-here-requires : goal.is_root-here-requires
-is_root-here-requires c = search (rules, look_node)
+pub is_root-requires : goal.is_root-requires
+is_root-requires c = search (rules, look_node)
 
-pub returns-then-here : goal.returns-then-here
-returns-then-here c = search (rules, look_found)
+pub returns-then-is_root : goal.returns-then-is_root
+returns-then-is_root c = search (rules, look_found)
 
 pub overflow_mul-x : goal.overflow_mul-x
 overflow_mul-x c = search (rules, look_threes)

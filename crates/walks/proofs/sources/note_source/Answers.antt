@@ -2,8 +2,8 @@ use borrow.Author.Rules.{rules}
 use Rattle.walks.specs.Sources.{note_none, note_list, note_action, note_row, note_number, note_transition}
 use Rattle.walks.proofs.sources.note_source.Goals as goal
 
-pub narrow-requires : goal.narrow-requires
-narrow-requires c = search (rules, note_number)
+pub overflow_cast-sources : goal.overflow_cast-sources
+overflow_cast-sources c = search (rules, note_number)
 
 pub returns-in-Nothing : goal.returns-in-Nothing
 returns-in-Nothing c = search (rules, note_none)

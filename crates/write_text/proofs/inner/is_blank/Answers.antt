@@ -14,8 +14,8 @@ returns-then-t-end c = search (rules, blank_run)
 pub returns-then-row_cell-eq0 : goal.returns-then-row_cell-eq0
 returns-then-row_cell-eq0 c = search (rules, blank_list)
 
-pub returns-then-row_cell-ge-SHALLOW : goal.returns-then-row_cell-ge-SHALLOW
-returns-then-row_cell-ge-SHALLOW c = search (rules, blank_history)
+pub returns-then-is_history : goal.returns-then-is_history
+returns-then-is_history c = search (rules, blank_history)
 
 pub returns : goal.returns
 returns c = search (rules, blank_block)

@@ -1,5 +1,0 @@
-use mathlib.Core.Path.{sym}
-use Rattle.values.proofs.conditions.is_word.Goals as goal
-
-pub returns : goal.returns
-returns c = simp (sym c.is_token.ensures)
