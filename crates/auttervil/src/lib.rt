@@ -57,7 +57,7 @@ pub extern "C" fn auttervil_raw3_compile(
     ensures { CompilesTo numbers.now names.now place.old name_place.old result place.new name_place.new }
 {
     let answer = compiler::compile(numbers, names, place, name_place);
-    u32::from(answer)
+    answers::answer_number(answer)
 }
 
 // 8 where the places hold no compiled chart, else 0.
@@ -66,9 +66,9 @@ pub extern "C" fn auttervil_raw3_check(place: &[u64], name_place: &[u8]) -> u32
     ensures { result ≡ answer_no (chart_answer place.now name_place.now) }
 {
     if compiler::check(place, name_place) {
-        return u32::from(Answer::Done);
+        return answers::answer_number(Answer::Done);
     }
-    u32::from(Answer::BadChart)
+    answers::answer_number(Answer::BadChart)
 }
 
 // One number of a compiled chart's places, by which a host can see that a stored session belongs to them.
@@ -116,7 +116,7 @@ pub extern "C" fn auttervil_raw3_start(
     let answer = started.answer;
     let count = started.count;
     StartResult {
-        answer: u32::from(answer),
+        answer: answers::answer_number(answer),
         count: count,
     }
 }
@@ -134,7 +134,7 @@ pub extern "C" fn auttervil_raw3_post(
     ensures { PostsTo (post_of (session_in numbers.old internal.now external.old) chart.now names.now name.now) (session_in numbers.new internal.now external.new) result }
 {
     let answer = lent::post(numbers, internal, external, chart, names, name);
-    u32::from(answer)
+    answers::answer_number(answer)
 }
 
 // The clock moves on to these ticks, and whatever is due joins the external queue (R-9); or 8, 9, 11, 14 and nothing changed.
@@ -151,7 +151,7 @@ pub extern "C" fn auttervil_raw3_advance(
     ensures { ClocksTo (clock_of (session_in numbers.old internal.now external.old) (record_in clock.old) chart.now names.now ticks) (session_in numbers.new internal.now external.new) (record_in clock.new) result }
 {
     let answer = lent::clock(numbers, internal, external, clock, chart, names, ticks);
-    u32::from(answer)
+    answers::answer_number(answer)
 }
 
 // The first count entries of the trace are those of the rounds done.
@@ -184,7 +184,7 @@ pub extern "C" fn auttervil_raw3_run(
     let number = ran.rounds;
     let count = ran.count;
     RunResult {
-        status: u32::from(status),
+        status: answers::status_number(status),
         rounds: number,
         count: count,
     }
@@ -222,8 +222,8 @@ pub extern "C" fn auttervil_raw3_step(
     let number = stepped.rounds;
     let count = stepped.count;
     StepResult {
-        answer: u32::from(answer),
-        status: u32::from(status),
+        answer: answers::answer_number(answer),
+        status: answers::status_number(status),
         rounds: number,
         count: count,
     }

@@ -7,6 +7,7 @@ ghost use Rattle.calls.specs.Performing.{both_in, Did};
 ghost use Rattle.calls.specs.Kept.{checks_after};
 
 use crate::cells::{Called, Cells, POST, RUN, START, gives};
+use answers::{answer_number, status_number};
 use lent::Checks;
 
 // What a call is, and what is known of chart, session and clock record.
@@ -42,24 +43,24 @@ pub fn perform_call(
             good, numbers, internal, external, clock, chart, names, trace,
         );
         let answer = started.answer;
-        return gives(u32::from(answer), 0, started.count);
+        return gives(answer_number(answer), 0, started.count);
     }
     if kind == POST {
         let from = a as usize;
         let to = b as usize;
         let name = &text[from..to];
         let answer = lent::post_checked(checks, numbers, internal, external, chart, names, name);
-        return gives(u32::from(answer), 0, 0);
+        return gives(answer_number(answer), 0, 0);
     }
     if kind == RUN {
         let ran = lent::run_checked(
             checks, numbers, internal, external, clock, chart, names, a as u32, trace,
         );
         let status = ran.status;
-        return gives(u32::from(status), ran.rounds, ran.count);
+        return gives(status_number(status), ran.rounds, ran.count);
     }
     let answer = lent::clock_checked(checks, numbers, internal, external, clock, chart, names, a);
-    gives(u32::from(answer), 0, 0)
+    gives(answer_number(answer), 0, 0)
 }
 
 // Behind a start session and clock record pass if the chart does; every other call keeps them as they were.

@@ -16,7 +16,7 @@ const SET_WIDTH: usize = 4;
 const MOST_NAMES: usize = 32;
 
 pub fn number_of(a: Answer) -> u64 {
-    u32::from(a) as u64
+    answers::answer_number(a) as u64
 }
 
 pub fn answer(rt: &impl Print, a: Answer) -> io::Result<()> {

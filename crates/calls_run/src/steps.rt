@@ -176,7 +176,7 @@ fn run_shown(
     let session = ran.session;
     let clock = ran.clock;
     let status = ran.status;
-    let number = u32::from(status) as u64;
+    let number = answers::status_number(status) as u64;
     lines::show(rt, b"run ")?;
     lines::show_number(rt, number)?;
     lines::show(rt, b", ")?;

@@ -55,6 +55,6 @@ pub fn drop_pending(clock: &mut [u8])
     ensures { clock.new ≡ emptied_bytes clock.old }
 {
     let ticks = ticks_of(clock);
-    clock.fill(0);
+    places::clear_u8(clock);
     record_numbers::put_number(clock, 0, ticks);
 }

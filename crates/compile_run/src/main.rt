@@ -51,7 +51,7 @@ fn compile(
         &mut place[begin..end],
         &mut name_place[name_begin..name_end],
     );
-    u32::from(answer)
+    answers::answer_number(answer)
 }
 
 fn check(l: Lent, place: &[u64], name_place: &[u8]) -> u32 {

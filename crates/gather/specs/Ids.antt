@@ -1,11 +1,11 @@
 -- The ids of a text's rows, gathered mark by mark.
-use Rattle.std.specs.Prelude.{◌≡◌, Bool, true, false, not, ◌&&◌, cond, ℕ, zero, suc, ◌+◌, ◌*◌, ◌-◌, ◌^◌, ◌≤◌, ◌<◌, eqb, leb, ltb, take, drop}
+use Rattle.std.specs.Prelude.{◌≡◌, Bool, true, false, not, ◌&&◌, cond, ℕ, zero, suc, ◌+◌, ◌*◌, ◌-◌, ◌≤◌, ◌<◌, eqb, leb, ltb, take, drop}
 use Rattle.std.proofs.Math.Path.{refl, sym, ap, subst}
 use Rattle.std.proofs.Common.{◌∙◌, arith, length-append}
 use mathlib.Core.List.{List, [], ◌∷◌, ◌++◌, append-nil}
 use Rattle.std.proofs.Math.ListN.{length}
 use Rattle.std.proofs.Math.Seq.{append_snoc}
-use borrow.Author.Tests.{le-ltb, eq-eqb, ne_eqb}
+use borrow.Author.Tests.{le-ltb}
 use Rattle.laws.specs.Bools.{clash}
 use Rattle.marks.specs.declared.Mark.{Mark}
 use Rattle.marks.specs.declared.Mark.TheVariants.{Nothing, Valued, Tagged}
@@ -16,6 +16,7 @@ use Rattle.std.specs.declared.option.Option.TheVariants.{Some, None}
 use Rattle.std.specs.Option.{unwrap_or}
 use Rattle.std.specs.declared.result.Result.{Result}
 use Rattle.std.specs.declared.result.Result.TheVariants.{Ok, Err}
+use Rattle.gather.specs.declared.ids.Ungrammatical.{Ungrammatical}
 use Rattle.markup.specs.declared.Fault.{Fault}
 use Rattle.values.specs.declared.conditions.Span.{Span}
 use Rattle.markup.specs.Passes.{Found}
@@ -134,15 +135,10 @@ pub record Gathered (text levels ids : List ℕ) (n : ℕ) : Type 0 where
   pub noted : Noted text ids n
   pub ids_are : ids_from text ids n 0 ≡ ids_of (tags_of text)
 
--- the ids of a text's rows, however many they are
-pub record GatheredSome (text levels ids : List ℕ) : Type 0 where
-  pub count : ℕ
-  pub gathered : Gathered text levels ids count
-
--- the ids of a text of the grammar; or it is none
-abbrev pub GatheredAs : List ℕ → List ℕ → List ℕ → Result ℕ Fault → Type 0
+-- the ids of a text's rows, and whether it is of the grammar
+abbrev pub GatheredAs : List ℕ → List ℕ → List ℕ → Result ℕ Ungrammatical → Type 0
 GatheredAs text levels ids (Ok n) = Gathered text levels ids n × Found text (Ok (tt {0}))
-GatheredAs text levels ids (Err f) = GatheredSome text levels ids × Found text (Err f)
+GatheredAs text levels ids (Err e) = Gathered text levels ids e.count × Found text (Err e.fault)
 
 pub record Gathering (text levels ids : List ℕ) (w : Walk) (id : Option Span) (n : ℕ) : Type 0 where
   pub standing : Standing text levels w
@@ -206,8 +202,8 @@ module _ (text levels ids : List ℕ) (w : Walk) (id : Option Span) (n : ℕ) (k
     pub ids_text : (u : Unit {0}) → z ≡ Ok u → GatheredAs text levels' ids (Ok n)
     ids_text u h = (ids_end found e q, subst (Found text) h found_so)
 
-    pub ids_fault : (f : Fault) → z ≡ Err f → GatheredAs text levels' ids (Err f)
-    ids_fault f h = (record { count = n; gathered = ids_end found e q }, subst (Found text) h found_so)
+    pub ids_fault : (f : Fault) → z ≡ Err f → GatheredAs text levels' ids (Err (record { count = n; fault = f }))
+    ids_fault f h = (ids_end found e q, subst (Found text) h found_so)
 
   pub ids_less : (found : Bool) → found ≡ is_mark r.mark → found ≡ true → length text - r.index < length text - w.index
   ids_less found e q = let more = next.further (sym e ∙ q) in let i = next.standing.within in omega arith

@@ -61,6 +61,21 @@ fn note_row(text: &[u8], ids: &mut [u16], n: usize, row: bool, at: usize, to: us
     n
 }
 
+// A text that is not of the grammar: how many rows have their ids noted, and its first fault.
+#[derive(Clone, Copy, PartialEq, Eq)]
+pub struct Ungrammatical {
+    pub count: usize,
+    pub fault: Fault,
+}
+
+impl From<Ungrammatical> for Fault {
+    ghost from_gives = { λ x fault. fault ≡ x.fault };
+
+    fn from(text: Ungrammatical) -> Fault {
+        text.fault
+    }
+}
+
 // Is the text of the grammar, once a walk over its n bytes has found no mark.
 fn ended(n: usize, w: Walk) -> Result<(), Fault>
     requires { Stopped w }
@@ -73,8 +88,8 @@ fn ended(n: usize, w: Walk) -> Result<(), Fault>
 }
 
 // How many rows a text of the grammar has beside the root, with the place and the length of each row's id, 0 and 0 where it states none. The first walk
-// over a text.
-pub fn gather_ids(text: &[u8], levels: &mut [u8], ids: &mut [u16]) -> Result<usize, Fault>
+// over a text: what it gathers of one that is not of the grammar is said too.
+pub fn gather_ids(text: &[u8], levels: &mut [u8], ids: &mut [u16]) -> Result<usize, Ungrammatical>
     requires { Begun text.now levels.old ids.old }
     ensures { GatheredAs text.now levels.new ids.new result }
 {
@@ -85,8 +100,10 @@ pub fn gather_ids(text: &[u8], levels: &mut [u8], ids: &mut [u16]) -> Result<usi
     loop {
         let next = next_mark(text, levels, w);
         if !is_mark(next.mark) {
-            ended(text.len(), next)?;
-            return Ok(n);
+            return match ended(text.len(), next) {
+                Ok(()) => Ok(n),
+                Err(fault) => Err(Ungrammatical { count: n, fault }),
+            };
         }
         let row = is_row_mark(next.mark);
         let span = id.unwrap_or(Span { from: 0, to: 0 });

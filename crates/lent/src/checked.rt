@@ -23,7 +23,7 @@ pub fn start_checked(
     requires { (good ≡ is_compiled chart.now names.now) × (places_fit (length numbers.old) (length internal.old) (length external.old) (length clock.old) ≡ true) }
     ensures { (started_in (session_in numbers.new internal.new external.new) (record_in clock.new) result ≡ start_of chart.now names.now (length trace.old)) × (trace.new ≡ trace_with trace.old (start_effects chart.now names.now (length trace.old))) }
 {
-    numbers.fill(0);
+    places::clear_u64(numbers);
     queue::clear(internal);
     queue::clear(external);
     queue::clear(clock);

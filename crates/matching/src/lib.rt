@@ -46,9 +46,9 @@ fn place_of(chart: &[u64], descriptors: &[u64], k: usize) -> usize
     ensures { PlaceOf chart.now descriptors.now k result }
 {
     if k < descriptors.len() {
-        return usize::from(tables::name_at(chart, descriptors, k)) * limits::SLOT_SIZE;
+        return numbers::name_index(tables::name_at(chart, descriptors, k)) * limits::SLOT_SIZE;
     }
-    usize::from(tables::name_at(chart, descriptors, 0)) * limits::SLOT_SIZE
+    numbers::name_index(tables::name_at(chart, descriptors, 0)) * limits::SLOT_SIZE
 }
 
 // Whether any of a transition's descriptors matches, by one pass over the event. Fewer than four lend the first once more, which changes nothing.
@@ -116,7 +116,7 @@ fn starts_before(chart: &[u64], t: u16, i: usize) -> bool
     ensures { result ≡ starts_before (chart_of chart.now) i t }
 {
     if (t as u64) < tables::transition_count(chart) {
-        return usize::from(tables::source_of(chart, Transition(t))) < i;
+        return numbers::row_index(tables::source_of(chart, Transition(t))) < i;
     }
     false
 }

@@ -15,8 +15,8 @@ use Rattle.rowset.specs.Member.{rows_of}
 use Rattle.chart.specs.Ready.{Ready, row_set_at}
 use Rattle.chart.specs.Within.{Within}
 use Rattle.matching.specs.Chosen.{atomic_rows, atomic_states_lem}
-use Rattle.std.specs.declared.option.Option.{Option}
-use Rattle.std.specs.declared.option.Option.TheVariants.{Some, None}
+use Rattle.selection.specs.declared.Stored.{Stored}
+use Rattle.selection.specs.declared.Stored.TheVariants as kept
 use Rattle.paths.specs.History.{stored_at}
 use Rattle.selection.specs.History.{stored_of, as_stored, rows_in, as_rows, as_some, stands_for, add_stand_ins_lem}
 
@@ -71,24 +71,24 @@ after_stored c conf hist ts h l =
 -- ---- a set that is stored, as the enum says it
 
 -- the enum says that the rows xs are stored
-pub record StoredIs (xs : List ℕ) (r : Option RowSet) : Type 0 where
+pub record StoredIs (xs : List ℕ) (r : Stored) : Type 0 where
   pub set : RowSet
   pub is : r ≡ as_stored set
   pub rows : rows_of set ≡ xs
 
-pub stored_words : (history : List ℕ) (h : ℕ) (xs : List ℕ) (r : Option RowSet) → r ≡ stored_of history h → stored_at history h ≡ xs → StoredIs xs r
+pub stored_words : (history : List ℕ) (h : ℕ) (xs : List ℕ) (r : Stored) → r ≡ stored_of history h → stored_at history h ≡ xs → StoredIs xs r
 unfolding stored_of stored_at
 stored_words history h xs r e q = record { set = row_set_at history (h * 4); is = e; rows = q }
 
-module _ (xs : List ℕ) (r : Option RowSet) (s : StoredIs xs r) where
+module _ (xs : List ℕ) (r : Stored) (s : StoredIs xs r) where
   is_rows : rows_in r ≡ xs
   is_rows = ap rows_in s.is ∙ as_rows s.set ∙ s.rows
 
-  pub stored_nothing : r ≡ None → is_empty xs ≡ true
+  pub stored_nothing : r ≡ kept.Nothing → is_empty xs ≡ true
   unfolding is_empty
   stored_nothing e = ap is_empty (sym is_rows ∙ ap rows_in e)
 
-  pub stored_something : (set : RowSet) → r ≡ Some set → is_empty xs ≡ false
+  pub stored_something : (set : RowSet) → r ≡ kept.Stored set → is_empty xs ≡ false
   stored_something set e = ap is_empty (sym (sym (ap rows_in e) ∙ is_rows)) ∙ as_some s.set set (sym e ∙ s.is)
 
   pub stand_in : (c : Chart) (hist : History) (all set : List ℕ) (x y : ℕ) → hist x ≡ xs → all ≡ union set (stands_for c r x) → x ≡ y → all ≡ add_stand_ins c hist set y

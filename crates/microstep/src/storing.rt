@@ -12,9 +12,9 @@ ghost use Rattle.microstep.specs.Words.{RowStored, HistoryStored};
 use crate::Round;
 use chart::{children_of, descendants_of, parent_row};
 use kinds::{is_history, is_shallow};
-use numbers::Row;
+use numbers::{Row, row_index};
 use rowset::RowSet;
-use selection::{as_stored, stored_at};
+use selection::{Stored, as_stored, stored_at};
 use tables::{kind_of, put_set};
 
 // What history h would store of the configuration: "shallow, its active children; deep, its active atomic descendants".
@@ -31,7 +31,7 @@ fn would_store(chart: &[u64], atoms: RowSet, conf: RowSet, h: Row) -> RowSet
 }
 
 // What row h has stored once the rows out are left: it stores "before any is removed", from the configuration before the round.
-pub fn stored_after(round: &Round, h: Row) -> Option<RowSet>
+pub fn stored_after(round: &Round, h: Row) -> Stored
     requires { RoundReady round.now.chart.now round.now.history.now round.now.atoms round.now.conf × (h.0 < row_count round.now.chart.now) }
     ensures { StoredIs (stored (chart_of round.now.chart.now) (rows_of round.now.conf) (stored_at round.now.history.now) (rows_of round.now.out) h.0) result }
 {
@@ -53,7 +53,7 @@ fn store_row(chart: &[u64], atoms: RowSet, conf: RowSet, out: RowSet, history: &
         return;
     }
     let set = would_store(chart, atoms, conf, h);
-    put_set(history, usize::from(h) * 4, set);
+    put_set(history, row_index(h) * 4, set);
 }
 
 // Every history whose parent is left stores, from the configuration before the round.

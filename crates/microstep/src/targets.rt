@@ -19,7 +19,7 @@ use kinds::is_history;
 use numbers::{Row, Transition};
 use paths::paths_below;
 use rowset::RowSet;
-use selection::{NO_DOMAIN, add_stand_ins};
+use selection::{NO_DOMAIN, Stored, add_stand_ins};
 use tables::{kind_of, parent_of, row_at, targets_of};
 
 // The effective targets of a transition, by the history as the exits left it.
@@ -46,8 +46,8 @@ pub fn add_fell(round: &Round, set: RowSet, x: Row) -> RowSet
         return set;
     }
     match stored_after(round, x) {
-        None => set.with(x),
-        Some(_) => set,
+        Stored::Nothing => set.with(x),
+        Stored::Stored(_) => set,
     }
 }
 

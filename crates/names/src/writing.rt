@@ -22,7 +22,7 @@ fn lay(place: &mut [u8], at: usize, bytes: &[u8])
 pub fn put_name(slot: &mut [u8], name: &[u8])
     ensures { slot.new ≡ padded (length slot.old) name.now }
 {
-    slot.fill(0);
+    places::clear_u8(slot);
     lay(slot, 0, name);
 }
 
@@ -30,7 +30,7 @@ pub fn put_name(slot: &mut [u8], name: &[u8])
 pub fn put_done_name(slot: &mut [u8], id: &[u8])
     ensures { slot.new ≡ padded (length slot.old) (done_name id.now) }
 {
-    slot.fill(0);
+    places::clear_u8(slot);
     lay(slot, 0, b"done.state.");
     lay(slot, DONE_BYTES, id);
 }

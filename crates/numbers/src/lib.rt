@@ -2,6 +2,7 @@
 #![tactic(auto)]
 
 ghost use Rattle.std.specs.Prelude.{◌≡◌, ◌+◌};
+ghost use Rattle.numbers.specs.Numbers.{row_no, transition_no, name_no};
 
 // A row's number. There are at most 256 rows.
 #[derive(Clone, Copy, PartialEq, Eq)]
@@ -13,6 +14,25 @@ pub struct Transition(pub u16);
 // The number of a name in the table of names.
 #[derive(Clone, Copy, PartialEq, Eq)]
 pub struct NameNumber(pub u16);
+
+// As indices: each of these takes numbers of its own kind alone, where a conversion takes any.
+pub fn row_index(r: Row) -> usize
+    ensures { result ≡ row_no r }
+{
+    usize::from(r)
+}
+
+pub fn transition_index(t: Transition) -> usize
+    ensures { result ≡ transition_no t }
+{
+    usize::from(t)
+}
+
+pub fn name_index(n: NameNumber) -> usize
+    ensures { result ≡ name_no n }
+{
+    usize::from(n)
+}
 
 // The number after a row's: where the search for the next row starts.
 pub fn row_after(r: Row) -> u16

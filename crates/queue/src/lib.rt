@@ -73,7 +73,7 @@ pub fn take_oldest(queue: &mut [u8], count: u64)
 pub fn clear(queue: &mut [u8])
     ensures { queue.new ≡ replicate (length queue.old) 0 }
 {
-    queue.fill(0);
+    places::clear_u8(queue);
 }
 
 // Whether the bytes are those of a queue of count names: at most 32, each a name and zeros to its slot's end, and zeros in every unused slot.

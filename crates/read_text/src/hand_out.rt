@@ -4,6 +4,7 @@ ghost use Rattle.reading.specs.Calls.{call_of};
 ghost use Rattle.read_text.specs.Outcome.{refused, outcome_of};
 ghost use Rattle.read_text.specs.Hand.{HandRoom};
 
+use answers::answer_number;
 use lay::copy_first;
 use lay::name_slots::lay_names;
 use rules::keeps_rules;
@@ -52,7 +53,7 @@ pub fn hand_out(
     }
     lay_names(text, slots, m, names);
     let from = 0;
-    let answer = u32::from(keeps_rules(&work[from..size], &names[from..bytes]));
+    let answer = answer_number(keeps_rules(&work[from..size], &names[from..bytes]));
     if answer != 0 {
         return refusal(answer, 0);
     }

@@ -44,7 +44,7 @@ module _ (text : List ℕ) where
   pub judge_head : (levels ids : List ℕ) → length levels ≡ 32768 → length ids ≡ 24434 → Begun head levels ids
   judge_head levels ids d r = record { short = simp length-take (omega arith); deep = d; room = r }
 
-  judge_long : 32768 < length text → (at : ℕ) → at ≡ grammar_fault head → read_of text ≡ faulty at
+  pub judge_long : 32768 < length text → (at : ℕ) → at ≡ grammar_fault head → read_of text ≡ faulty at
   unfolding read_of in_grammar grammar_fault
   judge_long long at e =
       rw (lt-leb (length text) 32768 long)

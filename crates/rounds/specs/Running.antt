@@ -227,9 +227,17 @@ module _ (chart names : List ℕ) (k : CompiledWith chart names) (numbers₀ int
       }
 
   -- all rounds are done
-  pub run_ended : asked ≡ done → (st : Status) → st ≡ rest_status (round (chart_of chart) (name_at names) f.follower) →
-      RunDone quiet whole (record { status = st; rounds = asked; count = count }) numbers internal external clock old trace
+  pub run_ended : asked ≤ done → (st : Status) → st ≡ rest_status (round (chart_of chart) (name_at names) f.follower) →
+      RunDone quiet whole (record { status = st; rounds = done; count = count }) numbers internal external clock old trace
   run_ended l st e =
+      let n : asked - done ≡ 0 = omega arith in
+      finish (rest_status (round (chart_of chart) (name_at names) f.follower)) (rw n (run_zero (chart_of chart) (name_at names) f here))
+      (record { status = st; rounds = done; count = count }) numbers internal external clock trace e refl refl (g.holds.spells, g.ticks.spells) refl
+
+  -- the number that was asked for is the number done
+  pub run_asked : asked ≡ done → (st : Status) → st ≡ rest_status (round (chart_of chart) (name_at names) f.follower) →
+      RunDone quiet whole (record { status = st; rounds = asked; count = count }) numbers internal external clock old trace
+  run_asked l st e =
       let n : asked - done ≡ 0 = omega arith in
       finish (rest_status (round (chart_of chart) (name_at names) f.follower)) (rw n (run_zero (chart_of chart) (name_at names) f here))
       (record { status = st; rounds = asked; count = count }) numbers internal external clock trace e l refl (g.holds.spells, g.ticks.spells) refl

@@ -22,7 +22,7 @@ fn digit(b: u8) -> u64 {
 
 fn number_at(line: &[u8], at: usize, digits: usize) -> u64 {
     let mut v: u64 = 0;
-    for b in line.iter().skip(at).take(digits) {
+    for b in line[at.min(line.len())..].iter().take(digits) {
         v = v << 4 | digit(*b);
     }
     v

@@ -1,5 +1,5 @@
 -- Rule 5: the source, use and condition of a transition, as they were read.
-use Rattle.std.specs.Prelude.{◌≡◌, Bool, ◌&&◌, List, length}
+use Rattle.std.specs.Prelude.{◌≡◌, Bool, ◌&&◌, ◌||◌, List, length}
 use Rattle.std.proofs.Math.Path.{refl, sym}
 use Rattle.std.proofs.Common.{◌∙◌}
 use Rattle.std.proofs.Math.Bool.{true, false, not}
@@ -7,7 +7,8 @@ use Prim.Native.Nat.{ℕ, zero, suc, ◌-◌}
 use native.Mathlib.Omega.{arith}
 use Rattle.std.proofs.Math.Dec.{leb}
 use Rattle.definition.specs.Rows.{is_empty, mem}
-use Rattle.definition.specs.Tables.{source_at, events_at, targets_at, condition_at, transition_at, chart_of}
+use Rattle.definition.specs.Chart.{is_state, is_parallel, is_final}
+use Rattle.definition.specs.Tables.{kind_at, source_at, events_at, targets_at, condition_at, transition_at, chart_of}
 use Rattle.definition.specs.Rules.{is_in_order, is_empty_option, has_use, condition_fits, spins}
 use Rattle.numbers.specs.declared.Row.{Row}
 use Rattle.std.proofs.Math.Option.{some}
@@ -44,11 +45,11 @@ module _ (numbers : List ℕ) (t : ℕ) where
           always true = refl
           always false = refl
 
-      use_none : (k : Option Row) → length m ≡ 0 → ConditionIn numbers t k → k ≡ None → false ≡ has_use (transition_at numbers t)
+      pub use_none : (k : Option Row) → length m ≡ 0 → ConditionIn numbers t k → k ≡ None → false ≡ has_use (transition_at numbers t)
       unfolding has_use is_empty_option
       use_none k n c a = sym (rw (read_none (events_at numbers t) l e h, read_none (targets_at numbers t) m f n, ← c.is, a))
 
-      use_condition : (k : Option Row) (r : Row) → length m ≡ 0 → ConditionIn numbers t k → k ≡ Some r → true ≡ has_use (transition_at numbers t)
+      pub use_condition : (k : Option Row) (r : Row) → length m ≡ 0 → ConditionIn numbers t k → k ≡ Some r → true ≡ has_use (transition_at numbers t)
       unfolding has_use is_empty_option
       use_condition k r n c a = sym (rw (read_none (events_at numbers t) l e h, read_none (targets_at numbers t) m f n, ← c.is, a))
 
@@ -80,5 +81,9 @@ module _ (numbers : List ℕ) (t : ℕ) where
     unfolding condition_fits
     condition_none a = sym (rw (← c.is, a))
 
-    pub condition_some : (r : Row) → k ≡ Some r → condition_fits (chart_of numbers) (some r.0) ≡ condition_fits (chart_of numbers) (condition_at numbers t)
+    pub condition_asked : (r : Row) → k ≡ Some r → condition_fits (chart_of numbers) (some r.0) ≡ condition_fits (chart_of numbers) (condition_at numbers t)
+    condition_asked r a = sym (rw (← c.is, a))
+
+    pub condition_some : (r : Row) → k ≡ Some r → (is_state (kind_at numbers r.0) || is_parallel (kind_at numbers r.0) || is_final (kind_at numbers r.0)) ≡ condition_fits (chart_of numbers) (condition_at numbers t)
+    unfolding condition_fits
     condition_some r a = sym (rw (← c.is, a))

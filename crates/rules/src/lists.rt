@@ -187,6 +187,8 @@ pub fn lists_keep(numbers: &[u64], sets: &[u64]) -> bool
     all_targets_fit(numbers, sets)
 }
 
+// Not inlined: its sets would lie on the stack while the names are judged, which want nearly as much of their own (docs/c.md, the stack of each call).
+#[inline(never)]
 pub fn keeps_lists(numbers: &[u64]) -> bool
     requires { TreeIn numbers.now × (rule3 (chart_of numbers.now) ≡ true) }
     ensures { result ≡ rule4 (chart_of numbers.now) }

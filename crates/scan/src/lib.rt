@@ -2,6 +2,7 @@
 #![tactic(auto)]
 
 ghost use Rattle.std.specs.Prelude.{◌≡◌, ◌+◌, ◌*◌, ◌≤◌, ◌<◌, get_or};
+ghost use Rattle.grammar.specs.Tables.{words, menus, attrs, kinds, needed, opened, owners, ends, bits, adds};
 ghost use Rattle.grammar.specs.Grammar.{is_space, is_char, is_token, word_byte, agree, follows, pick, attribute, has, added, pick_attribute, is_complete, may_end, owner, after, opens, kind_of};
 
 use crate::tables::{ADDS, ATTRS, BITS, ENDS, KINDS, MENUS, NEEDED, OPENED, OWNERS, WORDS};
@@ -50,12 +51,72 @@ fn cell(table: &[u8], i: usize, past: u8) -> u8
     }
 }
 
-// Cell j of row i, in a table with rows of n cells.
-fn cell_of(table: &[u8], n: usize, i: u8, j: usize, past: u8) -> u8
+// Where cell j of row i stands, in a table with rows of n cells.
+fn cell_at(n: usize, i: u8, j: usize) -> usize
     requires { (n ≤ 11) × (j < 65536) }
-    ensures { result ≡ get_or table.now (i * n + j) past }
+    ensures { result ≡ i * n + j }
 {
-    cell(table, usize::from(i) * n + j, past)
+    usize::from(i) * n + j
+}
+
+pub fn word_cell(i: usize) -> u8
+    ensures { result ≡ get_or words i 0 }
+{
+    cell(&WORDS, i, 0)
+}
+
+pub fn menu_cell(i: usize) -> u8
+    ensures { result ≡ get_or menus i 48 }
+{
+    cell(&MENUS, i, 48)
+}
+
+pub fn attr_cell(i: usize) -> u8
+    ensures { result ≡ get_or attrs i 48 }
+{
+    cell(&ATTRS, i, 48)
+}
+
+pub fn kind_cell(i: usize) -> u8
+    ensures { result ≡ get_or kinds i 0 }
+{
+    cell(&KINDS, i, 0)
+}
+
+pub fn need_cell(i: usize) -> u8
+    ensures { result ≡ get_or needed i 4 }
+{
+    cell(&NEEDED, i, 4)
+}
+
+pub fn open_cell(i: usize) -> u8
+    ensures { result ≡ get_or opened i 14 }
+{
+    cell(&OPENED, i, 14)
+}
+
+pub fn owner_cell(i: usize) -> u8
+    ensures { result ≡ get_or owners i 48 }
+{
+    cell(&OWNERS, i, 48)
+}
+
+pub fn end_cell(i: usize) -> u8
+    ensures { result ≡ get_or ends i 0 }
+{
+    cell(&ENDS, i, 0)
+}
+
+pub fn bit_cell(i: usize) -> u8
+    ensures { result ≡ get_or bits i 1 }
+{
+    cell(&BITS, i, 1)
+}
+
+pub fn add_cell(i: usize) -> u8
+    ensures { result ≡ get_or adds i 15 }
+{
+    cell(&ADDS, i, 15)
 }
 
 // ---- words
@@ -64,7 +125,7 @@ fn cell_of(table: &[u8], n: usize, i: u8, j: usize, past: u8) -> u8
 pub fn word_byte(w: u8, k: u16) -> u8
     ensures { result ≡ word_byte w k }
 {
-    cell_of(&WORDS, 11, w, usize::from(k), 0)
+    word_cell(cell_at(11, w, usize::from(k)))
 }
 
 // The first k bytes of both words are the same.
@@ -91,7 +152,7 @@ pub fn pick_word(row: u8, w: u8, k: u16, b: u8) -> u8
     ensures { result ≡ pick row w k b }
 {
     for j in 0..8 {
-        let v = cell_of(&MENUS, 8, row, j, 48);
+        let v = menu_cell(cell_at(8, row, j));
         if goes_on(w, v, k, b) {
             return v;
         }
@@ -103,28 +164,28 @@ pub fn pick_word(row: u8, w: u8, k: u16, b: u8) -> u8
 pub fn attribute_of(e: u8, j: u8) -> u8
     ensures { result ≡ attribute e j }
 {
-    cell_of(&ATTRS, 4, e, usize::from(j), 48)
+    attr_cell(cell_at(4, e, usize::from(j)))
 }
 
 // The kind of its value.
 pub fn kind_of(e: u8, j: u8) -> u8
     ensures { result ≡ kind_of e j }
 {
-    cell_of(&KINDS, 4, e, usize::from(j), 0)
+    kind_cell(cell_at(4, e, usize::from(j)))
 }
 
 // Is attribute j in the set x.
 pub fn has_it(x: u8, j: u8) -> bool
     ensures { result ≡ has x j }
 {
-    cell_of(&BITS, 4, x, usize::from(j), 1) == 1
+    bit_cell(cell_at(4, x, usize::from(j))) == 1
 }
 
 // The set x with attribute j.
 pub fn with_it(x: u8, j: u8) -> u8
     ensures { result ≡ added x j }
 {
-    cell_of(&ADDS, 4, x, usize::from(j), 15)
+    add_cell(cell_at(4, x, usize::from(j)))
 }
 
 // The first attribute of e that is not in x yet and goes on so, or 4.
@@ -145,7 +206,7 @@ pub fn pick_attribute(e: u8, x: u8, w: u8, k: u16, b: u8) -> u8
 pub fn is_complete(e: u8, x: u8) -> bool
     ensures { result ≡ is_complete e x }
 {
-    let j = cell(&NEEDED, usize::from(e), 4);
+    let j = need_cell(usize::from(e));
     j == 4 || has_it(x, j)
 }
 
@@ -155,14 +216,14 @@ pub fn is_complete(e: u8, x: u8) -> bool
 pub fn may_end(t: u8) -> bool
     ensures { result ≡ may_end t }
 {
-    cell(&ENDS, usize::from(t), 0) == 1
+    end_cell(usize::from(t)) == 1
 }
 
 // The element that a level is in.
 pub fn owner_of(t: u8) -> u8
     ensures { result ≡ owner t }
 {
-    cell(&OWNERS, usize::from(t), 48)
+    owner_cell(usize::from(t))
 }
 
 // The parent's level once the child e has begun.
@@ -184,5 +245,5 @@ pub fn opened_by(e: u8, x: u8) -> u8
     if e == 1 && has_it(x, 1) {
         return 3;
     }
-    cell(&OPENED, usize::from(e), 14)
+    open_cell(usize::from(e))
 }

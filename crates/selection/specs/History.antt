@@ -15,35 +15,35 @@ use Rattle.rowset.specs.declared.RowSet.{RowSet}
 use Rattle.rowset.specs.Member.{rows_of}
 use Rattle.chart.specs.Ready.{row_set_at}
 unfoldable pub use Rattle.paths.specs.History.{stored_at}
-use Rattle.std.specs.declared.option.Option.{Option}
-use Rattle.std.specs.declared.option.Option.TheVariants.{Some, None}
+use Rattle.selection.specs.declared.Stored.{Stored}
+use Rattle.selection.specs.declared.Stored.TheVariants as stored
 
 -- a set that a history may have stored: the empty one says that nothing is
-unfoldable pub as_stored : RowSet → Option RowSet
-as_stored s = cond (is_empty (rows_of s)) None (Some s)
+unfoldable pub as_stored : RowSet → Stored
+as_stored s = cond (is_empty (rows_of s)) stored.Nothing (stored.Stored s)
 
-unfoldable pub stored_of : List ℕ → ℕ → Option RowSet
+unfoldable pub stored_of : List ℕ → ℕ → Stored
 stored_of history h = as_stored (row_set_at history (h * 4))
 
 -- the stored rows, none where nothing is stored
-abbrev pub rows_in : Option RowSet → List ℕ
-rows_in None = []
-rows_in (Some s) = rows_of s
+abbrev pub rows_in : Stored → List ℕ
+rows_in stored.Nothing = []
+rows_in (stored.Stored s) = rows_of s
 
 module _ (s : RowSet) where
-  stored_case : (P : Option RowSet → Type 0) → (is_empty (rows_of s) ≡ true → P None) → (is_empty (rows_of s) ≡ false → P (Some s)) → P (as_stored s)
+  stored_case : (P : Stored → Type 0) → (is_empty (rows_of s) ≡ true → P stored.Nothing) → (is_empty (rows_of s) ≡ false → P (stored.Stored s)) → P (as_stored s)
   unfolding as_stored
   stored_case P f g = go (is_empty (rows_of s)) refl
     where
-      go : (b : Bool) → is_empty (rows_of s) ≡ b → P (cond b None (Some s))
+      go : (b : Bool) → is_empty (rows_of s) ≡ b → P (cond b stored.Nothing (stored.Stored s))
       go true e = f e
       go false e = g e
 
-  pub as_nothing : is_empty (rows_of s) ≡ true → None ≡ as_stored s
+  pub as_nothing : is_empty (rows_of s) ≡ true → stored.Nothing ≡ as_stored s
   unfolding as_stored
   as_nothing e = rw e
 
-  pub as_stored_lem : is_empty (rows_of s) ≡ false → Some s ≡ as_stored s
+  pub as_stored_lem : is_empty (rows_of s) ≡ false → stored.Stored s ≡ as_stored s
   unfolding as_stored
   as_stored_lem e = rw e
 
@@ -57,15 +57,15 @@ module _ (s : RowSet) where
       empty (x ∷ xs) h = absurd (no h)
 
   -- it is not empty
-  pub as_some : (k : RowSet) → Some k ≡ as_stored s → is_empty (rows_of k) ≡ false
-  as_some k = stored_case (λ o. Some k ≡ o → is_empty (rows_of k) ≡ false) (λ e h. let z : false ≡ true = cc in absurd (no z)) (λ e h. let q : k ≡ s = cc in rw q e)
+  pub as_some : (k : RowSet) → stored.Stored k ≡ as_stored s → is_empty (rows_of k) ≡ false
+  as_some k = stored_case (λ o. stored.Stored k ≡ o → is_empty (rows_of k) ≡ false) (λ e h. let z : false ≡ true = cc in absurd (no z)) (λ e h. let q : k ≡ s = cc in rw q e)
 
 -- what history h has stored, by the enum
 pub stored_rows : (history : List ℕ) (h : ℕ) → rows_in (stored_of history h) ≡ stored_at history h
 unfolding stored_of stored_at
 stored_rows history h = as_rows (row_set_at history (h * 4))
 
-pub stored_some : (history : List ℕ) (h : ℕ) (s : RowSet) → stored_of history h ≡ Some s → (rows_of s ≡ stored_at history h) × (is_empty (stored_at history h) ≡ false)
+pub stored_some : (history : List ℕ) (h : ℕ) (s : RowSet) → stored_of history h ≡ stored.Stored s → (rows_of s ≡ stored_at history h) × (is_empty (stored_at history h) ≡ false)
 unfolding stored_of stored_at
 stored_some history h s e =
     let q : rows_of s ≡ rows_of (row_set_at history (h * 4)) = sym (ap rows_in e) ∙ as_rows (row_set_at history (h * 4)) in
@@ -74,12 +74,12 @@ stored_some history h s e =
 -- ---- "a history with nothing stored falls to its default list; otherwise its stored states stand in for it" (53)
 
 -- the stored rows, or the default list
-abbrev pub or_list : Option RowSet → List ℕ → List ℕ
-or_list None default = default
-or_list (Some s) default = rows_of s
+abbrev pub or_list : Stored → List ℕ → List ℕ
+or_list stored.Nothing default = default
+or_list (stored.Stored s) default = rows_of s
 
 -- what stands in for target x, where x has this stored if it is a history
-unfoldable pub stands_for : Chart → Option RowSet → ℕ → List ℕ
+unfoldable pub stands_for : Chart → Stored → ℕ → List ℕ
 stands_for c kept x = cond (is_history (kind c x)) (or_list kept (listed c x)) (x ∷ [])
 
 or_default_lem : (s : RowSet) (default : List ℕ) → or_list (as_stored s) default ≡ or_default (rows_of s) default
@@ -100,18 +100,18 @@ pub stands_for_lem : (c : Chart) (hist : History) (x : ℕ) (s : RowSet) → his
 unfolding stands_for stand_ins
 stands_for_lem c hist x s e = rw (or_default_lem s (listed c x), e)
 
-module _ (c : Chart) (set : List ℕ) (x : ℕ) (kept : Option RowSet) where
+module _ (c : Chart) (set : List ℕ) (x : ℕ) (kept : Stored) where
   -- premises are what each call answered, and what the test said of the answer
   pub add_self : (k : Kind) (b : Bool) → k ≡ kind c x → b ≡ is_history k → not b ≡ true → insert x set ≡ union set (stands_for c kept x)
   unfolding stands_for union fold with
   add_self k b e f h = rw (← e, ← f, not-true b h)
 
-  pub add_default : (k : Kind) (b : Bool) (l : List ℕ) → k ≡ kind c x → b ≡ is_history k → not b ≡ false → kept ≡ None → l ≡ listed c x →
+  pub add_default : (k : Kind) (b : Bool) (l : List ℕ) → k ≡ kind c x → b ≡ is_history k → not b ≡ false → kept ≡ stored.Nothing → l ≡ listed c x →
       union set l ≡ union set (stands_for c kept x)
   unfolding stands_for
   add_default k b l e f h n q = rw (← e, ← f, not-false b h, n, q)
 
-  pub add_stored : (k : Kind) (b : Bool) (s : RowSet) → k ≡ kind c x → b ≡ is_history k → not b ≡ false → kept ≡ Some s →
+  pub add_stored : (k : Kind) (b : Bool) (s : RowSet) → k ≡ kind c x → b ≡ is_history k → not b ≡ false → kept ≡ stored.Stored s →
       union set (rows_of s) ≡ union set (stands_for c kept x)
   unfolding stands_for
   add_stored k b s e f h n = rw (← e, ← f, not-false b h, n)
@@ -119,7 +119,7 @@ module _ (c : Chart) (set : List ℕ) (x : ℕ) (kept : Option RowSet) where
   -- one target more, by any history that has the set stored
   pub add_stand_ins_lem : (hist : History) (s : RowSet) → kept ≡ as_stored s → hist x ≡ rows_of s → union set (stands_for c kept x) ≡ add_stand_ins c hist set x
   unfolding add_stand_ins
-  add_stand_ins_lem hist s e f = ap (λ (k : Option RowSet). union set (stands_for c k x)) e ∙ ap (union set) (stands_for_lem c hist x s f)
+  add_stand_ins_lem hist s e f = ap (λ (k : Stored). union set (stands_for c k x)) e ∙ ap (union set) (stands_for_lem c hist x s f)
 
   -- and by the stored words
   pub add_at : (history r : List ℕ) (y : ℕ) → r ≡ union set (stands_for c kept x) → kept ≡ stored_of history x → x ≡ y → r ≡ add_stand_ins c (stored_at history) set y

@@ -10,6 +10,14 @@ pub mod conflicts;
 pub mod domains;
 pub mod targets;
 
+// What a history has stored.
+// Kept: the statement of this form is "let .. else on an enum Stored or Nothing" (docs/definition.md, 118).
+#[derive(Clone, Copy)]
+pub enum Stored {
+    Nothing,
+    Stored(RowSet),
+}
+
 // The domain of each transition that has targets and no history among them, and 256 for the others: theirs is sought in each round.
 #[derive(Drop)]
 pub struct FixedDomains {

@@ -9,36 +9,37 @@ ghost use Rattle.paths.specs.History.{stored_at};
 ghost use Rattle.selection.specs.History.{as_stored, stored_of, stands_for};
 ghost use Rattle.selection.specs.Ready.{MoveReady};
 
-use numbers::{Row, Transition};
+use crate::Stored;
+use numbers::{Row, Transition, row_index};
 use rowset::RowSet;
 
 // A set that a history stores: the empty one says that nothing is stored.
-pub fn as_stored(set: RowSet) -> Option<RowSet>
+pub fn as_stored(set: RowSet) -> Stored
     ensures { result ≡ as_stored set }
 {
     if set.is_empty() {
-        return None;
+        return Stored::Nothing;
     }
-    Some(set)
+    Stored::Stored(set)
 }
 
 // Four words for each of 256 rows.
-pub fn stored_at(history: &[u64], h: Row) -> Option<RowSet>
+pub fn stored_at(history: &[u64], h: Row) -> Stored
     requires { length history.now ≡ 1024 }
     ensures { result ≡ stored_of history.now h.0 }
 {
-    as_stored(chart::set_at(history, usize::from(h) * 4))
+    as_stored(chart::set_at(history, row_index(h) * 4))
 }
 
 // The set with what stands in for target x, which has `kept` stored if it is a history.
-pub fn add_stand_ins(chart: &[u64], set: RowSet, x: Row, kept: Option<RowSet>) -> RowSet
+pub fn add_stand_ins(chart: &[u64], set: RowSet, x: Row, kept: Stored) -> RowSet
     requires { RowReady chart.now x.0 }
     ensures { rows_of result ≡ union (rows_of set) (stands_for (chart_of chart.now) kept x.0) }
 {
     if !kinds::is_history(tables::kind_of(chart, x)) {
         return set.with(x);
     }
-    let Some(stored) = kept else {
+    let Stored::Stored(stored) = kept else {
         return tables::with_rows(chart, set, tables::list_of(chart, x));
     };
     set.union(stored)

@@ -6,6 +6,7 @@ ghost use Rattle.writing.specs.Calls.{call_of};
 ghost use Rattle.write_text.specs.Whole.{outcome_of, Answers};
 
 use crate::rows::lay_rows;
+use answers::answer_number;
 use rules::keeps_rules;
 use spell::parts::LONGEST;
 
@@ -37,7 +38,7 @@ fn result(answer: u32, length: usize) -> Written
 pub fn write(numbers: &[u64], names: &[u8], buffer: &mut [u8]) -> Written
     ensures { outcome_of result buffer.new ≡ call_of numbers.now names.now buffer.old }
 {
-    let answer = u32::from(keeps_rules(numbers, names));
+    let answer = answer_number(keeps_rules(numbers, names));
     if answer != 0 {
         return result(answer, 0);
     }

@@ -4,4 +4,4 @@ use Rattle.clock.proofs.drop_pending.Goals as goal
 pub returns : goal.returns
 returns c =
     let a = c in
-    emptied_spells a.args.clock.now c.fill.new.self _ _ a.requires c.ticks_of-ticks.ensures (c.fill.ensures.after (λ y e. e)) c.put_number.ensures
+    emptied_spells a.args.clock.now c.clear_u8.new.place _ _ a.requires c.ticks_of-ticks.ensures c.clear_u8.ensures c.put_number.ensures

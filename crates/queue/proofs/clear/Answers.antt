@@ -1,4 +1,4 @@
 use Rattle.queue.proofs.clear.Goals as goal
 
 pub returns : goal.returns
-returns c = c.fill.ensures.after (λ y e. e)
+returns c = c.clear_u8.ensures

@@ -4,4 +4,4 @@ use Rattle.scan.proofs.attribute_of.Goals as goal
 
 pub returns : goal.returns
 unfolding attrs attribute
-returns c = rw c.from.ensures at c.cell_of.ensures
+returns c = rw (c.cell_at.ensures, c.from.ensures) at c.attr_cell.ensures

@@ -7,4 +7,4 @@ use Rattle.scan.proofs.has_it.Goals as goal
 
 pub returns : goal.returns
 unfolding bits has
-returns c = rw c.from.ensures at (ap (λ (n : ℕ). eqb n 1) c.cell_of.ensures)
+returns c = rw (c.cell_at.ensures, c.from.ensures) at (ap (λ (n : ℕ). eqb n 1) c.bit_cell.ensures)

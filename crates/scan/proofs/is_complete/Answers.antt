@@ -7,11 +7,11 @@ use Rattle.scan.proofs.is_complete.Goals as goal
 pub returns-then-j-eq4 : goal.returns-then-j-eq4
 unfolding needed is_complete
 returns-then-j-eq4 c =
-    let j : c.cell-j.result ≡ get_or needed c.args.e 4 = rw c.from.ensures at c.cell-j.ensures in
-    subst (λ (n : ℕ). eqb c.cell-j.result 4 ≡ (eqb n 4 || has c.args.x n)) j (rw (eq-eqb c.cell-j.result 4 c.if-j-eq4.true) refl)
+    let j : c.need_cell-j.result ≡ get_or needed c.args.e 4 = rw c.from.ensures at c.need_cell-j.ensures in
+    subst (λ (n : ℕ). eqb c.need_cell-j.result 4 ≡ (eqb n 4 || has c.args.x n)) j (rw (eq-eqb c.need_cell-j.result 4 c.if-j-eq4.true) refl)
 
 pub returns-else-j-eq4 : goal.returns-else-j-eq4
 unfolding needed is_complete
 returns-else-j-eq4 c =
-    let j : c.cell-j.result ≡ get_or needed c.args.e 4 = rw c.from.ensures at c.cell-j.ensures in
-    subst (λ (n : ℕ). c.has_it.result ≡ (eqb n 4 || has c.args.x n)) j (rw (ne_eqb c.cell-j.result 4 c.if-j-eq4.false) c.has_it.ensures)
+    let j : c.need_cell-j.result ≡ get_or needed c.args.e 4 = rw c.from.ensures at c.need_cell-j.ensures in
+    subst (λ (n : ℕ). c.has_it.result ≡ (eqb n 4 || has c.args.x n)) j (rw (ne_eqb c.need_cell-j.result 4 c.if-j-eq4.false) c.has_it.ensures)

@@ -4,4 +4,4 @@ use Rattle.scan.proofs.kind_of.Goals as goal
 
 pub returns : goal.returns
 unfolding kinds kind_of
-returns c = rw c.from.ensures at c.cell_of.ensures
+returns c = rw (c.cell_at.ensures, c.from.ensures) at c.kind_cell.ensures

@@ -7,4 +7,4 @@ use Rattle.scan.proofs.may_end.Goals as goal
 
 pub returns : goal.returns
 unfolding ends may_end
-returns c = rw c.from.ensures at (ap (λ (n : ℕ). eqb n 1) c.cell.ensures)
+returns c = rw c.from.ensures at (ap (λ (n : ℕ). eqb n 1) c.end_cell.ensures)

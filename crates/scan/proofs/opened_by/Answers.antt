@@ -13,6 +13,6 @@ pub returns : goal.returns
 unfolding opens opened
 returns c =
     elim c.else-e-eq1.branch [
-      | else-e-eq1-via-then-e-eq1+else-has_it w ↦ rw (eq-eqb c.args.e 1 w.if-e-eq1.true, sym w.has_it.ensures ∙ w.if-has_it.false) (rw c.from.ensures at c.cell.ensures)
-      | else-e-eq1-via-else-e-eq1 w ↦ rw (ne_eqb c.args.e 1 w.if-e-eq1.false) (rw c.from.ensures at c.cell.ensures)
+      | else-e-eq1-via-then-e-eq1+else-has_it w ↦ rw (eq-eqb c.args.e 1 w.if-e-eq1.true, sym w.has_it.ensures ∙ w.if-has_it.false) (rw c.from.ensures at c.open_cell.ensures)
+      | else-e-eq1-via-else-e-eq1 w ↦ rw (ne_eqb c.args.e 1 w.if-e-eq1.false) (rw c.from.ensures at c.open_cell.ensures)
     ]

@@ -4,4 +4,4 @@ use Rattle.scan.proofs.owner_of.Goals as goal
 
 pub returns : goal.returns
 unfolding owners owner
-returns c = rw c.from.ensures at c.cell.ensures
+returns c = rw c.from.ensures at c.owner_cell.ensures

@@ -9,11 +9,11 @@ loop-j-init c = (search rules, pick_start _ _ _ _)
 
 pub returns-then-goes_on : goal.returns-then-goes_on
 unfolding menus
-returns-then-goes_on c = let v : c.cell_of-v.result ≡ get_or menus (c.args.row * 8 + c.loop-j.j) 48 = c.cell_of-v.ensures in search (rules, pick_returns)
+returns-then-goes_on c = let v : c.menu_cell-v.result ≡ get_or menus (c.args.row * 8 + c.loop-j.j) 48 = rw c.cell_at.ensures at c.menu_cell-v.ensures in search (rules, pick_returns)
 
 pub loop-j-preserved : goal.loop-j-preserved
 unfolding menus
-loop-j-preserved c = let v : c.cell_of-v.result ≡ get_or menus (c.args.row * 8 + c.loop-j.j) 48 = c.cell_of-v.ensures in (search rules, search (rules, pick_goes))
+loop-j-preserved c = let v : c.menu_cell-v.result ≡ get_or menus (c.args.row * 8 + c.loop-j.j) 48 = rw c.cell_at.ensures at c.menu_cell-v.ensures in (search rules, search (rules, pick_goes))
 
 pub returns : goal.returns
 returns c = search (rules, pick_ends)

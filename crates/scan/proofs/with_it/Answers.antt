@@ -4,4 +4,4 @@ use Rattle.scan.proofs.with_it.Goals as goal
 
 pub returns : goal.returns
 unfolding adds added
-returns c = rw c.from.ensures at c.cell_of.ensures
+returns c = rw (c.cell_at.ensures, c.from.ensures) at c.add_cell.ensures

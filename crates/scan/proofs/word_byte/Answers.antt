@@ -4,4 +4,4 @@ use Rattle.scan.proofs.word_byte.Goals as goal
 
 pub returns : goal.returns
 unfolding words word_byte
-returns c = rw c.from.ensures at c.cell_of.ensures
+returns c = rw (c.cell_at.ensures, c.from.ensures) at c.word_cell.ensures

@@ -1,4 +1,3 @@
-use Rattle.std.proofs.Common.{ap, not}
 use borrow.Author.Rules.{rules}
 use Rattle.gather.specs.Faults.{fault_start, fault_end, fault_inside, fault_less, fault_more}
 use Rattle.gather.proofs.faults.first_fault.Goals as goal

@@ -1,5 +1,4 @@
 use borrow.Author.Rules.{rules}
-use Rattle.std.proofs.lemmas.Result.{err_from_is_err_and}
 use Rattle.gather.specs.Ids.{begun_keys, ids_start, ids_stopped, ids_text, ids_fault, ids_room, ids_less, ids_more}
 use Rattle.gather.proofs.ids.gather_ids.Goals as goal
 
@@ -21,11 +20,10 @@ loop-id-preserved c = search (rules, ids_more)
 pub note_row-n-requires : goal.note_row-n-requires
 note_row-n-requires c = ids_room _ _ _ _ _ _ c.loop-id.invariant _ c.unwrap_or-span.ensures
 
-pub returns-then-not-is_mark : goal.returns-then-not-is_mark
-returns-then-not-is_mark c =
-    ids_text _ _ _ _ _ _ c.loop-id.invariant _ _ c.next_mark-next.ensures _ c.is_mark.ensures c.if-not-is_mark.true _ c.ended.ensures _ c.in_ok-ended.was
+pub returns-in-Ok : goal.returns-in-Ok
+returns-in-Ok c =
+    ids_text _ _ _ _ _ _ c.loop-id.invariant _ _ c.next_mark-next.ensures _ c.is_mark.ensures c.if-not-is_mark.true _ c.ended.ensures _ c.in-Ok.is
 
-pub returns-in_err-ended : goal.returns-in_err-ended
-returns-in_err-ended c =
-    let p = err_from_is_err_and c.from_residual.result c.from_residual.ensures.1 in
-    rw (p.1, p.2) (ids_fault _ _ _ _ _ _ c.loop-id.invariant _ _ c.next_mark-next.ensures _ c.is_mark.ensures c.if-not-is_mark.true _ c.ended.ensures _ c.in_err-ended.was)
+pub returns-in-Err : goal.returns-in-Err
+returns-in-Err c =
+    ids_fault _ _ _ _ _ _ c.loop-id.invariant _ _ c.next_mark-next.ensures _ c.is_mark.ensures c.if-not-is_mark.true _ c.ended.ensures _ c.in-Err.is

@@ -11,4 +11,4 @@ pub returns-then-not-has : goal.returns-then-not-has
 returns-then-not-has c = row_kept _ _ _ _ _ _ c.requires.1 c.parent_row.ensures.is (sym c.has.ensures ∙ c.if-not-has.true)
 
 pub returns : goal.returns
-returns c = row_stored _ _ _ _ _ _ c.requires.1 c.parent_row.ensures.is _ _ _ (sym c.has.ensures ∙ c.if-not-has.false) (rows_of_set _ ∙ c.would_store-set.ensures) c.from.ensures (put_at_lem _ _ _ _ (search rules) c.put_set.ensures)
+returns c = row_stored _ _ _ _ _ _ c.requires.1 c.parent_row.ensures.is _ _ _ (sym c.has.ensures ∙ c.if-not-has.false) (rows_of_set _ ∙ c.would_store-set.ensures) c.row_index.ensures (put_at_lem _ _ _ _ (search rules) c.put_set.ensures)

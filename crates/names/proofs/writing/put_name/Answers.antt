@@ -3,4 +3,4 @@ use Rattle.names.specs.Slots.{name_laid}
 use Rattle.names.proofs.writing.put_name.Goals as goal
 
 pub returns : goal.returns
-returns c = name_laid _ _ _ _ (c.fill.ensures.after (λ y e. e)) c.lay.ensures
+returns c = name_laid _ _ _ _ c.clear_u8.ensures c.lay.ensures

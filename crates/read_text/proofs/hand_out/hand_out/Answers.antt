@@ -12,4 +12,4 @@ pub returns-then-answer-ne0 : goal.returns-then-answer-ne0
 returns-then-answer-ne0 c = search (rules, hand_refused)
 
 pub returns : goal.returns
-returns c = hand_tables _ _ _ _ _ _ c.requires _ _ c.if-place-size.false c.if-name_place-bytes.false _ c.lay_names.ensures _ _ c.keeps_rules.ensures c.from-answer.ensures c.if-answer-ne0.false _ _ c.copy_first.ensures c.copy_first-2.ensures
+returns c = hand_tables _ _ _ _ _ _ c.requires _ _ c.if-place-size.false c.if-name_place-bytes.false _ c.lay_names.ensures _ _ c.keeps_rules.ensures c.answer_number-answer.ensures c.if-answer-ne0.false _ _ c.copy_first.ensures c.copy_first-2.ensures

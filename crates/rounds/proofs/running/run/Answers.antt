@@ -2,7 +2,7 @@ use borrow.Author.Rules.{rules}
 use mathlib.Core.Path.{refl, sym, ◌∙◌}
 use native.Mathlib.Omega.{arith}
 use Rattle.events.specs.Choosing.{event_ready}
-use Rattle.rounds.specs.Running.{marked, hushed, place_fits_lem, runs_begin, same_sizes, run_ended, count_few, new_length, run_stops, runs_again}
+use Rattle.rounds.specs.Running.{marked, hushed, place_fits_lem, runs_begin, same_sizes, run_asked, count_few, new_length, run_stops, runs_again}
 use Rattle.rounds.specs.Resting.{rest_is}
 use Rattle.rounds.proofs.running.run.Goals as goal
 
@@ -65,7 +65,7 @@ shape_of-external c = (same_sizes _ _ c.requires.0 _ _ _ _ _ _ _ _ _ _ _ _ _ _ _
 
 pub returns : goal.returns
 returns c =
-    run_ended _ _ c.requires.0 _ _ _ _ _ _ _ _ _ _ _ _ _ _ _ c.loop-done.invariant.1 (let l = c.loop-done-test.false in let m = c.loop-done.auto.done-end in omega arith) _
+    run_asked _ _ c.requires.0 _ _ _ _ _ _ _ _ _ _ _ _ _ _ _ c.loop-done.invariant.1 (let l = c.loop-done-test.false in let m = c.loop-done.auto.done-end in omega arith) _
     (rest_is _ _ c.requires.0 _ _ _ c.loop-done.invariant.1.holds _ c.rest_status.ensures)
 
 pub shape_of-clock : goal.shape_of-clock

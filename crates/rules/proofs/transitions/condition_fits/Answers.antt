@@ -1,5 +1,5 @@
 use mathlib.Core.Path.{ap, ◌∙◌}
-use Rattle.rules.specs.Transitions.{condition_none, condition_some}
+use Rattle.rules.specs.Transitions.{condition_none, condition_asked}
 use Rattle.tables.specs.Parts.{condition_of}
 use Rattle.rules.proofs.transitions.condition_fits.Goals as goal
 
@@ -10,4 +10,4 @@ pub returns-in-None : goal.returns-in-None
 returns-in-None c = condition_none _ _ _ c.condition_of.ensures c.in-None.is
 
 pub returns-in-Some : goal.returns-in-Some
-returns-in-Some c = c.may_be_asked.ensures ∙ condition_some _ _ _ c.condition_of.ensures _ c.in-Some.is
+returns-in-Some c = c.may_be_asked.ensures ∙ condition_asked _ _ _ c.condition_of.ensures _ c.in-Some.is

@@ -1,4 +1,3 @@
-use Prim.Native.Nat.{◌-◌}
 use Rattle.definition.specs.Tables.{chart_of}
 use Rattle.follower.specs.Selection.{keep_beside}
 use Rattle.rowset.specs.Member.{rows_of}

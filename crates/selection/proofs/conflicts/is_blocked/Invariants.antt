@@ -1,4 +1,3 @@
-use Prim.Native.Nat.{◌-◌}
 use lib.ListN.{length}
 use Rattle.definition.specs.Tables.{chart_of}
 use Rattle.follower.specs.Selection.{is_in_the_way}

@@ -1,5 +1,5 @@
 use mathlib.Core.Path.{◌≡◌}
-use Prim.Native.Nat.{◌-◌, ◌≤◌}
+use Prim.Native.Nat.{◌≤◌}
 use Rattle.definition.specs.Tables.{transition_count, chart_of}
 use Rattle.selection.specs.FixedDomains.{Fixing}
 use Rattle.selection.proofs.domains.fixed_domains.Given as goal

@@ -14,4 +14,4 @@ pub returns-in_default : goal.returns-in_default
 returns-in_default c = c.with_rows.ensures ∙ add_default _ _ _ _ _ _ _ c.kind_of.ensures c.is_history.ensures (ap not c.if-not-is_history.false) c.in_default.is c.list_of.ensures.is
 
 pub returns : goal.returns
-returns c = c.union.ensures ∙ add_stored _ _ _ _ _ _ _ c.kind_of.ensures c.is_history.ensures (ap not c.if-not-is_history.false) c.in-Some.is
+returns c = c.union.ensures ∙ add_stored _ _ _ _ _ _ _ c.kind_of.ensures c.is_history.ensures (ap not c.if-not-is_history.false) c.in-Stored.is

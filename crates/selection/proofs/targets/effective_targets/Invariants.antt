@@ -1,6 +1,4 @@
 use mathlib.Core.List.{[]}
-use Prim.Native.Nat.{◌-◌}
-use lib.ListN.{length}
 use Rattle.follower.specs.Selection.{add_stand_ins}
 use Rattle.definition.specs.Tables.{chart_of}
 use Rattle.laws.specs.Passes.{Passed}

@@ -6,4 +6,4 @@ use Rattle.selection.proofs.targets.stored_at.Goals as goal
 
 pub returns : goal.returns
 unfolding stored_of
-returns c = c.as_stored.ensures ∙ ap as_stored (c.set_at.ensures ∙ ap (λ (n : ℕ). row_set_at c.args.history.now (n * 4)) c.from.ensures)
+returns c = c.as_stored.ensures ∙ ap as_stored (c.set_at.ensures ∙ ap (λ (n : ℕ). row_set_at c.args.history.now (n * 4)) c.row_index.ensures)
